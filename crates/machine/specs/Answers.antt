@@ -1,0 +1,101 @@
+-- What a call answers, and document 01's number and values for each answer in code.
+use Prim.Native.Nat.{ℕ, zero, suc, _+_}
+use mathlib.Core.Bool.{Bool, true, false}
+use mathlib.Core.List.{List}
+use denote.Ref.{RefT}
+use lib.ListN.{take, drop}
+use Rattle.machine.specs.declared.Handle.{Handle}
+use Rattle.machine.specs.declared.Place.{Place}
+use Rattle.machine.specs.declared.FixAnswer.{FixAnswer}
+use Rattle.machine.specs.declared.FixAnswer.the-variants.{Fixed, Refused}
+use Rattle.machine.specs.declared.WordAnswer.{WordAnswer}
+use Rattle.machine.specs.declared.WordAnswer.the-variants.{Names, Refused as RefusedWord}
+use Rattle.machine.specs.declared.FindAnswer.{FindAnswer}
+use Rattle.machine.specs.declared.FindAnswer.the-variants.{At, Absent, Refused as RefusedFind}
+use Rattle.page.specs.Page.{bytesFrom}
+use Rattle.machine.specs.Tests.{pick, verdict}
+use Rattle.machine.specs.Machine.{State}
+
+-- the lent buffer that a payload lies in
+pub data Buffer : Type 0 where
+  inFrames : Buffer
+  inStore : Buffer
+
+pub data Answer : Type 0 where
+  -- a refusal's number
+  refused : ℕ → Answer
+  -- accepted, with nothing to give: open, unfix, write, link, unlink, evict, settle
+  done : Answer
+  -- root and fix: the handle's frame and page, and the looks of the sweep
+  handle : ℕ → ℕ → ℕ → Answer
+  -- show and peek: the place of the payload, its buffer, start and size
+  payload : Buffer → ℕ → ℕ → Answer
+  -- word: the page number
+  number : ℕ → Answer
+  -- find: the frame, or 'absent'
+  frame : ℕ → Answer
+  nowhere : Answer
+
+-- what a call answers and leaves
+pub record Out : Type 0 where
+  pub answer : Answer
+  pub left : State
+
+abbrev pub out : Answer → State → Out
+out a s = record { answer = a; left = s }
+
+-- ---- the answers in code
+
+-- a refusal's number, 0 where the call was accepted
+unfoldable pub doneAnswer : ℕ → Answer
+doneAnswer n = verdict n refused done
+
+abbrev pub fixAnswer : FixAnswer → Answer
+fixAnswer (Fixed h looks) = handle (h .frame .0) (h .page .0) looks
+fixAnswer (Refused n) = refused n
+
+abbrev pub wordAnswer : WordAnswer → Answer
+wordAnswer (Names p) = number (p .0)
+wordAnswer (RefusedWord n) = refused n
+
+abbrev pub findAnswer : FindAnswer → Answer
+findAnswer (At f) = frame (f .0)
+findAnswer Absent = nowhere
+findAnswer (RefusedFind n) = refused n
+
+abbrev pub bufferIf : Bool → Buffer
+bufferIf true = inStore
+bufferIf false = inFrames
+
+unfoldable pub placeAnswer : Place → Answer
+placeAnswer p = verdict (p .refusal) refused (payload (bufferIf (p .in_store)) (p .start) (p .size))
+
+-- ---- a part of a lent slice that is handed back
+
+-- a slice as it was lent: where it starts, a block and an offset, and its bytes
+pub record Lent : Type 0 where
+  pub at : ℕ × ℕ
+  pub bytes : List ℕ
+
+abbrev pub lent : RefT (List ℕ) → Lent
+lent x = record { at = x .ptr; bytes = x .now }
+
+-- the n bytes of a slice from a on, where they lie
+unfoldable pub cut : Lent → ℕ → ℕ → Lent
+cut x a n = record { at = (x .at .0, a + x .at .1); bytes = bytesFrom (x .bytes) a n }
+
+-- the part handed back, and what is put into the number that the caller lends
+pub record Shown : Type 0 where
+  pub part : Lent
+  pub number : ℕ
+
+-- "A refused show or peek gives the empty part at the start of the frames; both put their number, 0 if accepted, into a number the caller lends."
+abbrev pub handedBack : Lent → Lent → Answer → Shown
+handedBack fs st (payload inFrames a n) = record { part = cut fs a n; number = 0 }
+handedBack fs st (payload inStore a n) = record { part = cut st a n; number = 0 }
+handedBack fs st (refused n) = record { part = cut fs 0 0; number = n }
+handedBack fs st done = record { part = cut fs 0 0; number = 0 }
+handedBack fs st (handle f p n) = record { part = cut fs 0 0; number = 0 }
+handedBack fs st (number p) = record { part = cut fs 0 0; number = 0 }
+handedBack fs st (frame f) = record { part = cut fs 0 0; number = 0 }
+handedBack fs st nowhere = record { part = cut fs 0 0; number = 0 }

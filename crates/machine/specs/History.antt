@@ -1,0 +1,149 @@
+-- Lists of calls, the plain map, and the balance of pins: what demand 3 speaks of.
+use Prim.Native.Nat.{ℕ, _+_}
+use mathlib.Core.Path.{_≡_}
+use mathlib.Core.Bool.{Bool, true, false}
+use mathlib.Core.List.{List, [], _∷_}
+use lib.Dec.{eqb, ltb}
+use Rattle.page.specs.declared.PageNumber.{PageNumber}
+use Rattle.page.specs.Octets.{Octets}
+use Rattle.page.specs.Page.{putSlot, putPayload}
+use Rattle.machine.specs.declared.Handle.{Handle}
+use Rattle.machine.specs.Tests.{pick}
+use Rattle.machine.specs.Machine.{State, state}
+use Rattle.machine.specs.Answers.{Answer, refused, done, handle, payload, number, frame, nowhere, Out}
+use Rattle.machine.specs.Calls.{openCall, rootCall, fixCall, unfixCall, showCall, peekCall, wordCall, writeCall, linkCall, unlinkCall, evictCall, settleCall, findCall}
+
+-- ---- a call with its arguments apart from records, frames and store. Calls added later join here.
+pub data Call : Type 0 where
+  -- open, on the buffers as they then stand
+  reopen : Call
+  root : Call
+  fix : Handle → ℕ → Call
+  unfix : Handle → Call
+  show : Handle → Call
+  peek : PageNumber → Call
+  word : Handle → ℕ → Call
+  write : Handle → ℕ → List ℕ → Call
+  link : Handle → ℕ → PageNumber → Call
+  unlink : Handle → ℕ → Call
+  evict : PageNumber → Call
+  settle : Call
+  find : PageNumber → Call
+
+-- ---- the plain map: N pages, fed a call's name, its arguments, and whether it was accepted; and the balance of pins
+
+-- how many accepted roots and fixes answered a page's number, how many accepted unfixes named it, and the frame in the answer that pinned it
+pub record Balance : Type 0 where
+  pub fixes : ℕ → ℕ
+  pub unfixes : ℕ → ℕ
+  pub frame : ℕ → ℕ
+
+abbrev pub noPins : Balance
+noPins = record { fixes = λ p. 0; unfixes = λ p. 0; frame = λ p. 0 }
+
+-- "A page is pinned while the accepted roots and fixes that answered its number outnumber the accepted unfixes of it since the open."
+abbrev pub isPinned : Balance → ℕ → Bool
+isPinned b p = ltb (b .unfixes p) (b .fixes p)
+
+-- a function with another value at p
+unfoldable pub update : (ℕ → ℕ) → ℕ → ℕ → ℕ → ℕ
+update t p x q = pick (eqb q p) x (t q)
+
+-- an answer that gives a handle counts a fix of its page; it is the answer that pins the page where that wasn't pinned
+abbrev pub fixedIn : ℕ → ℕ → Balance → Balance
+fixedIn f p b = record {
+  fixes = update (b .fixes) p (b .fixes p + 1);
+  unfixes = b .unfixes;
+  frame = pick (isPinned b p) (b .frame) (update (b .frame) p f);
+}
+
+abbrev pub unfixed : ℕ → Balance → Balance
+unfixed p b = record { fixes = b .fixes; unfixes = update (b .unfixes) p (b .unfixes p + 1); frame = b .frame }
+
+-- ---- the table of the calls
+
+-- what is to be known of a call: the definition that its contract cites, what it does to the map and to the balance where it is accepted, whether it then begins a new history, and the bytes that it hands over
+pub record Row : Type 0 where
+  pub out : State → Out
+  pub onMap : List ℕ → List ℕ
+  pub onBalance : Balance → Balance
+  pub anew : Bool
+  pub bytes : List ℕ
+
+-- "Every other call leaves the map alone."
+abbrev pub quiet : (State → Out) → Row
+quiet call = record { out = call; onMap = λ m. m; onBalance = λ b. b; anew = false; bytes = [] }
+
+abbrev pub row : Call → Row
+row reopen = record { out = λ s. openCall (s .frames) (s .store); onMap = λ m. m; onBalance = λ b. b; anew = true; bytes = [] }
+row root = quiet rootCall
+row (fix h k) = quiet (λ s. fixCall s h k)
+row (unfix h) = record { out = λ s. unfixCall s h; onMap = λ m. m; onBalance = unfixed (h .page .0); anew = false; bytes = [] }
+row (show h) = quiet (λ s. showCall s h)
+row (peek q) = quiet (λ s. peekCall s q)
+row (word h k) = quiet (λ s. wordCall s h k)
+-- "An accepted write puts its bytes into the page its handle numbers, from byte 64 + offset on."
+row (write h offset d) = record { out = λ s. writeCall s h offset d; onMap = λ m. putPayload m (h .page .0) offset d; onBalance = λ b. b; anew = false; bytes = d }
+-- "An accepted link puts its page number into its slot of that page; an accepted unlink puts 0 there."
+row (link h k q) = record { out = λ s. linkCall s h k q; onMap = λ m. putSlot m (h .page .0) k (q .0); onBalance = λ b. b; anew = false; bytes = [] }
+row (unlink h k) = record { out = λ s. unlinkCall s h k; onMap = λ m. putSlot m (h .page .0) k 0; onBalance = λ b. b; anew = false; bytes = [] }
+row (evict q) = quiet (λ s. evictCall s q)
+row settle = quiet settleCall
+row (find q) = quiet (λ s. findCall s q)
+
+abbrev pub accepted : Answer → Bool
+accepted (refused n) = false
+accepted done = true
+accepted (handle f p n) = true
+accepted (payload b a n) = true
+accepted (number p) = true
+accepted (frame f) = true
+accepted nowhere = true
+
+-- the balance after a handle in an answer
+abbrev pub counted : Answer → Balance → Balance
+counted (refused n) b = b
+counted done b = b
+counted (handle f p n) b = fixedIn f p b
+counted (payload y a n) b = b
+counted (number p) b = b
+counted (frame f) b = b
+counted nowhere b = b
+
+-- ---- the points of a list of calls
+
+pub record Point : Type 0 where
+  pub now : State
+  pub map : List ℕ
+  pub balance : Balance
+
+-- "At the accepted open it is the store, byte for byte", and no page is pinned
+abbrev pub start : State → Point
+start s = record { now = s; map = s .store; balance = noPins }
+
+-- "each later one gets what the call before it returned or left"
+abbrev pub continued : Row → Out → Point → Point
+continued r o x = record {
+  now = o .left;
+  map = pick (accepted (o .answer)) (r .onMap (x .map)) (x .map);
+  balance = counted (o .answer) (pick (accepted (o .answer)) (r .onBalance (x .balance)) (x .balance));
+}
+
+-- an accepted open begins a new history; "After a refused open the host goes on with the records from before it."
+abbrev pub reopened : Out → Point → Point
+reopened o x =
+    pick (accepted (o .answer)) (start (o .left))
+    (record { now = state (x .now .pool) (o .left .frames) (o .left .store); map = x .map; balance = x .balance })
+
+unfoldable pub next : Call → Point → Point
+next c x = let o = row c .out (x .now) in pick (row c .anew) (reopened o x) (continued (row c) o x)
+
+-- the point that a list of calls leads to
+pub run : List Call → Point → Point
+run [] x = x
+run (c ∷ cs) x = run cs (next c x)
+
+-- what the calls hand to write are bytes
+pub AllBytes : List Call → Type 0
+AllBytes [] = Unit {0}
+AllBytes (c ∷ cs) = Octets (row c .bytes) × AllBytes cs

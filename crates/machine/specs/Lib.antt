@@ -1,0 +1,17 @@
+pub mod Tests
+pub mod Machine
+pub mod TestLaws
+pub mod Agreement
+pub mod AgreementFacts
+pub mod Soundness
+pub mod Moves
+pub mod Sweep
+pub mod Naming
+pub mod Answers
+pub mod Rules
+pub mod Calls
+pub mod Ready
+pub mod History
+pub mod Demand3
+pub mod View
+pub mod Invariant

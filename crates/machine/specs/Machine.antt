@@ -1,0 +1,103 @@
+-- The machine: records, frames and store as values.
+use Prim.Native.Nat.{ℕ, zero, suc, _+_, _-_, min}
+use mathlib.Core.Bool.{Bool, true, false}
+use mathlib.Core.List.{List, [], _∷_}
+use lib.Dec.{eqb, ltb}
+use lib.ListN.{getD, set, replicate}
+use Rattle.page.specs.declared.PageNumber.{PageNumber}
+use Rattle.page.specs.declared.FrameIndex.{FrameIndex}
+use Rattle.page.specs.Figures.{maxUsage, recordCount}
+use Rattle.machine.specs.declared.FrameRecord.{FrameRecord}
+use Rattle.machine.specs.declared.Pool.{Pool}
+use Rattle.machine.specs.Tests.{pick, _and_}
+
+pub record State : Type 0 where
+  pub pool : Pool
+  pub frames : List ℕ
+  pub store : List ℕ
+
+abbrev pub state : Pool → List ℕ → List ℕ → State
+state p fs st = record { pool = p; frames = fs; store = st }
+
+abbrev pub withPool : State → Pool → State
+withPool s p = state p (s .frames) (s .store)
+
+-- ---- kinds of count
+
+abbrev pub pageNumber : ℕ → PageNumber
+pageNumber p = record { 0 = p }
+
+abbrev pub frameIndex : ℕ → FrameIndex
+frameIndex f = record { 0 = f }
+
+-- ---- records
+
+-- the all-zero record, an empty frame's
+abbrev pub blank : FrameRecord
+blank = record { used = false; dirty = false; usage = 0; slot = 0; parent = frameIndex 0; pins = 0; page = pageNumber 0 }
+
+-- page 0's record as open makes it: pins 0, usage 0, clean, no parent
+abbrev pub rootRecord : FrameRecord
+rootRecord = record { used = true; dirty = false; usage = 0; slot = 0; parent = frameIndex 0; pins = 0; page = pageNumber 0 }
+
+-- the record of page q, loaded for slot k of frame f: "pins 1, heat 1, clean, its parent recorded"
+abbrev pub loadedRecord : ℕ → ℕ → ℕ → FrameRecord
+loadedRecord q f k = record { used = true; dirty = false; usage = 1; slot = k; parent = frameIndex f; pins = 1; page = pageNumber q }
+
+-- "gains one pin and one heat (heat stops at 3)"
+abbrev pub pinned : FrameRecord → FrameRecord
+pinned r = record { used = r .used; dirty = r .dirty; usage = min maxUsage (r .usage + 1); slot = r .slot; parent = r .parent; pins = r .pins + 1; page = r .page }
+
+-- one pin off
+abbrev pub unpinned : FrameRecord → FrameRecord
+unpinned r = record { used = r .used; dirty = r .dirty; usage = r .usage; slot = r .slot; parent = r .parent; pins = r .pins - 1; page = r .page }
+
+-- one usage (heat) off
+abbrev pub cooled : FrameRecord → FrameRecord
+cooled r = record { used = r .used; dirty = r .dirty; usage = r .usage - 1; slot = r .slot; parent = r .parent; pins = r .pins; page = r .page }
+
+abbrev pub dirtied : FrameRecord → FrameRecord
+dirtied r = record { used = r .used; dirty = true; usage = r .usage; slot = r .slot; parent = r .parent; pins = r .pins; page = r .page }
+
+abbrev pub cleaned : FrameRecord → FrameRecord
+cleaned r = record { used = r .used; dirty = false; usage = r .usage; slot = r .slot; parent = r .parent; pins = r .pins; page = r .page }
+
+-- the record of frame f
+abbrev pub recordAt : List FrameRecord → ℕ → FrameRecord
+recordAt rs f = getD rs f blank
+
+-- the page in frame f, if that is occupied
+abbrev pub pageIn : List FrameRecord → ℕ → ℕ
+pageIn rs f = recordAt rs f .page .0
+
+-- ---- the pool's parts
+
+abbrev pub withRecords : Pool → List FrameRecord → Pool
+withRecords p rs = record { records = rs; count = p .count; pages = p .pages; hand = p .hand }
+
+abbrev pub withRecord : Pool → ℕ → FrameRecord → Pool
+withRecord p f r = withRecords p (set (p .records) f r)
+
+abbrev pub withHand : Pool → ℕ → Pool
+withHand p h = record { records = p .records; count = p .count; pages = p .pages; hand = frameIndex h }
+
+-- the all-zero records
+unfoldable pub zeroPool : Pool
+zeroPool = record { records = replicate recordCount blank; count = 0; pages = 0; hand = frameIndex 0 }
+
+-- the records of a pool just opened, with F frames and N pages
+unfoldable pub openedPool : ℕ → ℕ → Pool
+openedPool F N = record { records = set (replicate recordCount blank) 0 rootRecord; count = F; pages = N; hand = frameIndex 0 }
+
+-- frame f is one of the F frames, and is occupied
+unfoldable pub occupied : Pool → ℕ → Bool
+occupied p f = ltb f (p .count) and recordAt (p .records) f .used
+
+-- the first frame from i on that holds page q, among n of them, and else the frame after those
+unfoldable pub foundFrom : List FrameRecord → ℕ → ℕ → ℕ → ℕ
+foundFrom rs q zero i = i
+foundFrom rs q (suc n) i = pick (recordAt rs i .used and eqb (pageIn rs i) q) i (foundFrom rs q n (i + 1))
+
+-- the frame that holds page q, or F
+abbrev pub found : Pool → ℕ → ℕ
+found p q = foundFrom (p .records) q (p .count) 0

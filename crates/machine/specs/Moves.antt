@@ -1,0 +1,71 @@
+-- Images, writing out, and a page that leaves its frame or comes into one.
+use Prim.Native.Nat.{ℕ, zero, suc, _+_, _*_, _-_}
+use mathlib.Core.Bool.{Bool, true, false}
+use mathlib.Core.List.{List, [], _∷_}
+use lib.ListN.{set}
+use Rattle.page.specs.Figures.{slotCount}
+use Rattle.page.specs.Word.{isNumber, frameIn, frameWord, numberWord}
+use Rattle.page.specs.Page.{slot, putSlot, pageOf, putPage}
+use Rattle.machine.specs.declared.FrameRecord.{FrameRecord}
+use Rattle.machine.specs.declared.Pool.{Pool}
+use Rattle.machine.specs.Tests.{pick}
+use Rattle.machine.specs.Machine.{State, state, blank, loadedRecord, cleaned, recordAt, pageIn, withRecord, withRecords}
+
+-- ---- "The image of a resident page is its bytes with each swizzled word replaced by the number of the page in that frame."
+
+-- the page number that a word stands for, where frame g holds page `page g`
+unfoldable pub plain : (ℕ → ℕ) → ℕ → ℕ
+plain page w = pick (isNumber w) w (page (frameIn w))
+
+-- the bytes g with the first n words replaced
+unfoldable pub imageTo : (ℕ → ℕ) → List ℕ → ℕ → List ℕ
+imageTo page g zero = g
+imageTo page g (suc n) = putSlot (imageTo page g n) 0 n (plain page (slot g 0 n))
+
+abbrev pub imageOf : List FrameRecord → List ℕ → ℕ → List ℕ
+imageOf rs fs f = imageTo (pageIn rs) (pageOf fs f) slotCount
+
+-- ---- writing out
+
+-- the store with the image of the page in frame f, whose record is r, if that is dirty
+unfoldable pub writtenOutBy : (ℕ → ℕ) → FrameRecord → List ℕ → List ℕ → ℕ → List ℕ
+writtenOutBy page r fs st f = pick (r .dirty) (putPage st (r .page .0) (imageTo page (pageOf fs f) slotCount)) st
+
+abbrev pub writtenOut : List FrameRecord → List ℕ → List ℕ → ℕ → List ℕ
+writtenOut rs fs st f = writtenOutBy (pageIn rs) (recordAt rs f) fs st f
+
+-- the same for the first n frames; and their records marked clean
+unfoldable pub writtenOutTo : List FrameRecord → List ℕ → List ℕ → ℕ → List ℕ
+writtenOutTo rs fs st zero = st
+writtenOutTo rs fs st (suc n) = writtenOut rs fs (writtenOutTo rs fs st n) n
+
+unfoldable pub cleanedTo : List FrameRecord → ℕ → List FrameRecord
+cleanedTo rs zero = rs
+cleanedTo rs (suc n) = set (cleanedTo rs n) n (cleaned (recordAt (cleanedTo rs n) n))
+
+-- "Settle writes the image of each dirty page and marks it clean."
+unfoldable pub settled : State → State
+settled s =
+    state (withRecords (s .pool) (cleanedTo (s .pool .records) (s .pool .count))) (s .frames)
+    (writtenOutTo (s .pool .records) (s .frames) (s .store) (s .pool .count))
+
+-- ---- the two changes of which frame holds what
+
+abbrev pub vacate : Pool → ℕ → Pool
+vacate p f = withRecord p f blank
+
+abbrev pub occupy : Pool → ℕ → FrameRecord → Pool
+occupy p e r = withRecord p e r
+
+-- "a dirty page's image goes to the store; the parent's word becomes the page number without dirtying the parent; the frame is empty, its bytes kept, and the hand stays"
+unfoldable pub evicted : State → ℕ → State
+evicted s f =
+    let r = recordAt (s .pool .records) f in
+    state (vacate (s .pool) f)
+    (putSlot (s .frames) (r .parent .0) (r .slot) (numberWord (r .page .0)))
+    (writtenOut (s .pool .records) (s .frames) (s .store) f)
+
+-- "the page is loaded with pins 1, heat 1, clean, its parent recorded and the parent's word swizzled": page q into frame e, for slot k of frame f
+unfoldable pub loaded : State → ℕ → ℕ → ℕ → ℕ → State
+loaded s f k e q =
+    state (occupy (s .pool) e (loadedRecord q f k)) (putSlot (putPage (s .frames) e (pageOf (s .store) q)) f k (frameWord e)) (s .store)

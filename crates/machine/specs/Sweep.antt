@@ -1,0 +1,64 @@
+-- "The sweep": the frame that a load uses.
+use Prim.Native.Nat.{ℕ, zero, suc, _+_, _*_, _-_}
+use mathlib.Core.Bool.{Bool, true, false, not}
+use mathlib.Core.List.{List}
+use lib.Dec.{eqb, ltb}
+use lib.ListN.{set}
+use Rattle.page.specs.Figures.{slotCount}
+use Rattle.page.specs.Word.{isNumber}
+use Rattle.page.specs.Page.{slot}
+use Rattle.machine.specs.declared.FrameRecord.{FrameRecord}
+use Rattle.machine.specs.declared.Pool.{Pool}
+use Rattle.machine.specs.declared.Swept.{Swept}
+use Rattle.machine.specs.Tests.{pick, _and_, every}
+use Rattle.machine.specs.Machine.{recordAt, frameIndex, cooled, withRecords, withHand}
+
+-- the frame after h: "by one, from F − 1 to 0"
+unfoldable pub after : ℕ → ℕ → ℕ
+after F h = pick (ltb (h + 1) F) (h + 1) 0
+
+-- the first empty frame of the n from h on, going round, or F
+unfoldable pub emptyFrom : List FrameRecord → ℕ → ℕ → ℕ → ℕ
+emptyFrom rs F zero h = F
+emptyFrom rs F (suc n) h = pick (recordAt rs h .used) (emptyFrom rs F n (after F h)) h
+
+-- "the first empty one at or after the hand, going round", or F
+abbrev pub firstEmpty : Pool → ℕ
+firstEmpty p = emptyFrom (p .records) (p .count) (p .count) (p .hand .0)
+
+-- no word of frame f is swizzled
+unfoldable pub childless : List ℕ → ℕ → Bool
+childless fs f = every slotCount (λ k. isNumber (slot fs f k))
+
+-- the class of an occupied frame with record r: "The root, a pinned page and a page with a swizzled word are passed over." Any other is open to eviction.
+unfoldable pub isOpen : FrameRecord → List ℕ → ℕ → Bool
+isOpen r fs f = pick (eqb f 0) false (pick (eqb (r .pins) 0) (childless fs f) false)
+
+-- what a look leaves of the record: "Any other with heat above 0 loses 1."
+unfoldable pub lookLeaves : FrameRecord → Bool → FrameRecord
+lookLeaves r isopen = pick isopen (cooled r) r
+
+-- "One with heat 0 is evicted and its frame used."
+unfoldable pub lookTakes : FrameRecord → Bool → Bool
+lookTakes r isopen = isopen and eqb (r .usage) 0
+
+-- at most m looks more after n looks, the hand at h: "The hand moves on by one after every look, the last included"
+unfoldable pub sweepFrom : List ℕ → ℕ → ℕ → ℕ → List FrameRecord → ℕ → Swept
+sweepFrom fs F zero n rs h = record { taken = false; frame = frameIndex 0; looks = n; records = rs; hand = frameIndex h }
+sweepFrom fs F (suc m) n rs h =
+    let o = isOpen (recordAt rs h) fs h in
+    let next = set rs h (lookLeaves (recordAt rs h) o) in
+    pick (lookTakes (recordAt rs h) o)
+    (record { taken = true; frame = frameIndex h; looks = n + 1; records = next; hand = frameIndex (after F h) })
+    (sweepFrom fs F m (n + 1) next (after F h))
+
+-- "A sweep takes at most 4 × F looks."
+abbrev pub mostLooks : ℕ → ℕ
+mostLooks F = 4 * F
+
+abbrev pub sweep : Pool → List ℕ → Swept
+sweep p fs = sweepFrom fs (p .count) (mostLooks (p .count)) 0 (p .records) (p .hand .0)
+
+-- the records and the hand as a sweep leaves them
+abbrev pub withSwept : Pool → Swept → Pool
+withSwept p v = record { records = v .records; count = p .count; pages = p .pages; hand = v .hand }

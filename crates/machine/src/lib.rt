@@ -1,0 +1,81 @@
+// The pool's records and the answers of its calls. What they mean stands in specs/: document 01 as definitions, and demand 3.
+use page::FrameIndex;
+use page::PageNumber;
+
+// What is known of one frame (document 01: its record). The all-zero record is the empty frame's.
+#[repr(C)]
+pub struct FrameRecord {
+    pub used: bool,
+    pub dirty: bool,
+    // Document 01: heat.
+    pub usage: u8,
+    pub slot: u8,
+    pub parent: FrameIndex,
+    pub pins: u16,
+    pub page: PageNumber,
+}
+
+// The pool's records: one for each of up to 64 frames, F, N and the clock hand.
+#[repr(C)]
+pub struct Pool {
+    pub records: [FrameRecord; 64],
+    // F.
+    pub count: u16,
+    // N.
+    pub pages: u16,
+    pub hand: FrameIndex,
+}
+
+#[repr(C)]
+pub struct Handle {
+    pub frame: FrameIndex,
+    pub page: PageNumber,
+}
+
+// What a call without an answer of its own gives: the refusal's number, 0 where it was accepted, and the records.
+#[repr(C)]
+pub struct Done {
+    pub refusal: u8,
+    pub pool: Pool,
+}
+
+// The answer of root and fix: the handle and the looks of the sweep, or the refusal's number.
+pub enum FixAnswer {
+    Fixed(Handle, u16),
+    Refused(u8),
+}
+
+pub struct Fix {
+    pub answer: FixAnswer,
+    pub pool: Pool,
+}
+
+// The answer of word: the page number in the slot, 0 for none.
+pub enum WordAnswer {
+    Names(PageNumber),
+    Refused(u8),
+}
+
+pub enum FindAnswer {
+    At(FrameIndex),
+    Absent,
+    Refused(u8),
+}
+
+// Where a payload lies, as numbers: in the store or in the frames, from `start` on, `size` bytes; all 0 with a refusal's number.
+#[repr(C)]
+pub struct Place {
+    pub refusal: u8,
+    pub in_store: bool,
+    pub start: usize,
+    pub size: usize,
+}
+
+// What a sweep ends with: whether a frame was taken and which, the looks, and the records and the hand after it.
+pub struct Swept {
+    pub taken: bool,
+    pub frame: FrameIndex,
+    pub looks: u16,
+    pub records: [FrameRecord; 64],
+    pub hand: FrameIndex,
+}

@@ -1,0 +1,4 @@
+pub mod Figures
+pub mod Word
+pub mod Page
+pub mod Octets
