@@ -19,3 +19,4 @@ pub mod View
 pub mod Invariant
 pub mod BenchCases
 pub mod SweepLaws
+pub mod MoveLaws
