@@ -15,3 +15,4 @@ pub mod History
 pub mod Demand3
 pub mod View
 pub mod Invariant
+pub mod Keeps
