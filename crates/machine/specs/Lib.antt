@@ -15,4 +15,9 @@ pub mod History
 pub mod Demand3
 pub mod View
 pub mod Invariant
+pub mod KeepEffect
+pub mod EvictEffect
+pub mod LoadEffect
+pub mod LinkEffect
+pub mod PinsEffect
 pub mod Keeps
