@@ -20,4 +20,7 @@ pub mod EvictEffect
 pub mod LoadEffect
 pub mod LinkEffect
 pub mod PinsEffect
+pub mod WriteOut
+pub mod RecordChange
+pub mod KeepsPin
 pub mod Keeps
