@@ -15,6 +15,7 @@ pub mod History
 pub mod Demand3
 pub mod View
 pub mod Invariant
+pub mod SweepLaws
 pub mod KeepEffect
 pub mod EvictEffect
 pub mod LoadEffect
