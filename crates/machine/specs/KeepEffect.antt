@@ -54,6 +54,24 @@ pub record Rewritten (v w : View) (m n : Map) : Type 0 where
   pub clean : (g : ℕ) → Occupied v g → w .dirty g ≡ false → v .dirty g ≡ false
   pub cleanBytes : (g i : ℕ) → Occupied v g → w .dirty g ≡ false → i < pageSize → n .mapBytes (v .page g) i ≡ m .mapBytes (v .page g) i
 
+-- neither payload nor dirty marks nor the map change
+pub record Quiet (v w : View) : Type 0 where
+  pub bytes : (g i : ℕ) → w .bytes g i ≡ v .bytes g i
+  pub dirty : (g : ℕ) → w .dirty g ≡ v .dirty g
+  pub storeWord : (p k : ℕ) → w .storeWord p k ≡ v .storeWord p k
+  pub storeBytes : (p i : ℕ) → w .storeBytes p i ≡ v .storeBytes p i
+
+pub quiet-rewritten : (v w : View) (m : Map) → Quiet v w → Rewritten v w m m
+quiet-rewritten v w m Q = record {
+  mapWord = λ p k hp hk. refl;
+  bytes = λ g i o h l e. Q .bytes g i ∙ e;
+  storeWord = λ p k hp hk. Q .storeWord p k;
+  storeBytes = λ p i hp l. Q .storeBytes p i;
+  absent = λ p i hp a l. refl;
+  clean = λ g o e. sym (Q .dirty g) ∙ e;
+  cleanBytes = λ g i o e l. refl;
+}
+
 module _ (v w : View) (K : Kept v w) (S : Shape v) where
   abbrev T : Steady v w
   T = K .steady

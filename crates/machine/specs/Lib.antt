@@ -23,5 +23,6 @@ pub mod LinkEffect
 pub mod PinsEffect
 pub mod WriteOut
 pub mod RecordChange
-pub mod KeepsPin
+pub mod KeepsRecords
+pub mod KeepsWrite
 pub mod Keeps

@@ -16,7 +16,8 @@ use Rattle.machine.specs.TestLaws.{clash}
 use Rattle.machine.specs.Machine.{State, state, blank, recordAt, withRecord}
 use Rattle.machine.specs.Ready.{Lengths}
 use Rattle.machine.specs.View.{view}
-use Rattle.machine.specs.Invariant.{NeatRecord, Neat}
+use Rattle.machine.specs.History.{Point}
+use Rattle.machine.specs.Invariant.{NeatRecord, Neat, Invariant}
 use Rattle.machine.specs.KeepEffect.{Steady}
 
 module _ (rs : List FrameRecord) (f : ℕ) (r : FrameRecord) where
@@ -74,6 +75,10 @@ neat-place f r t u P hu hp n = record {
 }
 
 -- ---- lengths
+
+-- every frame has its record
+pub record-lt : (x : Point) → Invariant x → (f : ℕ) → f < x .now .pool .count → f < length (x .now .pool .records)
+record-lt x I f h = omega (arith, I .records, I .shape .most)
 
 pub lengths-kept : {F N : ℕ} {fs st : List ℕ} (gs tt : List ℕ) → Lengths F N fs st → length gs ≡ length fs → length tt ≡ length st → Lengths F N gs tt
 lengths-kept gs tt Z e d = record { least = Z .least; most = Z .most; some = Z .some; pages = Z .pages; frames = e ∙ Z .frames; store = d ∙ Z .store }
