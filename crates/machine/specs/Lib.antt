@@ -25,4 +25,7 @@ pub mod WriteOut
 pub mod RecordChange
 pub mod KeepsRecords
 pub mod KeepsWrite
+pub mod KeepsLink
+pub mod KeepsEvict
+pub mod KeepsLoad
 pub mod Keeps
