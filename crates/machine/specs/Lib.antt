@@ -28,4 +28,5 @@ pub mod KeepsWrite
 pub mod KeepsLink
 pub mod KeepsEvict
 pub mod KeepsLoad
+pub mod KeepsSettle
 pub mod Keeps
