@@ -30,3 +30,4 @@ pub mod KeepsEvict
 pub mod KeepsLoad
 pub mod KeepsSettle
 pub mod Keeps
+pub mod MoveLaws
