@@ -17,7 +17,8 @@ use Rattle.machine.specs.View.{View, view, Occupied, Parent, Shape, plai
 use Rattle.machine.specs.Invariant.{Invariant, mapOf}
 use Rattle.machine.specs.EvictEffect.{Evicted, evict-shape, evict-content}
 use Rattle.machine.specs.PinsEffect.{pins-evicted}
-use Rattle.machine.specs.WriteOut.{out-length, out-octets, out-wordStays, out-byteStays, out-word, out-byte}
+use Rattle.machine.specs.MoveLaws.{writtenOutBy-length}
+use Rattle.machine.specs.WriteOut.{out-octets, out-wordStays, out-byteStays, out-word, out-byte}
 use Rattle.machine.specs.RecordChange.{change-here, change-other, neat-blank, neat-change, record-lt, lengths-kept}
 use Rattle.machine.specs.KeepsLink.{slot-putSlot-other}
 
@@ -67,16 +68,16 @@ module _ (x : Point) (I : Invariant x) (f : ℕ) (of : Occupied (view (x .now)) 
     wordPage = λ g k hg hk n. slot-putSlot-page (s .frames) _ _ _ g k (P .inPage) hk (λ q. n (sym q));
     wordSlot = λ g k hg hk n. slot-putSlot-other (s .frames) _ _ _ g k (P .inPage) hk n;
     bytes = λ g i hg h l. byte-putSlot (s .frames) _ _ _ g i (P .inPage) h l;
-    dirtyWord = λ k d hk. out-word (v .page) (recordAt rs f) (s .frames) (s .store) f _ _ (I .sized .frames) (λ z. of .lt) (I .sized .store) pN d small k hk;
-    dirtyBytes = λ i d h l. out-byte (v .page) (recordAt rs f) (s .frames) (s .store) f _ _ (I .sized .frames) (λ z. of .lt) (I .sized .store) pN d small i h l;
-    storeWord = λ p k hp hk h. out-wordStays (v .page) (recordAt rs f) (s .frames) (s .store) f _ _ (I .sized .frames) (λ z. of .lt) (I .sized .store) pN p k hk h;
-    storeBytes = λ p i hp l h. out-byteStays (v .page) (recordAt rs f) (s .frames) (s .store) f _ _ (I .sized .frames) (λ z. of .lt) (I .sized .store) pN p i l h;
+    dirtyWord = λ k d hk. out-word (v .page) (recordAt rs f) (s .frames) (s .store) f _ _ (I .sized .frames) (of .lt) (I .sized .store) pN d small k hk;
+    dirtyBytes = λ i d h l. out-byte (v .page) (recordAt rs f) (s .frames) (s .store) f _ _ (I .sized .frames) (of .lt) (I .sized .store) pN d small i h l;
+    storeWord = λ p k hp hk h. out-wordStays (v .page) (recordAt rs f) (s .frames) (s .store) f _ _ (I .sized .frames) (of .lt) (I .sized .store) pN p k hk h;
+    storeBytes = λ p i hp l h. out-byteStays (v .page) (recordAt rs f) (s .frames) (s .store) f _ _ (I .sized .frames) (of .lt) (I .sized .store) pN p i l h;
   }
 
   pub evict-keeps : ((k : ℕ) → k < slotCount → v .word f k < swizzleBit) → v .pins f ≡ 0 → Invariant (record { now = evicted s f; map = x .map; balance = x .balance })
   unfolding evicted
   evict-keeps leaf free = record {
-    sized = lengths-kept _ _ (I .sized) (putSlot-length (s .frames) _ _ _) (out-length (v .page) (recordAt rs f) (s .frames) (s .store) f _ _ (I .sized .frames) (λ z. of .lt) (I .sized .store) pN);
+    sized = lengths-kept _ _ (I .sized) (putSlot-length (s .frames) _ _ _) (writtenOutBy-length (v .page) (recordAt rs f) (s .frames) (s .store) f _ _ (I .sized .frames) (I .sized .store) (of .lt) pN);
     records = length-set rs f blank ∙ I .records;
     mapLength = I .mapLength;
     neat = neat-change (s .pool) f blank lt (of .lt) (neat-blank f) (I .neat);

@@ -1,24 +1,19 @@
--- A stored page that comes into an empty frame keeps the invariant, and it always may: rule 14 isn't broken.
+-- A stored page that comes into an empty frame keeps the invariant, and it always fits.
 use mathlib.Core.Path.{_≡_, refl, sym, ap, _∙_}
 use mathlib.Core.Logic.{_≢_}
-use mathlib.Core.Bool.{Bool, true, false, not}
+use mathlib.Core.Bool.{Bool, true, false}
 use mathlib.Core.List.{List}
 use Prim.Native.Nat.{ℕ, _*_, _≤_, _<_}
 use native.Mathlib.Omega.{arith}
-use lib.Dec.{eqb, ltb}
 use lib.ListN.{length, length-set}
-use borrow.Author.Tests.{lt-ltb, ne-eqb, eqb-true, eqb-false, not-true}
 use Rattle.page.specs.Figures.{pageSize, slotCount, swizzleBit}
 use Rattle.page.specs.Word.{frameWord}
 use Rattle.page.specs.Page.{slot, pageOf, putPage, putSlot-length, slot-putSlot-same, slot-putSlot-page, byte-putSlot, pageOf-length, putPage-length, slot-putPage-same, slot-putPage-other, byte-putPage-same, byte-putPage-other, slot-pageOf, byte-pageOf, byte-first}
 use Rattle.page.specs.Octets.{octets-putSlot, octets-pageOf, octets-putPage}
 use Rattle.machine.specs.declared.FrameRecord.{FrameRecord}
-use Rattle.machine.specs.Tests.{_and_, some}
-use Rattle.machine.specs.TestLaws.{clash, is-off, Case, case, on, off, both, and-true, or-left, or-right, true-every, some-true}
-use Rattle.machine.specs.Machine.{State, recordAt, pageIn, occupied, loadedRecord}
-use Rattle.machine.specs.AgreementFacts.{occupied-lt, occupied-used}
+use Rattle.machine.specs.TestLaws.{clash}
+use Rattle.machine.specs.Machine.{State, loadedRecord}
 use Rattle.machine.specs.Moves.{plain, loaded}
-use Rattle.machine.specs.Naming.{namedByResident, repeated, wordLoadable, loadable}
 use Rattle.machine.specs.History.{Point, fixedIn}
 use Rattle.machine.specs.View.{View, view, Occupied, Absent}
 use Rattle.machine.specs.Invariant.{Invariant, mapOf}
@@ -26,39 +21,6 @@ use Rattle.machine.specs.LoadEffect.{Loaded, Fits, absent-fits, load-sha
 use Rattle.machine.specs.PinsEffect.{pins-loaded}
 use Rattle.machine.specs.RecordChange.{change-here, change-other, neat-change, record-lt, lengths-kept}
 use Rattle.machine.specs.KeepsLink.{slot-putSlot-other}
-
--- ---- a page that fits passes rule 14
-
-module _ (s : State) (q : ℕ) (T : Fits (view s) q) where
-  module _ (k : ℕ) (hk : k < slotCount) (n : slot (s .store) q k ≢ 0) where
-    not-repeated : repeated (s .store) q k ≡ false
-    unfolding repeated
-    not-repeated = is-off _ (λ t.
-        let r = some-true slotCount (λ j. not (eqb j k) and eqb (slot (s .store) q j) (slot (s .store) q k)) t in
-        let a = and-true (not (eqb (r .0) k)) _ (r .2) in
-        eqb-false (r .0) k (not-true _ (a .0)) (T .once (r .0) k (r .1) hk n (eqb-true _ _ (a .1))))
-
-    not-named : namedByResident s (slot (s .store) q k) ≡ false
-    unfolding namedByResident
-    not-named = is-off _ (λ t.
-        let r = some-true (s .pool .count) (λ f. occupied (s .pool) f and some slotCount (λ j. eqb (plain (pageIn (s .pool .records)) (slot (s .frames) f j)) (slot (s .store) q k))) t in
-        let a = and-true (occupied (s .pool) (r .0)) _ (r .2) in
-        let b = some-true slotCount (λ j. eqb (plain (pageIn (s .pool .records)) (slot (s .frames) (r .0) j)) (slot (s .store) q k)) (a .1) in
-        T .fresh k (r .0) (b .0) hk (record { lt = r .1; on = occupied-used (s .pool) (r .0) (a .0) }) (b .1) n (eqb-true _ _ (b .2)))
-
-  word-loadable : (k : ℕ) → k < slotCount → wordLoadable s q k ≡ true
-  unfolding wordLoadable
-  word-loadable k hk = elim (case (eqb (slot (s .store) q k) 0)) [
-    | on z ↦ or-left _ z
-    | off z ↦ let n : slot (s .store) q k ≢ 0 = eqb-false _ 0 z in
-        or-right _ (both _ _ (lt-ltb _ _ (T .below k hk)) (both _ _ (ap not (not-repeated k hk n)) (ap not (not-named k hk n))))
-  ]
-
-  pub fits-loadable : loadable s q ≡ true
-  unfolding loadable
-  fits-loadable = true-every slotCount (wordLoadable s q) word-loadable
-
--- ---- the load
 
 module _ (x : Point) (I : Invariant x) where
   abbrev s : State

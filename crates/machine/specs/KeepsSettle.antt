@@ -6,42 +6,27 @@ use mathlib.Core.List.{List}
 use Prim.Native.Nat.{ℕ, zero, suc, _*_, _≤_, _<_}
 use native.Mathlib.Omega.{arith}
 use native.Mathlib.Nat.{le-refl}
-use native.Mathlib.Decide.{ℕ-discrete}
-use lib.Dec.{eqb}
+use native.Mathlib.Decide.{ℕ-discrete, decLt}
 use lib.ListN.{length, length-set}
-use borrow.Author.Tests.{eq-eqb, eqb-true}
 use Rattle.page.specs.Figures.{pageSize, slotCount, payloadStart, wordRadix, swizzleBit}
 use Rattle.page.specs.Page.{slot, byte}
 use Rattle.page.specs.Octets.{Octets, buffer-ext}
 use Rattle.machine.specs.declared.FrameRecord.{FrameRecord}
 use Rattle.machine.specs.declared.Pool.{Pool}
-use Rattle.machine.specs.Tests.{_and_, some}
-use Rattle.machine.specs.TestLaws.{clash, Case, case, on, off, both, and-true, some-true, some-false}
-use Rattle.machine.specs.Machine.{State, blank, recordAt, pageIn, cleaned, withRecords}
+use Rattle.machine.specs.TestLaws.{clash, Case, case, on, off}
+use Rattle.machine.specs.Machine.{State, blank, recordAt, pageIn, cleaned, withRecords, found}
+use Rattle.machine.specs.AgreementFacts.{occupied-used, make-occupied}
 use Rattle.machine.specs.Moves.{plain, writtenOut, writtenOutTo, cleanedTo, settled}
 use Rattle.machine.specs.History.{Point}
 use Rattle.machine.specs.View.{View, view, Occupied, Absent, Content}
 use Rattle.machine.specs.Invariant.{NeatRecord, Neat, Invariant, mapOf}
 use Rattle.machine.specs.KeepEffect.{Steady, Kept, kept-shape, steady-was, steady-plain}
 use Rattle.machine.specs.PinsEffect.{pins-kept}
-use Rattle.machine.specs.WriteOut.{out-length, out-octets, out-wordStays, out-byteStays, out-word, out-byte}
+use Rattle.machine.specs.MoveLaws.{writtenOutTo-length}
+use Rattle.machine.specs.FoundLaws.{found-holds, found-none}
+use Rattle.machine.specs.WriteOut.{out-octets, out-wordStays, out-byteStays, out-word, out-byte}
 use Rattle.machine.specs.RecordChange.{change-same, neat-change, record-lt, lengths-kept}
 use Rattle.machine.specs.KeepsEvict.{plain-lt}
-
--- ---- a page is in a frame or in none
-
-pub data Residence (v : View) (p : ℕ) : Type 0 where
-  inFrame : (f : ℕ) → Occupied v f → v .page f ≡ p → Residence v p
-  inNone : Absent v p → Residence v p
-
-pub residence : (v : View) (p : ℕ) → Residence v p
-residence v p = elim (case (some (v .F) (λ f. v .used f and eqb (v .page f) p))) [
-  | on t ↦
-      let r = some-true (v .F) (λ f. v .used f and eqb (v .page f) p) t in
-      let a = and-true (v .used (r .0)) _ (r .2) in
-      inFrame (r .0) (record { lt = r .1; on = a .0 }) (eqb-true _ p (a .1))
-  | off t ↦ inNone (λ f o q. clash (sym (both _ _ (o .on) (eq-eqb _ p q)) ∙ some-false (v .F) (λ f. v .used f and eqb (v .page f) p) t f (o .lt)))
-]
 
 -- ---- the records marked clean
 
@@ -97,14 +82,14 @@ module _ (x : Point) (I : Invariant x) where
   module _ (b : List ℕ) (lb : length b ≡ pageSize * v .N) (n : ℕ) (hn : n < v .F) where
     outStays : (p : ℕ) → (p ≡ v .page n → v .dirty n ≡ false) → Right b p → Right (writtenOut rs (s .frames) b n) p
     outStays p h R = record {
-      word = λ k hk. out-wordStays (v .page) (recordAt rs n) (s .frames) b n _ _ (I .sized .frames) (λ z. hn) lb (pageLt n hn) p k hk h ∙ R .word k hk;
-      bytes = λ i lo hi. out-byteStays (v .page) (recordAt rs n) (s .frames) b n _ _ (I .sized .frames) (λ z. hn) lb (pageLt n hn) p i hi h ∙ R .bytes i lo hi;
+      word = λ k hk. out-wordStays (v .page) (recordAt rs n) (s .frames) b n _ _ (I .sized .frames) hn lb (pageLt n hn) p k hk h ∙ R .word k hk;
+      bytes = λ i lo hi. out-byteStays (v .page) (recordAt rs n) (s .frames) b n _ _ (I .sized .frames) hn lb (pageLt n hn) p i hi h ∙ R .bytes i lo hi;
     }
 
     outDirty : v .dirty n ≡ true → Right (writtenOut rs (s .frames) b n) (v .page n)
     outDirty d = record {
-      word = λ k hk. out-word (v .page) (recordAt rs n) (s .frames) b n _ _ (I .sized .frames) (λ z. hn) lb (pageLt n hn) d small k hk ∙ I .content .frameWord n k o hk;
-      bytes = λ i lo hi. out-byte (v .page) (recordAt rs n) (s .frames) b n _ _ (I .sized .frames) (λ z. hn) lb (pageLt n hn) d small i lo hi ∙ I .content .frameByte n i o lo hi;
+      word = λ k hk. out-word (v .page) (recordAt rs n) (s .frames) b n _ _ (I .sized .frames) hn lb (pageLt n hn) d small k hk ∙ I .content .frameWord n k o hk;
+      bytes = λ i lo hi. out-byte (v .page) (recordAt rs n) (s .frames) b n _ _ (I .sized .frames) hn lb (pageLt n hn) d small i lo hi ∙ I .content .frameByte n i o lo hi;
     }
       where
         o : Occupied v n
@@ -127,10 +112,7 @@ module _ (x : Point) (I : Invariant x) where
   to n = writtenOutTo rs (x .now .frames) (x .now .store) n
 
   toLength : (n : ℕ) → n ≤ v .F → length (to n) ≡ pageSize * v .N
-  unfolding writtenOutTo
-  toLength zero h = I .sized .store
-  toLength (suc n) h =
-      out-length (v .page) (recordAt rs n) (s .frames) (to n) n _ _ (I .sized .frames) (λ z. h) (toLength n (omega arith)) (pageLt n h) ∙ toLength n (omega arith)
+  toLength n h = writtenOutTo-length rs (s .frames) (s .store) _ _ (I .sized .frames) (I .sized .store) pageLt n h ∙ I .sized .store
 
   toOctets : (n : ℕ) → Octets (to n)
   unfolding writtenOutTo
@@ -152,9 +134,13 @@ module _ (x : Point) (I : Invariant x) where
   ]
 
   toRight : (p : ℕ) → p < v .N → Right (to (v .F)) p
-  toRight p hp = elim (residence v p) [
-    | inFrame f o q ↦ rw q at (toDone (v .F) (le-refl _) f (o .lt) o)
-    | inNone a ↦ toKeeps (v .F) (le-refl _) p (record { word = λ k hk. I .content .absentWord p k hp a hk; bytes = λ i lo hi. I .content .absentByte p i hp a lo hi })
+  toRight p hp = elim (decLt (found (s .pool) p) (v .F)) [
+    | yes l ↦
+        let h = found-holds (s .pool) p l in
+        rw (h .1) at (toDone (v .F) (le-refl _) (found (s .pool) p) l (record { lt = l; on = occupied-used (s .pool) _ (h .0) }))
+    | no l ↦
+        let a : Absent v p = λ f o e. found-none (s .pool) p (omega arith) f (make-occupied (s .pool) f (o .lt) (o .on)) e in
+        toKeeps (v .F) (le-refl _) p (record { word = λ k hk. I .content .absentWord p k hp a hk; bytes = λ i lo hi. I .content .absentByte p i hp a lo hi })
   ]
 
   pub settle-store : settled s .store ≡ x .map
