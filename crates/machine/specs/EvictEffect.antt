@@ -1,7 +1,7 @@
 -- A page leaves its frame, on the view: its image is in the store, its parent's word a number again.
-use mathlib.Core.Path.{_≡_, refl, sym, ap, _∙_}
+use mathlib.Core.Path.{_≡_, sym, ap, _∙_}
 use mathlib.Core.Logic.{_≢_}
-use mathlib.Core.Bool.{Bool, true, false}
+use mathlib.Core.Bool.{true, false}
 use Prim.Native.Nat.{ℕ, _≤_, _<_}
 use native.Mathlib.Omega.{arith}
 use native.Mathlib.Nat.{add-left-cancel}
@@ -9,8 +9,8 @@ use native.Mathlib.Decide.{ℕ-discrete}
 use Rattle.page.specs.Figures.{pageSize, slotCount, payloadStart, swizzleBit}
 use Rattle.page.specs.Word.{frameWord}
 use Rattle.machine.specs.Moves.{plain}
-use Rattle.machine.specs.TestLaws.{clash, Case, case, on, off}
-use Rattle.machine.specs.View.{View, Reach, top, via, Occupied, Absent, Parent, Child, Shape, Map, Content, plain-low, plain-high, Reading, reading, low, high}
+use Rattle.machine.specs.TestLaws.{clash, case, on, off}
+use Rattle.machine.specs.View.{View, Reach, top, via, Occupied, Absent, Parent, Child, Shape, Map, Content, plain-low, plain-high, reading, low, high}
 
 -- frame e is emptied
 pub record Evicted (v w : View) (e : ℕ) : Type 0 where

@@ -1,11 +1,10 @@
 -- Effects that move no page, on the view: pins, usage, dirty marks and payload bytes.
-use mathlib.Core.Path.{_≡_, refl, sym, ap, _∙_}
-use mathlib.Core.Logic.{_≢_}
-use mathlib.Core.Bool.{Bool, true, false}
+use mathlib.Core.Path.{_≡_, refl, sym, _∙_}
+use mathlib.Core.Bool.{false}
 use Prim.Native.Nat.{ℕ, _≤_, _<_}
-use Rattle.page.specs.Figures.{pageSize, slotCount, payloadStart, swizzleBit}
+use Rattle.page.specs.Figures.{pageSize, slotCount, payloadStart}
 use Rattle.machine.specs.Moves.{plain}
-use Rattle.machine.specs.View.{View, Reach, top, via, Occupied, Absent, Parent, Child, Shape, Map, Content, plain-low, plain-high, Reading, reading, low, high}
+use Rattle.machine.specs.View.{View, Reach, top, via, Occupied, Absent, Parent, Child, Shape, Map, Content, plain-low, plain-high, reading, low, high}
 
 -- the same pages in the same frames, with the same parents
 pub record Steady (v w : View) : Type 0 where

@@ -1,19 +1,18 @@
 -- A page that leaves its frame keeps the invariant: the root, a pinned page and a page with a swizzled word apart.
 use mathlib.Core.Path.{_≡_, refl, sym, ap, _∙_}
 use mathlib.Core.Logic.{_≢_}
-use mathlib.Core.Bool.{Bool, true, false}
 use mathlib.Core.List.{List}
-use Prim.Native.Nat.{ℕ, _*_, _≤_, _<_}
+use Prim.Native.Nat.{ℕ, _<_}
 use native.Mathlib.Omega.{arith}
 use lib.ListN.{length, length-set}
 use Rattle.page.specs.Figures.{slotCount, wordRadix, swizzleBit}
 use Rattle.page.specs.Page.{putSlot-length, slot-putSlot-same, slot-putSlot-page, byte-putSlot}
 use Rattle.page.specs.Octets.{octets-putSlot}
 use Rattle.machine.specs.declared.FrameRecord.{FrameRecord}
-use Rattle.machine.specs.Machine.{State, blank, recordAt, pageIn}
+use Rattle.machine.specs.Machine.{State, blank, recordAt}
 use Rattle.machine.specs.Moves.{plain, evicted}
 use Rattle.machine.specs.History.{Point}
-use Rattle.machine.specs.View.{View, view, Occupied, Parent, Shape, plain-low, plain-high, Reading, reading, low, high}
+use Rattle.machine.specs.View.{View, view, Occupied, Parent, Shape, plain-low, plain-high, reading, low, high}
 use Rattle.machine.specs.Invariant.{Invariant, mapOf}
 use Rattle.machine.specs.EvictEffect.{Evicted, evict-shape, evict-content}
 use Rattle.machine.specs.PinsEffect.{pins-evicted}

@@ -2,11 +2,11 @@
 use mathlib.Core.Path.{_≡_, refl, sym, ap, _∙_}
 use mathlib.Core.Logic.{_≢_}
 use mathlib.Core.List.{List}
-use Prim.Native.Nat.{ℕ, _*_, _≤_, _<_}
+use Prim.Native.Nat.{ℕ, _*_, _<_}
 use native.Mathlib.Omega.{arith}
 use native.Mathlib.Decide.{ℕ-discrete}
 use lib.ListN.{length, length-set}
-use Rattle.page.specs.Figures.{pageSize, slotCount, payloadStart, wordRadix, swizzleBit}
+use Rattle.page.specs.Figures.{pageSize, slotCount, wordRadix, swizzleBit}
 use Rattle.page.specs.Page.{slot, putSlot, putSlot-length, slot-putSlot-same, slot-putSlot-slot, slot-putSlot-page, byte-putSlot}
 use Rattle.page.specs.Octets.{octets-putSlot}
 use Rattle.machine.specs.declared.FrameRecord.{FrameRecord}

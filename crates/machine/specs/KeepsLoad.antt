@@ -1,19 +1,18 @@
 -- A stored page that comes into an empty frame keeps the invariant, and it always fits.
 use mathlib.Core.Path.{_≡_, refl, sym, ap, _∙_}
 use mathlib.Core.Logic.{_≢_}
-use mathlib.Core.Bool.{Bool, true, false}
+use mathlib.Core.Bool.{false}
 use mathlib.Core.List.{List}
-use Prim.Native.Nat.{ℕ, _*_, _≤_, _<_}
+use Prim.Native.Nat.{ℕ, _<_}
 use native.Mathlib.Omega.{arith}
 use lib.ListN.{length, length-set}
 use Rattle.page.specs.Figures.{pageSize, slotCount, swizzleBit}
-use Rattle.page.specs.Word.{frameWord}
 use Rattle.page.specs.Page.{slot, pageOf, putPage, putSlot-length, slot-putSlot-same, slot-putSlot-page, byte-putSlot, pageOf-length, putPage-length, slot-putPage-same, slot-putPage-other, byte-putPage-same, byte-putPage-other, slot-pageOf, byte-pageOf, byte-first}
 use Rattle.page.specs.Octets.{octets-putSlot, octets-pageOf, octets-putPage}
 use Rattle.machine.specs.declared.FrameRecord.{FrameRecord}
 use Rattle.machine.specs.TestLaws.{clash}
 use Rattle.machine.specs.Machine.{State, loadedRecord}
-use Rattle.machine.specs.Moves.{plain, loaded}
+use Rattle.machine.specs.Moves.{loaded}
 use Rattle.machine.specs.History.{Point, fixedIn}
 use Rattle.machine.specs.View.{View, view, Occupied, Absent}
 use Rattle.machine.specs.Invariant.{Invariant, mapOf}

@@ -1,9 +1,9 @@
 -- Effects on the records alone keep the invariant: a pin more or less, and the usage counts and the hand that a sweep leaves.
 use mathlib.Core.Path.{_≡_, refl, sym, ap, _∙_}
 use mathlib.Core.Logic.{_≢_}
-use mathlib.Core.Bool.{Bool, true, false}
+use mathlib.Core.Bool.{false}
 use mathlib.Core.List.{List}
-use Prim.Native.Nat.{ℕ, _+_, _-_, _≤_, _<_}
+use Prim.Native.Nat.{ℕ, _≤_, _<_}
 use native.Mathlib.Omega.{arith}
 use lib.ListN.{length, length-set}
 use Rattle.page.specs.Figures.{recordCount, maxUsage, maxPins}
@@ -17,7 +17,7 @@ use Rattle.machine.specs.Calls.{changeRecord}
 use Rattle.machine.specs.History.{Balance, Point, fixedIn, unfixed}
 use Rattle.machine.specs.View.{View, view, Occupied}
 use Rattle.machine.specs.Invariant.{NeatRecord, Neat, Pins, Invariant, mapOf}
-use Rattle.machine.specs.KeepEffect.{Steady, Kept, kept-shape, kept-content, Quiet, quiet-rewritten}
+use Rattle.machine.specs.KeepEffect.{Steady, Kept, kept-shape, kept-content, quiet-rewritten}
 use Rattle.machine.specs.PinsEffect.{pins-kept, pins-pinned, pins-unpinned}
 use Rattle.machine.specs.RecordChange.{SamePlace, change-here, change-other, change-same, change-steady, neat-change, neat-place, record-lt}
 

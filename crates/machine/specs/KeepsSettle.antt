@@ -1,31 +1,30 @@
 -- Settle keeps the invariant, and the store is then the map.
 use mathlib.Core.Path.{_≡_, refl, sym, ap, _∙_}
-use mathlib.Core.Logic.{_≢_}
-use mathlib.Core.Bool.{Bool, true, false}
+use mathlib.Core.Bool.{true, false}
 use mathlib.Core.List.{List}
 use Prim.Native.Nat.{ℕ, zero, suc, _*_, _≤_, _<_}
 use native.Mathlib.Omega.{arith}
 use native.Mathlib.Nat.{le-refl}
 use native.Mathlib.Decide.{ℕ-discrete, decLt}
 use lib.ListN.{length, length-set}
-use Rattle.page.specs.Figures.{pageSize, slotCount, payloadStart, wordRadix, swizzleBit}
+use Rattle.page.specs.Figures.{pageSize, slotCount, payloadStart, wordRadix}
 use Rattle.page.specs.Page.{slot, byte}
 use Rattle.page.specs.Octets.{Octets, buffer-ext}
 use Rattle.machine.specs.declared.FrameRecord.{FrameRecord}
 use Rattle.machine.specs.declared.Pool.{Pool}
-use Rattle.machine.specs.TestLaws.{clash, Case, case, on, off}
-use Rattle.machine.specs.Machine.{State, blank, recordAt, pageIn, cleaned, withRecords, found}
+use Rattle.machine.specs.TestLaws.{clash, case, on, off}
+use Rattle.machine.specs.Machine.{State, recordAt, cleaned, withRecords, found}
 use Rattle.machine.specs.AgreementFacts.{occupied-used, make-occupied}
 use Rattle.machine.specs.Moves.{plain, writtenOut, writtenOutTo, cleanedTo, settled}
 use Rattle.machine.specs.History.{Point}
 use Rattle.machine.specs.View.{View, view, Occupied, Absent, Content}
 use Rattle.machine.specs.Invariant.{NeatRecord, Neat, Invariant, mapOf}
-use Rattle.machine.specs.KeepEffect.{Steady, Kept, kept-shape, steady-was, steady-plain}
+use Rattle.machine.specs.KeepEffect.{Kept, kept-shape, steady-was, steady-plain}
 use Rattle.machine.specs.PinsEffect.{pins-kept}
 use Rattle.machine.specs.MoveLaws.{writtenOutTo-length}
 use Rattle.machine.specs.FoundLaws.{found-holds, found-none}
 use Rattle.machine.specs.WriteOut.{out-octets, out-wordStays, out-byteStays, out-word, out-byte}
-use Rattle.machine.specs.RecordChange.{change-same, neat-change, record-lt, lengths-kept}
+use Rattle.machine.specs.RecordChange.{change-same, neat-change, lengths-kept}
 use Rattle.machine.specs.KeepsEvict.{plain-lt}
 
 -- ---- the records marked clean

@@ -1,25 +1,24 @@
 -- Payload bytes put into a resident page keep the invariant.
 use mathlib.Core.Path.{_≡_, refl, sym, ap, _∙_}
 use mathlib.Core.Logic.{_≢_}
-use mathlib.Core.Bool.{Bool, true, false}
+use mathlib.Core.Bool.{false}
 use mathlib.Core.List.{List}
 use Prim.Native.Nat.{ℕ, _+_, _≤_, _<_}
 use native.Mathlib.Decide.{ℕ-discrete}
 use lib.Dec.{eqb}
 use lib.ListN.{length, length-set}
 use borrow.Author.Tests.{eqb-true}
-use Rattle.page.specs.Figures.{pageSize, slotCount, payloadStart, payloadSize}
+use Rattle.page.specs.Figures.{pageSize, slotCount, payloadSize}
 use Rattle.page.specs.Page.{slot, byte, putPayload, putPayload-length, slot-putPayload, byte-putPayload-other, byte-putPayload-both, putPayload-none}
 use Rattle.page.specs.Octets.{Octets, octets-putPayload}
 use Rattle.machine.specs.declared.FrameRecord.{FrameRecord}
-use Rattle.machine.specs.Tests.{pick}
-use Rattle.machine.specs.TestLaws.{clash, pick-yes, pick-no, pick-either, Case, case, on, off}
+use Rattle.machine.specs.TestLaws.{clash, pick-yes, pick-no, pick-either, case, on, off}
 use Rattle.machine.specs.Machine.{State, recordAt, dirtied}
 use Rattle.machine.specs.Calls.{dirtiedBy, written}
 use Rattle.machine.specs.History.{Point}
 use Rattle.machine.specs.View.{View, view, Occupied, Map, MapSound}
-use Rattle.machine.specs.Invariant.{NeatRecord, Invariant, mapOf}
-use Rattle.machine.specs.KeepEffect.{Steady, Kept, kept-shape, kept-content, Rewritten}
+use Rattle.machine.specs.Invariant.{Invariant, mapOf}
+use Rattle.machine.specs.KeepEffect.{Kept, kept-shape, kept-content, Rewritten}
 use Rattle.machine.specs.PinsEffect.{pins-kept}
 use Rattle.machine.specs.RecordChange.{SamePlace, change-here, change-other, change-same, change-steady, neat-change, neat-place, record-lt, lengths-kept}
 

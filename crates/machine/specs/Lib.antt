@@ -30,5 +30,6 @@ pub mod KeepsLink
 pub mod KeepsEvict
 pub mod KeepsLoad
 pub mod KeepsSettle
-pub mod Keeps
 pub mod MoveLaws
+pub mod KeepsOpen
+pub mod Keeps

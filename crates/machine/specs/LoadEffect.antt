@@ -1,7 +1,7 @@
 -- A stored page comes into an empty frame, on the view; and that the page named there always fits.
 use mathlib.Core.Path.{_≡_, refl, sym, ap, _∙_}
 use mathlib.Core.Logic.{_≢_}
-use mathlib.Core.Bool.{Bool, true, false}
+use mathlib.Core.Bool.{true, false}
 use Prim.Native.Nat.{ℕ, _≤_, _<_}
 use native.Mathlib.Omega.{arith}
 use native.Mathlib.Nat.{add-left-cancel}
@@ -10,7 +10,7 @@ use Rattle.page.specs.Figures.{pageSize, slotCount, payloadStart, swizzleBit}
 use Rattle.page.specs.Word.{frameWord}
 use Rattle.machine.specs.Moves.{plain}
 use Rattle.machine.specs.TestLaws.{clash}
-use Rattle.machine.specs.View.{View, Reach, top, via, Occupied, Absent, Parent, Child, Shape, Map, Content, MapSound, plain-low, plain-high, Reading, reading, low, high}
+use Rattle.machine.specs.View.{View, Reach, top, via, Occupied, Absent, Parent, Child, Shape, Map, Content, MapSound, plain-low, plain-high, reading, low, high}
 
 -- page q comes into frame e, for slot k of frame f
 pub record Loaded (v w : View) (f k e q : ℕ) : Type 0 where

@@ -1,14 +1,12 @@
 -- The records' pins and the balance, on the view: each effect keeps them equal, and a pinned page in the frame of the answer that pinned it.
 use mathlib.Core.Path.{_≡_, refl, sym, ap, _∙_}
 use mathlib.Core.Logic.{_≢_}
-use mathlib.Core.Bool.{Bool, true, false}
-use Prim.Native.Nat.{ℕ, _+_, _-_, _≤_, _<_}
+use mathlib.Core.Bool.{true, false}
+use Prim.Native.Nat.{ℕ, _+_, _-_, _<_}
 use native.Mathlib.Omega.{arith}
 use native.Mathlib.Decide.{ℕ-discrete}
-use lib.Dec.{eqb, ltb}
 use borrow.Author.Tests.{eq-eqb, ne-eqb, ltb-true}
-use Rattle.machine.specs.Tests.{pick}
-use Rattle.machine.specs.TestLaws.{pick-yes, pick-no, pick-either, Case, case, on, off}
+use Rattle.machine.specs.TestLaws.{pick-yes, pick-no, pick-either, case, on, off}
 use Rattle.machine.specs.History.{Balance, isPinned, update, fixedIn, unfixed}
 use Rattle.machine.specs.View.{View, Occupied, Absent, Shape}
 use Rattle.machine.specs.Invariant.{Pins}

@@ -1,6 +1,6 @@
 -- A page's image goes to the store: the words and payload bytes that are then read there. Assumes nothing.
 use mathlib.Core.Path.{_≡_, refl, sym, ap, _∙_}
-use mathlib.Core.Bool.{Bool, true, false}
+use mathlib.Core.Bool.{true, false}
 use mathlib.Core.List.{List}
 use Prim.Native.Nat.{ℕ, _*_, _≤_, _<_}
 use native.Mathlib.Nat.{le-refl}
@@ -9,7 +9,7 @@ use Rattle.page.specs.Figures.{pageSize, slotCount, payloadStart, wordRadix}
 use Rattle.page.specs.Page.{slot, byte, pageOf, putPage, pageOf-length, byte-putPage-same, byte-putPage-other, slot-putPage-same, slot-putPage-other, byte-pageOf, slot-pageOf, byte-first}
 use Rattle.page.specs.Octets.{Octets, octets-pageOf, octets-putPage}
 use Rattle.machine.specs.declared.FrameRecord.{FrameRecord}
-use Rattle.machine.specs.TestLaws.{clash, pick-yes, pick-no, pick-either, Case, case, on, off}
+use Rattle.machine.specs.TestLaws.{clash, pick-yes, pick-no, pick-either, case, on, off}
 use Rattle.machine.specs.Moves.{plain, imageTo, writtenOutBy}
 use Rattle.machine.specs.MoveLaws.{image-length, octets-image, image-byte, image-slot}
 
