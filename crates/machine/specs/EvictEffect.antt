@@ -43,7 +43,7 @@ module _ (v w : View) (e : ℕ) (E : Evicted v w e) where
   pub evicted-is : (g : ℕ) → Occupied v g → g ≢ e → Occupied w g
   evicted-is g o n = record { lt = rw (E .sameF) (o .lt); on = E .used g n ∙ o .on }
 
-  pub evicted-absent : (p : ℕ) → Absent v p → Absent w p
+  evicted-absent : (p : ℕ) → Absent v p → Absent w p
   evicted-absent p a g o q = a g (evicted-was g o) (sym (E .page g (evicted-other g o)) ∙ q)
 
   pub evicted-absentWas : (p : ℕ) → Absent w p → p ≢ v .page e → Absent v p

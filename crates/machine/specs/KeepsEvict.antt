@@ -1,4 +1,4 @@
--- A page that leaves its frame keeps the invariant: the root, a pinned page and a page with a swizzled word apart.
+-- A page that leaves its frame keeps the invariant, where it is not the root, not pinned and without a swizzled word.
 use mathlib.Core.Path.{_≡_, refl, sym, ap, _∙_}
 use mathlib.Core.Logic.{_≢_}
 use mathlib.Core.List.{List}
@@ -12,21 +12,14 @@ use Rattle.machine.specs.declared.FrameRecord.{FrameRecord}
 use Rattle.machine.specs.Machine.{State, blank, recordAt}
 use Rattle.machine.specs.Moves.{plain, evicted}
 use Rattle.machine.specs.History.{Point}
-use Rattle.machine.specs.View.{View, view, Occupied, Parent, Shape, plain-low, plain-high, reading, low, high}
+use Rattle.machine.specs.View.{View, view, Occupied, Parent}
 use Rattle.machine.specs.Invariant.{Invariant, mapOf}
 use Rattle.machine.specs.EvictEffect.{Evicted, evict-shape, evict-content}
 use Rattle.machine.specs.PinsEffect.{pins-evicted}
 use Rattle.machine.specs.MoveLaws.{writtenOutBy-length}
-use Rattle.machine.specs.WriteOut.{out-octets, out-wordStays, out-byteStays, out-word, out-byte}
+use Rattle.machine.specs.WriteOut.{out-octets, out-wordStays, out-byteStays, out-word, out-byte, plain-lt}
+use Rattle.machine.specs.SlotChange.{slot-putSlot-other}
 use Rattle.machine.specs.RecordChange.{change-here, change-other, neat-blank, neat-change, record-lt, lengths-kept}
-use Rattle.machine.specs.KeepsLink.{slot-putSlot-other}
-
--- a resident page's words all stand for numbers below N
-pub plain-lt : (v : View) → Shape v → (f k : ℕ) → Occupied v f → k < slotCount → plain (v .page) (v .word f k) < v .N
-plain-lt v S f k o hk = elim (reading (v .word f k)) [
-  | low l ↦ rw (plain-low (v .page) _ l) (S .numberLt f k o hk l)
-  | high g q ↦ rw (q, plain-high (v .page) g) (S .pageLt g (S .child f k g o hk q .occupied))
-]
 
 module _ (x : Point) (I : Invariant x) (f : ℕ) (of : Occupied (view (x .now)) f) (nz : f ≢ 0) where
   abbrev s : State

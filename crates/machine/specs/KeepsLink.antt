@@ -4,10 +4,9 @@ use mathlib.Core.Logic.{_≢_}
 use mathlib.Core.List.{List}
 use Prim.Native.Nat.{ℕ, _*_, _<_}
 use native.Mathlib.Omega.{arith}
-use native.Mathlib.Decide.{ℕ-discrete}
 use lib.ListN.{length, length-set}
 use Rattle.page.specs.Figures.{pageSize, slotCount, wordRadix, swizzleBit}
-use Rattle.page.specs.Page.{slot, putSlot, putSlot-length, slot-putSlot-same, slot-putSlot-slot, slot-putSlot-page, byte-putSlot}
+use Rattle.page.specs.Page.{slot, putSlot, putSlot-length, slot-putSlot-same, slot-putSlot-page, byte-putSlot}
 use Rattle.page.specs.Octets.{octets-putSlot}
 use Rattle.machine.specs.declared.FrameRecord.{FrameRecord}
 use Rattle.machine.specs.Machine.{State, recordAt, dirtied}
@@ -17,14 +16,8 @@ use Rattle.machine.specs.View.{View, view, Occupied}
 use Rattle.machine.specs.Invariant.{Invariant, mapOf}
 use Rattle.machine.specs.LinkEffect.{Linked, MapLinked, Unnamed, link-sound, link-shape, link-content}
 use Rattle.machine.specs.PinsEffect.{pins-kept}
+use Rattle.machine.specs.SlotChange.{slot-putSlot-other}
 use Rattle.machine.specs.RecordChange.{SamePlace, change-here, change-other, change-same, change-steady, neat-change, neat-place, record-lt, lengths-kept}
-
--- a word of another slot, whichever page it is in
-pub slot-putSlot-other : (b : List ℕ) (p k w q j : ℕ) → k < slotCount → j < slotCount → j ≢ k → slot (putSlot b p k w) q j ≡ slot b q j
-slot-putSlot-other b p k w q j hk hj n = elim (ℕ-discrete q p) [
-  | yes e ↦ rw e (slot-putSlot-slot b p k w j (λ z. n (sym z)))
-  | no e ↦ slot-putSlot-page b p k w q j hk hj (λ z. e (sym z))
-]
 
 -- the map with the word y in slot k of page p
 map-linked : (m : List ℕ) (N p k y : ℕ) → length m ≡ pageSize * N → p < N → k < slotCount → y < wordRadix → MapLinked (mapOf m) (mapOf (putSlot m p k y)) N p k y

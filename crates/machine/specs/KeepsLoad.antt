@@ -16,10 +16,10 @@ use Rattle.machine.specs.Moves.{loaded}
 use Rattle.machine.specs.History.{Point, fixedIn}
 use Rattle.machine.specs.View.{View, view, Occupied, Absent}
 use Rattle.machine.specs.Invariant.{Invariant, mapOf}
-use Rattle.machine.specs.LoadEffect.{Loaded, Fits, absent-fits, load-shape, load-content}
+use Rattle.machine.specs.LoadEffect.{Loaded, Fits, absent-fits, empty-other, load-shape, load-content}
 use Rattle.machine.specs.PinsEffect.{pins-loaded}
+use Rattle.machine.specs.SlotChange.{slot-putSlot-other}
 use Rattle.machine.specs.RecordChange.{change-here, change-other, neat-change, record-lt, lengths-kept}
-use Rattle.machine.specs.KeepsLink.{slot-putSlot-other}
 
 module _ (x : Point) (I : Invariant x) where
   abbrev s : State
@@ -51,9 +51,8 @@ module _ (x : Point) (I : Invariant x) where
     qFits : Fits v q
     qFits = rw names at (always-fits f k of hk (rw names low) (rw names nz))
 
-    -- an occupied frame isn't e
     other : (g : ℕ) → Occupied v g → g ≢ e
-    other g o z = clash (sym (o .on) ∙ ap (v .used) z ∙ free)
+    other = empty-other v e free
 
     page : List ℕ
     page = pageOf (s .store) q
@@ -75,7 +74,7 @@ module _ (x : Point) (I : Invariant x) where
     betweenWord g j n hj = slot-putPage-other (s .frames) e page _ g j (I .sized .frames) pageLength eF (λ z. n (sym z)) hj
 
     -- what is done to the view
-    pub load-effect : Loaded v (view (loaded s f k e q)) f k e q
+    load-effect : Loaded v (view (loaded s f k e q)) f k e q
     unfolding loaded between page
     load-effect = record {
       sameF = refl;

@@ -36,7 +36,7 @@ once-of st N t p k q j hp hk hq hj n e =
     (both _ _ (ap not (ne-eqb _ 0 n)) (eq-eqb _ _ e))) in
     (eqb-true p q (a .0), eqb-true k j (a .1))
 
-pub sound-map : (st : List ℕ) (N : ℕ) → sound st N ≡ true → MapSound (mapOf st) N
+sound-map : (st : List ℕ) (N : ℕ) → sound st N ≡ true → MapSound (mapOf st) N
 unfolding sound
 sound-map st N t =
     let a = and-true (wordsBelow st N) (wordsOnce st N) t in

@@ -23,9 +23,8 @@ use Rattle.machine.specs.KeepEffect.{Kept, kept-shape, steady-was, stead
 use Rattle.machine.specs.PinsEffect.{pins-kept}
 use Rattle.machine.specs.MoveLaws.{writtenOutTo-length}
 use Rattle.machine.specs.FoundLaws.{found-holds, found-none}
-use Rattle.machine.specs.WriteOut.{out-octets, out-wordStays, out-byteStays, out-word, out-byte}
+use Rattle.machine.specs.WriteOut.{out-octets, out-wordStays, out-byteStays, out-word, out-byte, plain-lt}
 use Rattle.machine.specs.RecordChange.{change-same, neat-change, lengths-kept}
-use Rattle.machine.specs.KeepsEvict.{plain-lt}
 
 -- ---- the records marked clean
 

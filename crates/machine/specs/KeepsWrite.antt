@@ -23,7 +23,7 @@ use Rattle.machine.specs.PinsEffect.{pins-kept}
 use Rattle.machine.specs.RecordChange.{SamePlace, change-here, change-other, change-same, change-steady, neat-change, neat-place, record-lt, lengths-kept}
 
 -- a map with the same words is as sound
-pub same-sound : (m n : Map) (N : ℕ) → ((p k : ℕ) → p < N → k < slotCount → n .mapWord p k ≡ m .mapWord p k) → MapSound m N → MapSound n N
+same-sound : (m n : Map) (N : ℕ) → ((p k : ℕ) → p < N → k < slotCount → n .mapWord p k ≡ m .mapWord p k) → MapSound m N → MapSound n N
 same-sound m n N same S = record {
   below = λ p k hp hk. rw (same p k hp hk) (S .below p k hp hk);
   once = λ p k q j hp hk hq hj z e. S .once p k q j hp hk hq hj (rw (same p k hp hk) at z) (sym (same p k hp hk) ∙ e ∙ same q j hq hj);

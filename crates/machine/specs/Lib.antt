@@ -24,6 +24,7 @@ pub mod LinkEffect
 pub mod PinsEffect
 pub mod WriteOut
 pub mod RecordChange
+pub mod SlotChange
 pub mod KeepsRecords
 pub mod KeepsWrite
 pub mod KeepsLink

@@ -68,10 +68,10 @@ module _ (m n : Map) (N p k y : ℕ) (M : MapLinked m n N p k y) where
 -- ---- what the map doesn't name, no resident page's image names, and it isn't resident
 
 module _ (v : View) (m : Map) (S : Shape v) (C : Content v m) (y : ℕ) (fresh : Unnamed m (v .N) y) (nz : y ≢ 0) where
-  pub unnamed-image : (g i : ℕ) → Occupied v g → i < slotCount → plain (v .page) (v .word g i) ≢ y
+  unnamed-image : (g i : ℕ) → Occupied v g → i < slotCount → plain (v .page) (v .word g i) ≢ y
   unnamed-image g i o hi q = fresh nz (v .page g) i (S .pageLt g o) hi (sym (C .frameWord g i o hi) ∙ q)
 
-  pub unnamed-absent : Absent v y
+  unnamed-absent : Absent v y
   unnamed-absent g o q = elim (ℕ-discrete g 0) [
     | yes z ↦ nz (sym q ∙ ap (v .page) z ∙ S .rootPage)
     | no z ↦ let P : Parent v g = S .parent g o z in

@@ -55,12 +55,13 @@ absent-fits v m S C M q hq a = record {
     stored : (j : ℕ) → j < slotCount → v .storeWord q j ≡ m .mapWord q j
     stored j hj = C .absentWord q j hq a hj
 
-module _ (v w : View) (f k e q : ℕ) (L : Loaded v w f k e q) (eF : e < v .F) (free : v .used e ≡ false) where
-  pub loaded-other : (g : ℕ) → Occupied v g → g ≢ e
-  loaded-other g o z = clash (sym (o .on) ∙ ap (v .used) z ∙ free)
+-- an occupied frame isn't the empty frame e
+pub empty-other : (v : View) (e : ℕ) → v .used e ≡ false → (g : ℕ) → Occupied v g → g ≢ e
+empty-other v e free g o z = clash (sym (o .on) ∙ ap (v .used) z ∙ free)
 
-  pub loaded-is : (g : ℕ) → Occupied v g → Occupied w g
-  loaded-is g o = record { lt = rw (L .sameF) (o .lt); on = L .used g (loaded-other g o) ∙ o .on }
+module _ (v w : View) (f k e q : ℕ) (L : Loaded v w f k e q) (eF : e < v .F) (free : v .used e ≡ false) where
+  loaded-is : (g : ℕ) → Occupied v g → Occupied w g
+  loaded-is g o = record { lt = rw (L .sameF) (o .lt); on = L .used g (empty-other v e free g o) ∙ o .on }
 
   pub loaded-here : Occupied w e
   loaded-here = record { lt = rw (L .sameF) eF; on = L .usedE }
@@ -69,7 +70,7 @@ module _ (v w : View) (f k e q : ℕ) (L : Loaded v w f k e q) (eF : e < v .F) (
   loaded-was g o n = record { lt = (rw (L .sameF) at (o .lt)); on = sym (L .used g n) ∙ o .on }
 
   pub loaded-absentWas : (p : ℕ) → Absent w p → Absent v p
-  loaded-absentWas p a g o z = a g (loaded-is g o) (L .page g (loaded-other g o) ∙ z)
+  loaded-absentWas p a g o z = a g (loaded-is g o) (L .page g (empty-other v e free g o) ∙ z)
 
 module _ (v w : View) (f k e q : ℕ) (S : Shape v) (L : Loaded v w f k e q) (of : Occupied v f) (hk : k < slotCount)
     (eF : e < v .F) (free : v .used e ≡ false) (names : v .word f k ≡ q) (low′ : q < swizzleBit) (nz : q ≢ 0) (T : Fits v q) where
@@ -80,7 +81,7 @@ module _ (v w : View) (f k e q : ℕ) (S : Shape v) (L : Loaded v w f k e q) (of
   qAbsent = rw names at (S .numberAbsent f k of hk (rw names low′) (rw names nz))
 
   other : (g : ℕ) → Occupied v g → g ≢ e
-  other = loaded-other v w f k e q L eF free
+  other = empty-other v e free
 
   is : (g : ℕ) → Occupied v g → Occupied w g
   is = loaded-is v w f k e q L eF free

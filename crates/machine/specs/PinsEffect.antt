@@ -16,20 +16,20 @@ use Rattle.machine.specs.LoadEffect.{Loaded, loaded-here, loaded-was, lo
 
 -- ---- a function with another value at one place
 
-pub update-same : (t : ℕ → ℕ) (p x : ℕ) → update t p x p ≡ x
+update-same : (t : ℕ → ℕ) (p x : ℕ) → update t p x p ≡ x
 unfolding update
 update-same t p x = sym (pick-yes (t p) (eq-eqb p p refl) refl)
 
-pub update-other : (t : ℕ → ℕ) (p x q : ℕ) → q ≢ p → update t p x q ≡ t q
+update-other : (t : ℕ → ℕ) (p x q : ℕ) → q ≢ p → update t p x q ≡ t q
 unfolding update
 update-other t p x q n = sym (pick-no x (ne-eqb q p n) refl)
 
 -- ---- the frame of the answer that pinned a page
 
-pub fixed-frame-other : (f p : ℕ) (b : Balance) (q : ℕ) → q ≢ p → fixedIn f p b .frame q ≡ b .frame q
+fixed-frame-other : (f p : ℕ) (b : Balance) (q : ℕ) → q ≢ p → fixedIn f p b .frame q ≡ b .frame q
 fixed-frame-other f p b q n = pick-either (λ (t : ℕ → ℕ). t q ≡ b .frame q) (isPinned b p) (b .frame) (update (b .frame) p f) refl (update-other (b .frame) p f q n)
 
-pub fixed-frame-same : (f p : ℕ) (b : Balance) → (isPinned b p ≡ true → b .frame p ≡ f) → fixedIn f p b .frame p ≡ f
+fixed-frame-same : (f p : ℕ) (b : Balance) → (isPinned b p ≡ true → b .frame p ≡ f) → fixedIn f p b .frame p ≡ f
 fixed-frame-same f p b h = elim (case (isPinned b p)) [
   | on e ↦ ap (λ (t : ℕ → ℕ). t p) (sym (pick-yes (update (b .frame) p f) e refl)) ∙ h e
   | off e ↦ ap (λ (t : ℕ → ℕ). t p) (sym (pick-no (b .frame) e refl)) ∙ update-same (b .frame) p f

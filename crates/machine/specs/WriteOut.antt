@@ -11,6 +11,7 @@ use Rattle.page.specs.Octets.{Octets, octets-pageOf, octets-putPage}
 use Rattle.machine.specs.declared.FrameRecord.{FrameRecord}
 use Rattle.machine.specs.TestLaws.{clash, pick-yes, pick-no, pick-either, case, on, off}
 use Rattle.machine.specs.Moves.{plain, imageTo, writtenOutBy}
+use Rattle.machine.specs.View.{View, Occupied, Shape, plain-low, plain-high, reading, low, high}
 use Rattle.machine.specs.MoveLaws.{image-length, octets-image, image-byte, image-slot}
 
 -- the image of the page in frame f goes to the store, by its record r
@@ -63,3 +64,10 @@ module _ (page : ℕ → ℕ) (r : FrameRecord) (fs st : List ℕ) (f : ℕ) whe
       out-byte i h l =
           ap (λ (b : List ℕ). byte b (r .page .0) i) (out-dirty d) ∙ byte-putPage-same st (r .page .0) _ N i ls imageLength hp l
           ∙ sym (byte-first _ i) ∙ image-byte page (pageOf fs f) slotCount i (le-refl slotCount) h l ∙ byte-pageOf fs f i l
+
+-- a resident page's words all stand for numbers below N
+pub plain-lt : (v : View) → Shape v → (f k : ℕ) → Occupied v f → k < slotCount → plain (v .page) (v .word f k) < v .N
+plain-lt v S f k o hk = elim (reading (v .word f k)) [
+  | low l ↦ rw (plain-low (v .page) _ l) (S .numberLt f k o hk l)
+  | high g q ↦ rw (q, plain-high (v .page) g) (S .pageLt g (S .child f k g o hk q .occupied))
+]
