@@ -21,6 +21,27 @@ use Rattle.machine.specs.KeepEffect.{Steady, Kept, kept-shape, kept-cont
 use Rattle.machine.specs.PinsEffect.{pins-kept, pins-pinned, pins-unpinned}
 use Rattle.machine.specs.RecordChange.{SamePlace, change-here, change-other, change-same, change-steady, neat-change, neat-place, record-lt}
 
+-- a record that a sweep cooled is as neat: an empty frame's stays blank
+cooler-neat : (f : ℕ) (r q : FrameRecord) → Cooler r q → NeatRecord f r → NeatRecord f q
+cooler-neat f r q c n = record {
+  usage = omega (arith, c .usage, n .usage);
+  pins = rw (c .pins) (n .pins);
+  empty = λ e. blanked (n .empty (sym (c .used) ∙ e));
+  rootParent = λ z. ap (λ i. i .0) (c .parent) ∙ n .rootParent z;
+  rootSlot = λ z. c .slot ∙ n .rootSlot z;
+}
+  where
+    blanked : r ≡ blank → q ≡ blank
+    blanked e =
+        let u : q .used ≡ false = c .used ∙ ap (λ t. t .used) e in
+        let d : q .dirty ≡ false = c .dirty ∙ ap (λ t. t .dirty) e in
+        let h : q .usage ≡ 0 = omega (arith, c .usage, ap (λ (t : FrameRecord). t .usage) e) in
+        let l : q .slot ≡ 0 = c .slot ∙ ap (λ t. t .slot) e in
+        let a : q .parent ≡ blank .parent = c .parent ∙ ap (λ t. t .parent) e in
+        let b : q .pins ≡ 0 = c .pins ∙ ap (λ t. t .pins) e in
+        let g : q .page ≡ blank .page = c .page ∙ ap (λ t. t .page) e in
+        λ i. record { used = u i; dirty = d i; usage = h i; slot = l i; parent = a i; pins = b i; page = g i }
+
 module _ (x : Point) (I : Invariant x) where
   abbrev s : State
   s = x .now
@@ -58,7 +79,7 @@ module _ (x : Point) (I : Invariant x) where
     lt : f < length rs
     lt = record-lt x I f (of .lt)
 
-    -- the record r in place of frame f's
+    -- the record r in place of frame f's, where its pins are the balance b's: those of f are r's, the others as they were
     repinned : (r : FrameRecord) → SamePlace (recordAt rs f) r → r .dirty ≡ v .dirty f → r .usage ≤ maxUsage → r .pins ≤ maxPins → (b : Balance)
         → (Steady v (view (withPool s (withRecord (s .pool) f r))) → recordAt (withRecord (s .pool) f r .records) f .pins ≡ r .pins
         → ((g : ℕ) → g ≢ f → recordAt (withRecord (s .pool) f r .records) g .pins ≡ v .pins g) → Pins (view (withPool s (withRecord (s .pool) f r))) b)
@@ -82,26 +103,6 @@ module _ (x : Point) (I : Invariant x) where
   -- ---- what a sweep leaves
 
   module _ (w : Swept) (C : Cooled (s .pool .count) rs w) where
-    cooler-neat : (f : ℕ) (r q : FrameRecord) → Cooler r q → NeatRecord f r → NeatRecord f q
-    cooler-neat f r q c n = record {
-      usage = omega (arith, c .usage, n .usage);
-      pins = rw (c .pins) (n .pins);
-      empty = λ e. blanked (n .empty (sym (c .used) ∙ e));
-      rootParent = λ z. ap (λ i. i .0) (c .parent) ∙ n .rootParent z;
-      rootSlot = λ z. c .slot ∙ n .rootSlot z;
-    }
-      where
-        blanked : r ≡ blank → q ≡ blank
-        blanked e =
-            let u : q .used ≡ false = c .used ∙ ap (λ t. t .used) e in
-            let d : q .dirty ≡ false = c .dirty ∙ ap (λ t. t .dirty) e in
-            let h : q .usage ≡ 0 = omega (arith, c .usage, ap (λ (t : FrameRecord). t .usage) e) in
-            let l : q .slot ≡ 0 = c .slot ∙ ap (λ t. t .slot) e in
-            let a : q .parent ≡ blank .parent = c .parent ∙ ap (λ t. t .parent) e in
-            let b : q .pins ≡ 0 = c .pins ∙ ap (λ t. t .pins) e in
-            let g : q .page ≡ blank .page = c .page ∙ ap (λ t. t .page) e in
-            λ i. record { used = u i; dirty = d i; usage = h i; slot = l i; parent = a i; pins = b i; page = g i }
-
     pub sweep-keeps : Invariant (record { now = withPool s (withSwept (s .pool) w); map = x .map; balance = x .balance })
     sweep-keeps = repooled (withSwept (s .pool) w) K (C .size ∙ I .records)
         (record {

@@ -9,7 +9,6 @@ use native.Mathlib.Decide.{ℕ-discrete}
 use lib.ListN.{length, set}
 use lib.Seq.{getD-set-same, getD-set-other}
 use Rattle.page.specs.Figures.{maxUsage, maxPins}
-use Rattle.page.specs.Page.{slot}
 use Rattle.machine.specs.declared.FrameRecord.{FrameRecord}
 use Rattle.machine.specs.declared.Pool.{Pool}
 use Rattle.machine.specs.TestLaws.{clash}
@@ -64,7 +63,7 @@ neat-change p f r l hf n N = record {
   beyond = λ g h. rw (change-other (p .records) f r g (omega arith)) (N .beyond g h);
 }
 
--- an occupied frame's
+-- an occupied frame's record, with other pins and usage
 pub neat-place : (f : ℕ) (r t : FrameRecord) → r .used ≡ true → SamePlace r t → t .usage ≤ maxUsage → t .pins ≤ maxPins → NeatRecord f r → NeatRecord f t
 neat-place f r t u P hu hp n = record {
   usage = hu;
@@ -80,5 +79,6 @@ neat-place f r t u P hu hp n = record {
 pub record-lt : (x : Point) → Invariant x → (f : ℕ) → f < x .now .pool .count → f < length (x .now .pool .records)
 record-lt x I f h = omega (arith, I .records, I .shape .most)
 
+-- buffers of the same lengths fit as well
 pub lengths-kept : {F N : ℕ} {fs st : List ℕ} (gs tt : List ℕ) → Lengths F N fs st → length gs ≡ length fs → length tt ≡ length st → Lengths F N gs tt
 lengths-kept gs tt Z e d = record { least = Z .least; most = Z .most; some = Z .some; pages = Z .pages; frames = e ∙ Z .frames; store = d ∙ Z .store }
