@@ -15,3 +15,7 @@ pub mod History
 pub mod Demand3
 pub mod View
 pub mod Invariant
+pub mod Outcomes
+pub mod Holders
+pub mod TestReads
+pub mod InvariantReads
