@@ -20,3 +20,4 @@ pub mod Outcomes
 pub mod Holders
 pub mod TestReads
 pub mod InvariantReads
+pub mod SweepLaws
