@@ -1,5 +1,5 @@
 -- The invariant makes every test that the calls compute what it should be. Assumes nothing.
-use Prim.Native.Nat.{ℕ, _+_, _*_, _-_, _<_, _≤_}
+use Prim.Native.Nat.{ℕ, suc, _+_, _*_, _-_, _<_, _≤_}
 use mathlib.Core.Path.{_≡_, refl, sym, _∙_, ap}
 use mathlib.Core.Logic.{_≢_}
 use mathlib.Core.Bool.{Bool, true, false, not}
@@ -16,7 +16,8 @@ use Rattle.machine.specs.declared.Handle.{Handle}
 use Rattle.machine.specs.Tests.{pick, _and_, _or_, every, some, Rule, firstBroken}
 use Rattle.machine.specs.TestLaws.{clash, Case, case, on, off, is-off, and-true, both, or-left, or-right, every-true, true-every, some-true, true-some, some-false, false-some, pick-yes, pick-no, kept-then}
 use Rattle.machine.specs.Machine.{State, recordAt, pageIn, occupied, found, blank}
-use Rattle.machine.specs.Agreement.{isBlank, reachesRoot, agree}
+use Rattle.machine.specs.Agreement.{parentOf, isBlank, reachesRoot, agree}
+use Rattle.machine.specs.Parents.{climb, climb-reach}
 use Rattle.machine.specs.AgreementFacts.{occupied-lt, occupied-used, make-occupied, Points, InRange, Agreed, tests}
 use Rattle.machine.specs.Moves.{plain}
 use Rattle.machine.specs.Naming.{currentWord, named, namedByResident, repeated, wordLoadable, loadable}
@@ -24,10 +25,10 @@ use Rattle.machine.specs.Sweep.{childless, isOpen}
 use Rattle.machine.specs.Rules.{lengthsFit, handleFits, rule1, rule2}
 use Rattle.machine.specs.Calls.{poolRules}
 use Rattle.machine.specs.Ready.{Lengths, of-lengths}
-use Rattle.machine.specs.View.{View, view, Occupied, Absent, Parent, Child, Shape, Map, Content, MapSound, plain-low, plain-high, Reading, reading, low, high}
+use Rattle.machine.specs.View.{View, view, Reach, top, via, Occupied, Absent, Parent, Child, Shape, Map, Content, MapSound, plain-low, plain-high, Reading, reading, low, high}
 use Rattle.machine.specs.History.{Point}
 use Rattle.machine.specs.Invariant.{NeatRecord, Neat, Invariant, mapOf}
-use Rattle.machine.specs.Holders.{Holder, Place, place, held, unheld, holder-found, absent-found}
+use Rattle.machine.specs.Holders.{occupied-of, of-occupied, Holder, holder-found, absent-found}
 
 -- a blank record passes its test
 blank-is : (r : FrameRecord) → r ≡ blank → isBlank r ≡ true
@@ -35,13 +36,6 @@ unfolding isBlank _and_
 blank-is r e = rw e refl
 
 module _ (x : Point) (I : Invariant x) where
-  -- ---- the two readings of 'occupied'
-  pub occupied-of : (f : ℕ) → occupied (x .now .pool) f ≡ true → Occupied (view (x .now)) f
-  occupied-of f t = record { lt = occupied-lt _ f t; on = occupied-used _ f t }
-
-  pub of-occupied : (f : ℕ) → Occupied (view (x .now)) f → occupied (x .now .pool) f ≡ true
-  of-occupied f o = make-occupied _ f (o .lt) (o .on)
-
   -- a record that is no occupied frame's is blank
   pub blank-record : (f : ℕ) → occupied (x .now .pool) f ≡ false → recordAt (x .now .pool .records) f ≡ blank
   blank-record f t = elim (decLt f (x .now .pool .count)) [
@@ -66,36 +60,48 @@ module _ (x : Point) (I : Invariant x) where
   in-ranges : (f : ℕ) → InRange (x .now .pool) (recordAt (x .now .pool .records) f)
   in-ranges f = elim (case (occupied (x .now .pool) f)) [
     | off t ↦ blank-range _ (blank-record f t)
-    | on t ↦ elim (ℕ-discrete f 0) [ yes z ↦ rw z root-range | no z ↦ other-range f (occupied-of f t) z ]
+    | on t ↦ elim (ℕ-discrete f 0) [ yes z ↦ rw z root-range | no z ↦ other-range f (occupied-of (x .now) f t) z ]
   ]
 
   points : (f k : ℕ) → Occupied (view (x .now)) f → k < slotCount → swizzleBit ≤ slot (x .now .frames) f k → Points (x .now .pool) (frameIn (slot (x .now .frames) f k)) f k
   points f k o h l =
       let C : Child (view (x .now)) f k (frameIn (slot (x .now .frames) f k)) = I .shape .child f k (frameIn (slot (x .now .frames) f k)) o h (omega arith) in
-      record { at = of-occupied _ (C .occupied); other = C .notRoot; parent = C .back; parentSlot = C .backSlot }
+      record { at = of-occupied (x .now) _ (C .occupied); other = C .notRoot; parent = C .back; parentSlot = C .backSlot }
 
-  agreed : ((f : ℕ) → Occupied (view (x .now)) f → reachesRoot (x .now .pool) (x .now .pool .count) f ≡ true) → Agreed (x .now .pool) (x .now .frames)
-  agreed reach = record {
-    root = of-occupied 0 (I .shape .root);
+  parents-below : (f : ℕ) → f < x .now .pool .count → parentOf (x .now .pool) f < x .now .pool .count
+  parents-below f l = in-ranges f .parent
+
+  steps : (f : ℕ) → Reach (view (x .now)) f → (n : ℕ) × (climb (parentOf (x .now .pool)) n f ≡ 0)
+  unfolding climb
+  steps f top = (0, refl)
+  steps f (via r) = let a = steps (parentOf (x .now .pool) f) r in (suc (a .0), a .1)
+
+  agreed : Agreed (x .now .pool) (x .now .frames)
+  agreed = record {
+    root = of-occupied (x .now) 0 (I .shape .root);
     rootPage = I .shape .rootPage;
     rootParent = I .neat .at 0 .rootParent refl;
     rootSlot = I .neat .at 0 .rootSlot refl;
-    apart = λ f g of og e. I .shape .apart f g (occupied-of f of) (occupied-of g og) e;
+    apart = λ f g of og e. I .shape .apart f g (occupied-of (x .now) f of) (occupied-of (x .now) g og) e;
     hand = I .neat .hand;
     inRange = λ f l. in-ranges f;
     blank = λ f l t. blank-is _ (blank-record f t);
-    parent = λ f o n. of-occupied _ (I .shape .parent f (occupied-of f o) n .occupied);
-    parentWord = λ f o n. I .shape .parent f (occupied-of f o) n .names;
-    back = λ f k o h l. points f k (occupied-of f o) h l;
-    below = λ f k o h l n. I .shape .numberLt f k (occupied-of f o) h l;
-    away = λ f k o h l n g og. I .shape .numberAbsent f k (occupied-of f o) h l n g (occupied-of g og);
-    once = λ f k g j of hk og hj n l e. I .shape .once f k g j (occupied-of f of) hk (occupied-of g og) hj e n l;
-    reach = λ f o. reach f (occupied-of f o);
+    parent = λ f o n. of-occupied (x .now) _ (I .shape .parent f (occupied-of (x .now) f o) n .occupied);
+    parentWord = λ f o n. I .shape .parent f (occupied-of (x .now) f o) n .names;
+    back = λ f k o h l. points f k (occupied-of (x .now) f o) h l;
+    below = λ f k o h l n. I .shape .numberLt f k (occupied-of (x .now) f o) h l;
+    away = λ f k o h l n g og. I .shape .numberAbsent f k (occupied-of (x .now) f o) h l n g (occupied-of (x .now) g og);
+    once = λ f k g j of hk og hj n l e. I .shape .once f k g j (occupied-of (x .now) f of) hk (occupied-of (x .now) g og) hj e n l;
+    reach = λ f o. climb-reach (x .now .pool) (x .now .pool .count) parents-below f (occupied-lt _ f o) (steps f (I .shape .reach f (occupied-of (x .now) f o)));
   }
 
   -- ---- rule 1
   pub lengths-fit : lengthsFit (x .now .pool .count) (x .now .pool .pages) (x .now .frames) (x .now .store) ≡ true
   lengths-fit = of-lengths _ _ _ _ (I .sized)
+
+  -- rules 1 and 2 are never broken, so that those after them decide
+  pub unbroken : (rs : List Rule) → firstBroken (rule1 (x .now) ∷ rule2 (x .now) ∷ rs) ≡ firstBroken rs
+  unbroken rs = kept-then 1 _ lengths-fit ∙ kept-then 2 rs (tests _ _ agreed)
 
   -- ---- the word in a slot of any page: rule 9
   pub current-word : (p k : ℕ) → p < x .now .pool .pages → k < slotCount → currentWord (x .now) p k ≡ slot (x .map) p k
@@ -130,7 +136,7 @@ module _ (x : Point) (I : Invariant x) where
     unfolding namedByResident
     not-named k hk n = false-some (x .now .pool .count) _ (λ f l. is-off _ (λ t.
         let a = and-true (occupied (x .now .pool) f) _ t in
-        let o : Occupied (view (x .now)) f = occupied-of f (a .0) in
+        let o : Occupied (view (x .now)) f = occupied-of (x .now) f (a .0) in
         let b = some-true slotCount _ (a .1) in
         away f o (same-place k (view (x .now) .page f) (b .0) hk n (I .shape .pageLt f o) (b .1) (sym (I .content .frameWord f (b .0) o (b .1)) ∙ eqb-true _ _ (b .2)) .0)))
 

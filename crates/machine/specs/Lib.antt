@@ -21,4 +21,8 @@ pub mod Outcomes
 pub mod Holders
 pub mod TestReads
 pub mod InvariantReads
+pub mod CallCases
+pub mod FixCases
+pub mod Residence
+pub mod PointHolds
 pub mod SweepLaws
