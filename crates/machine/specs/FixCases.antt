@@ -5,7 +5,7 @@ use mathlib.Core.Logic.{_≢_}
 use mathlib.Core.Bool.{Bool, true, false, not}
 use mathlib.Core.List.{List, [], _∷_, _++_}
 use native.Mathlib.Omega.{arith}
-use borrow.Author.Tests.{eqb-false, ltb-true, ltb-false, not-true}
+use borrow.Author.Tests.{eqb-false, lt-ltb, le-ltb, ltb-true, ltb-false, not-true}
 use lib.Dec.{eqb, ltb}
 use Rattle.page.specs.Figures.{slotCount, maxPins, swizzleBit}
 use Rattle.page.specs.Word.{isNumber, frameIn, frameWord}
@@ -57,7 +57,7 @@ pub data FixCase (s : State) (h : Handle) (k : ℕ) (o : Out) : Type 0 where
   pins : AtName s h k → (g : ℕ) → wordOf s h k ≡ frameWord g → view s .pins g ≢ maxPins → o ≡ pinnedOut s g → FixCase s h k o
   fills : AtName s h k → wordOf s h k < swizzleBit → firstEmpty (s .pool) < s .pool .count → view s .used (firstEmpty (s .pool)) ≡ false
       → o ≡ loadedOut s (h .frame .0) k (firstEmpty (s .pool)) (wordOf s h k) 0 → FixCase s h k o
-  sweeps : AtName s h k → wordOf s h k < swizzleBit → sweep (s .pool) (s .frames) .taken ≡ true
+  sweeps : AtName s h k → wordOf s h k < swizzleBit → ((f : ℕ) → f < s .pool .count → view s .used f ≡ true) → sweep (s .pool) (s .frames) .taken ≡ true
       → o ≡ sweptOut s (h .frame .0) k (wordOf s h k) (sweep (s .pool) (s .frames)) → FixCase s h k o
   refuses : (n : ℕ) → Usual n → o ≡ out (refused n) s → FixCase s h k o
 
@@ -74,18 +74,13 @@ module _ (x : Point) (I : Invariant x) (h : Handle) (k : ℕ) where
     pub loads : AtName (x .now) h k → loadable (x .now) (wordOf (x .now) h k) ≡ true
     loads A = may-load x I (wordOf (x .now) h k) (I .shape .numberLt (h .frame .0) k (A .handle .at) (A .inPage) (ltb-true _ swizzleBit t)) (stays-away A)
 
-    filled-case : (o : Out) → AtName (x .now) h k → ltb (firstEmpty (x .now .pool)) (x .now .pool .count) ≡ true → o ≡ missOut (x .now) (h .frame .0) k (wordOf (x .now) h k) → FixCase (x .now) h k o
-    unfolding missOut
-    filled-case o A l e = elim (first-empty (x .now .pool) (I .neat .hand)) [
-      | empty m u ↦ fills A (ltb-true _ swizzleBit t) m u (e ∙ sym (pick-yes _ l refl))
-      | full a m ↦ absurd (let c = ltb-true (firstEmpty (x .now .pool)) (x .now .pool .count) l in omega arith)
-    ]
-
     miss-case : (o : Out) → AtName (x .now) h k → rule15 (x .now) .1 ≡ true → o ≡ missOut (x .now) (h .frame .0) k (wordOf (x .now) h k) → FixCase (x .now) h k o
     unfolding missOut
-    miss-case o A r e = elim (case (ltb (firstEmpty (x .now .pool)) (x .now .pool .count))) [
-      | on l ↦ filled-case o A l e
-      | off l ↦ sweeps A (ltb-true _ swizzleBit t) (or-second (ltb (firstEmpty (x .now .pool)) (x .now .pool .count)) _ r l) (e ∙ sym (pick-no _ l refl))
+    miss-case o A r e = elim (first-empty (x .now .pool) (I .neat .hand)) [
+      | empty l u ↦ fills A (ltb-true _ swizzleBit t) l u (e ∙ sym (pick-yes _ (lt-ltb _ _ l) refl))
+      | full u q ↦
+          let l : ltb (firstEmpty (x .now .pool)) (x .now .pool .count) ≡ false = le-ltb (firstEmpty (x .now .pool)) (x .now .pool .count) (omega arith) in
+          sweeps A (ltb-true _ swizzleBit t) u (or-second (ltb (firstEmpty (x .now .pool)) (x .now .pool .count)) _ r l) (e ∙ sym (pick-no _ l refl))
     ]
 
     number-case : (o : Out) → Outcome (x .now) (nameRules (x .now) h k ++ loadRules (x .now) (wordOf (x .now) h k)) (missOut (x .now) (h .frame .0) k (wordOf (x .now) h k)) o → FixCase (x .now) h k o

@@ -1,5 +1,5 @@
 -- The invariant makes every test that the calls compute what it should be. Assumes nothing.
-use Prim.Native.Nat.{ℕ, suc, _+_, _*_, _-_, _<_, _≤_}
+use Prim.Native.Nat.{ℕ, suc, _+_, _*_, _-_, _/_, _<_, _≤_}
 use mathlib.Core.Path.{_≡_, refl, sym, _∙_, ap}
 use mathlib.Core.Logic.{_≢_}
 use mathlib.Core.Bool.{Bool, true, false, not}
@@ -8,7 +8,8 @@ use native.Mathlib.Omega.{arith}
 use native.Mathlib.Decide.{ℕ-discrete, decLt}
 use borrow.Author.Tests.{eqb-true, eqb-false, eq-eqb, ne-eqb, lt-ltb, le-ltb, ltb-true, ltb-false, not-true, not-false}
 use lib.Dec.{eqb, ltb, leb}
-use Rattle.page.specs.Figures.{slotCount, recordCount, maxPins, maxUsage, swizzleBit}
+use lib.ListN.{length}
+use Rattle.page.specs.Figures.{pageSize, slotCount, recordCount, maxPins, maxUsage, swizzleBit}
 use Rattle.page.specs.Word.{isNumber, frameIn, frameWord}
 use Rattle.page.specs.Page.{slot}
 use Rattle.machine.specs.declared.FrameRecord.{FrameRecord}
@@ -76,7 +77,7 @@ module _ (x : Point) (I : Invariant x) where
   steps f top = (0, refl)
   steps f (via r) = let a = steps (parentOf (x .now .pool) f) r in (suc (a .0), a .1)
 
-  agreed : Agreed (x .now .pool) (x .now .frames)
+  pub agreed : Agreed (x .now .pool) (x .now .frames)
   agreed = record {
     root = of-occupied (x .now) 0 (I .shape .root);
     rootPage = I .shape .rootPage;
@@ -98,6 +99,15 @@ module _ (x : Point) (I : Invariant x) where
   -- ---- rule 1
   pub lengths-fit : lengthsFit (x .now .pool .count) (x .now .pool .pages) (x .now .frames) (x .now .store) ≡ true
   lengths-fit = of-lengths _ _ _ _ (I .sized)
+
+  -- the same for an open on the buffers as they stand
+  pub lengths-fit-open : lengthsFit (length (x .now .frames) / pageSize) (length (x .now .store) / pageSize) (x .now .frames) (x .now .store) ≡ true
+  lengths-fit-open =
+      let lf : length (x .now .frames) ≡ pageSize * x .now .pool .count = I .sized .frames in
+      let ls : length (x .now .store) ≡ pageSize * x .now .pool .pages = I .sized .store in
+      let f : length (x .now .frames) / pageSize ≡ x .now .pool .count = omega arith in
+      let n : length (x .now .store) / pageSize ≡ x .now .pool .pages = omega arith in
+      rw (f, n) lengths-fit
 
   -- rules 1 and 2 are never broken, so that those after them decide
   pub unbroken : (rs : List Rule) → firstBroken (rule1 (x .now) ∷ rule2 (x .now) ∷ rs) ≡ firstBroken rs

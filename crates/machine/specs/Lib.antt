@@ -25,4 +25,10 @@ pub mod CallCases
 pub mod FixCases
 pub mod Residence
 pub mod PointHolds
+pub mod AnswersHold
+pub mod DeniedHolds
+pub mod SweepStep
+pub mod Steps
+pub mod HandlesHold
+pub mod Demand3Proof
 pub mod SweepLaws

@@ -43,13 +43,16 @@ lacking n ((m, true) ∷ rs) t z e = lacking n rs (and-true (not (eqb m n)) (lac
 lacking n ((m, false) ∷ rs) t z e = eqb-false m n (not-true _ (and-true (not (eqb m n)) (lacks n rs) t .0)) e
 
 -- rules tested in two parts: those of the first are kept and the second decides, or the first does
+pub kept-part : (xs ys : List Rule) → numbered xs ≡ true → firstBroken xs ≡ 0 → firstBroken (xs ++ ys) ≡ firstBroken ys
+kept-part xs ys t e = sym (broken-then xs ys t) ∙ sym (verdict-yes (λ n. n) refl e refl)
+
 pub data Parts (xs ys : List Rule) : Type 0 where
   second : firstBroken xs ≡ 0 → firstBroken (xs ++ ys) ≡ firstBroken ys → Parts xs ys
   first : firstBroken xs ≢ 0 → firstBroken (xs ++ ys) ≡ firstBroken xs → Parts xs ys
 
 pub parts : (xs ys : List Rule) → numbered xs ≡ true → Parts xs ys
 parts xs ys t = elim (ℕ-discrete (firstBroken xs) 0) [
-  | yes e ↦ second e (sym (broken-then xs ys t) ∙ sym (verdict-yes (λ n. n) refl e refl))
+  | yes e ↦ second e (kept-part xs ys t e)
   | no e ↦ first e (sym (broken-then xs ys t) ∙ sym (verdict-no (λ n. n) (firstBroken ys) refl e))
 ]
 
@@ -86,13 +89,20 @@ pub granted-of : (s : State) (Facts : Type 0) (a o : Out) → Cases s Facts a o 
 granted-of s Facts a o (granted k q) e = (k, q)
 granted-of s Facts a o (denied n u q) e = absurd (clash (sym e ∙ ap (λ (x : Out). accepted (x .answer)) q))
 
-same-number : (i j : ℕ) → refused i ≡ refused j → i ≡ j
-same-number i j e = cc
+-- an accepted answer is no refusal, and a refusal has one number
+pub no-refusal : (a o : Out) (n : ℕ) → o ≡ a → accepted (a .answer) ≡ true → o .answer ≡ refused n → ⊥
+no-refusal a o n q t e = clash (sym t ∙ ap (λ (x : Out). accepted (x .answer)) (sym q) ∙ ap accepted e)
+
+pub one-refusal : (s : State) (o : Out) (m n : ℕ) → o ≡ out (refused m) s → o .answer ≡ refused n → m ≡ n
+one-refusal s o m n q e = same (sym (ap (λ (x : Out). x .answer) q) ∙ e)
+  where
+    same : refused m ≡ refused n → m ≡ n
+    same e = cc
 
 pub denied-of : (s : State) (Facts : Type 0) (a o : Out) → Cases s Facts a o → accepted (a .answer) ≡ true → (n : ℕ) → o .answer ≡ refused n → Usual n
-denied-of s Facts a o (granted k q) t n e = absurd (clash (sym t ∙ ap (λ (x : Out). accepted (x .answer)) (sym q) ∙ ap accepted e))
-denied-of s Facts a o (denied m u q) t n e = rw (same-number m n (sym (ap (λ (x : Out). x .answer) q) ∙ e)) at u
+denied-of s Facts a o (granted k q) t n e = absurd (no-refusal a o n q t e)
+denied-of s Facts a o (denied m u q) t n e = rw (one-refusal s o m n q e) at u
 
 pub broken-of : (s : State) (rules : List Rule) (a o : Out) → Outcome s rules a o → accepted (a .answer) ≡ true → (n : ℕ) → o .answer ≡ refused n → firstBroken rules ≡ n
-broken-of s rules a o (kept k q) t n e = absurd (clash (sym t ∙ ap (λ (x : Out). accepted (x .answer)) (sym q) ∙ ap accepted e))
-broken-of s rules a o (broken m z k q) t n e = k ∙ same-number m n (sym (ap (λ (x : Out). x .answer) q) ∙ e)
+broken-of s rules a o (kept k q) t n e = absurd (no-refusal a o n q t e)
+broken-of s rules a o (broken m z k q) t n e = k ∙ one-refusal s o m n q e

@@ -43,7 +43,7 @@ module _ (x : Point) (I : Invariant x) where
       rw e (in-frame x I p (a .0) (a .1))
 
   -- ---- the tree
-  root-holder : Holder (view (x .now)) 0 0
+  pub root-holder : Holder (view (x .now)) 0 0
   root-holder = record { at = I .shape .root; page = I .shape .rootPage }
 
   pub root-resident : Resident x 0

@@ -1,13 +1,13 @@
 -- What the tests of a handle and of openness to eviction say of the view. Assumes nothing.
-use Prim.Native.Nat.{ℕ, _<_}
+use Prim.Native.Nat.{ℕ, _<_, _≤_}
 use mathlib.Core.Path.{_≡_, refl, sym, _∙_}
 use mathlib.Core.Logic.{_≢_}
 use mathlib.Core.Bool.{true, false}
-use borrow.Author.Tests.{eqb-true, eqb-false, eq-eqb, ne-eqb, lt-ltb, ltb-true}
+use borrow.Author.Tests.{eqb-true, eqb-false, eq-eqb, ne-eqb, lt-ltb, ltb-true, ltb-false}
 use lib.Dec.{eqb, ltb}
 use Rattle.page.specs.Figures.{slotCount, swizzleBit}
 use Rattle.machine.specs.declared.Handle.{Handle}
-use Rattle.machine.specs.TestLaws.{clash, Case, case, on, off, and-true, every-true, true-every, pick-yes, pick-no}
+use Rattle.machine.specs.TestLaws.{clash, Case, case, on, off, and-true, every-true, true-every, false-every, pick-yes, pick-no}
 use Rattle.machine.specs.Machine.{State, recordAt}
 use Rattle.machine.specs.Sweep.{childless, isOpen}
 use Rattle.machine.specs.Rules.{handleFits}
@@ -53,3 +53,11 @@ pub of-open : (s : State) (f : ℕ) → Open (view s) f → isOpen (recordAt (s 
 unfolding isOpen childless
 of-open s f O =
     sym (pick-no false (ne-eqb f 0 (O .notRoot)) (pick-yes false (eq-eqb _ 0 (O .unpinned)) (sym (true-every slotCount _ (λ k h. lt-ltb _ swizzleBit (O .leaf k h))))))
+
+-- an unpinned frame that is not the root's and yet not open has a swizzled word
+pub shut-of : (s : State) (f : ℕ) → isOpen (recordAt (s .pool .records) f) (s .frames) f ≡ false → f ≢ 0 → view s .pins f ≡ 0 → (k : ℕ) × (k < slotCount) × (swizzleBit ≤ view s .word f k)
+unfolding isOpen childless
+shut-of s f t n z =
+    let c = pick-yes false (eq-eqb _ 0 z) refl ∙ pick-no false (ne-eqb f 0 n) refl ∙ t in
+    let r = false-every slotCount _ c in
+    (r .0, r .1, ltb-false _ swizzleBit (r .2))
