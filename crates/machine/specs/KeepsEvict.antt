@@ -1,0 +1,90 @@
+-- A page that leaves its frame keeps the invariant: the root, a pinned page and a page with a swizzled word apart.
+use mathlib.Core.Path.{_≡_, refl, sym, ap, _∙_}
+use mathlib.Core.Logic.{_≢_}
+use mathlib.Core.List.{List}
+use Prim.Native.Nat.{ℕ, _<_}
+use native.Mathlib.Omega.{arith}
+use lib.ListN.{length, length-set}
+use Rattle.page.specs.Figures.{slotCount, wordRadix, swizzleBit}
+use Rattle.page.specs.Page.{putSlot-length, slot-putSlot-same, slot-putSlot-page, byte-putSlot}
+use Rattle.page.specs.Octets.{octets-putSlot}
+use Rattle.machine.specs.declared.FrameRecord.{FrameRecord}
+use Rattle.machine.specs.Machine.{State, blank, recordAt}
+use Rattle.machine.specs.Moves.{plain, evicted}
+use Rattle.machine.specs.History.{Point}
+use Rattle.machine.specs.View.{View, view, Occupied, Parent, Shape, plain-low, plain-high, reading, low, high}
+use Rattle.machine.specs.Invariant.{Invariant, mapOf}
+use Rattle.machine.specs.EvictEffect.{Evicted, evict-shape, evict-content}
+use Rattle.machine.specs.PinsEffect.{pins-evicted}
+use Rattle.machine.specs.MoveLaws.{writtenOutBy-length}
+use Rattle.machine.specs.WriteOut.{out-octets, out-wordStays, out-byteStays, out-word, out-byte}
+use Rattle.machine.specs.RecordChange.{change-here, change-other, neat-blank, neat-change, record-lt, lengths-kept}
+use Rattle.machine.specs.KeepsLink.{slot-putSlot-other}
+
+-- a resident page's words all stand for numbers below N
+pub plain-lt : (v : View) → Shape v → (f k : ℕ) → Occupied v f → k < slotCount → plain (v .page) (v .word f k) < v .N
+plain-lt v S f k o hk = elim (reading (v .word f k)) [
+  | low l ↦ rw (plain-low (v .page) _ l) (S .numberLt f k o hk l)
+  | high g q ↦ rw (q, plain-high (v .page) g) (S .pageLt g (S .child f k g o hk q .occupied))
+]
+
+module _ (x : Point) (I : Invariant x) (f : ℕ) (of : Occupied (view (x .now)) f) (nz : f ≢ 0) where
+  abbrev s : State
+  s = x .now
+
+  abbrev v : View
+  v = view (x .now)
+
+  abbrev rs : List FrameRecord
+  rs = x .now .pool .records
+
+  lt : f < length rs
+  lt = record-lt x I f (of .lt)
+
+  pN : v .page f < v .N
+  pN = I .shape .pageLt f of
+
+  P : Parent v f
+  P = I .shape .parent f of nz
+
+  small : (k : ℕ) → k < slotCount → plain (v .page) (v .word f k) < wordRadix
+  small k hk = omega (arith, plain-lt v (I .shape) f k of hk, I .shape .pages)
+
+  -- what is done to the view
+  pub evict-effect : Evicted v (view (evicted s f)) f
+  unfolding evicted
+  evict-effect = record {
+    sameF = refl;
+    sameN = refl;
+    gone = ap (λ r. r .used) (change-here rs f blank lt);
+    used = λ g n. ap (λ r. r .used) (change-other rs f blank g n);
+    page = λ g n. ap (λ r. r .page .0) (change-other rs f blank g n);
+    up = λ g n. ap (λ r. r .parent .0) (change-other rs f blank g n);
+    upSlot = λ g n. ap (λ r. r .slot) (change-other rs f blank g n);
+    dirty = λ g n. ap (λ r. r .dirty) (change-other rs f blank g n);
+    pins = λ g n. ap (λ r. r .pins) (change-other rs f blank g n);
+    wordAtParent = slot-putSlot-same (s .frames) _ _ _ _ (I .sized .frames) (P .occupied .lt) (P .inPage) (omega (arith, pN, I .shape .pages));
+    wordPage = λ g k hg hk n. slot-putSlot-page (s .frames) _ _ _ g k (P .inPage) hk (λ q. n (sym q));
+    wordSlot = λ g k hg hk n. slot-putSlot-other (s .frames) _ _ _ g k (P .inPage) hk n;
+    bytes = λ g i hg h l. byte-putSlot (s .frames) _ _ _ g i (P .inPage) h l;
+    dirtyWord = λ k d hk. out-word (v .page) (recordAt rs f) (s .frames) (s .store) f _ _ (I .sized .frames) (of .lt) (I .sized .store) pN d small k hk;
+    dirtyBytes = λ i d h l. out-byte (v .page) (recordAt rs f) (s .frames) (s .store) f _ _ (I .sized .frames) (of .lt) (I .sized .store) pN d small i h l;
+    storeWord = λ p k hp hk h. out-wordStays (v .page) (recordAt rs f) (s .frames) (s .store) f _ _ (I .sized .frames) (of .lt) (I .sized .store) pN p k hk h;
+    storeBytes = λ p i hp l h. out-byteStays (v .page) (recordAt rs f) (s .frames) (s .store) f _ _ (I .sized .frames) (of .lt) (I .sized .store) pN p i l h;
+  }
+
+  pub evict-keeps : ((k : ℕ) → k < slotCount → v .word f k < swizzleBit) → v .pins f ≡ 0 → Invariant (record { now = evicted s f; map = x .map; balance = x .balance })
+  unfolding evicted
+  evict-keeps leaf free = record {
+    sized = lengths-kept _ _ (I .sized) (putSlot-length (s .frames) _ _ _) (writtenOutBy-length (v .page) (recordAt rs f) (s .frames) (s .store) f _ _ (I .sized .frames) (I .sized .store) (of .lt) pN);
+    records = length-set rs f blank ∙ I .records;
+    mapLength = I .mapLength;
+    neat = neat-change (s .pool) f blank lt (of .lt) (neat-blank f) (I .neat);
+    frameOctets = octets-putSlot (s .frames) _ _ _ (I .frameOctets);
+    storeOctets = out-octets (v .page) (recordAt rs f) (s .frames) (s .store) f (I .frameOctets) (I .storeOctets);
+    mapOctets = I .mapOctets;
+    shape = evict-shape v _ f (I .shape) evict-effect of nz leaf;
+    content = evict-content v _ f (I .shape) evict-effect of nz leaf (mapOf (x .map)) (I .content);
+    sound = I .sound;
+    pins = pins-evicted v _ f evict-effect of free (x .balance) (I .pins);
+  }

@@ -1,0 +1,203 @@
+-- Settle keeps the invariant, and the store is then the map.
+use mathlib.Core.Path.{_≡_, refl, sym, ap, _∙_}
+use mathlib.Core.Bool.{true, false}
+use mathlib.Core.List.{List}
+use Prim.Native.Nat.{ℕ, zero, suc, _*_, _≤_, _<_}
+use native.Mathlib.Omega.{arith}
+use native.Mathlib.Nat.{le-refl}
+use native.Mathlib.Decide.{ℕ-discrete, decLt}
+use lib.ListN.{length, length-set}
+use Rattle.page.specs.Figures.{pageSize, slotCount, payloadStart, wordRadix}
+use Rattle.page.specs.Page.{slot, byte}
+use Rattle.page.specs.Octets.{Octets, buffer-ext}
+use Rattle.machine.specs.declared.FrameRecord.{FrameRecord}
+use Rattle.machine.specs.declared.Pool.{Pool}
+use Rattle.machine.specs.TestLaws.{clash, case, on, off}
+use Rattle.machine.specs.Machine.{State, recordAt, cleaned, withRecords, found}
+use Rattle.machine.specs.AgreementFacts.{occupied-used, make-occupied}
+use Rattle.machine.specs.Moves.{plain, writtenOut, writtenOutTo, cleanedTo, settled}
+use Rattle.machine.specs.History.{Point}
+use Rattle.machine.specs.View.{View, view, Occupied, Absent, Content}
+use Rattle.machine.specs.Invariant.{NeatRecord, Neat, Invariant, mapOf}
+use Rattle.machine.specs.KeepEffect.{Kept, kept-shape, steady-was, steady-plain}
+use Rattle.machine.specs.PinsEffect.{pins-kept}
+use Rattle.machine.specs.MoveLaws.{writtenOutTo-length}
+use Rattle.machine.specs.FoundLaws.{found-holds, found-none}
+use Rattle.machine.specs.WriteOut.{out-octets, out-wordStays, out-byteStays, out-word, out-byte}
+use Rattle.machine.specs.RecordChange.{change-same, neat-change, lengths-kept}
+use Rattle.machine.specs.KeepsEvict.{plain-lt}
+
+-- ---- the records marked clean
+
+cleaned-length : (rs : List FrameRecord) (n : ℕ) → length (cleanedTo rs n) ≡ length rs
+unfolding cleanedTo
+cleaned-length rs zero = refl
+cleaned-length rs (suc n) = length-set (cleanedTo rs n) n _ ∙ cleaned-length rs n
+
+-- but for the mark they stay
+cleaned-same : {A : Type 0} (part : FrameRecord → A) → ((r : FrameRecord) → part (cleaned r) ≡ part r) → (rs : List FrameRecord) (n : ℕ) → n ≤ length rs
+    → (g : ℕ) → part (recordAt (cleanedTo rs n) g) ≡ part (recordAt rs g)
+unfolding cleanedTo
+cleaned-same part e rs zero h g = refl
+cleaned-same part e rs (suc n) h g = change-same (cleanedTo rs n) n _ part (rw (cleaned-length rs n) h) (e _) g ∙ cleaned-same part e rs n (omega arith) g
+
+neat-cleaned : (f : ℕ) (r : FrameRecord) → NeatRecord f r → NeatRecord f (cleaned r)
+neat-cleaned f r n = record { usage = n .usage; pins = n .pins; empty = λ e. ap (λ t. cleaned t) (n .empty e); rootParent = n .rootParent; rootSlot = n .rootSlot }
+
+cleaned-neat : (p : Pool) → Neat p → (n : ℕ) → n ≤ p .count → n ≤ length (p .records) → Neat (withRecords p (cleanedTo (p .records) n))
+unfolding cleanedTo
+cleaned-neat p N zero h l = N
+cleaned-neat p N (suc n) h l =
+    let M : Neat (withRecords p (cleanedTo (p .records) n)) = cleaned-neat p N n (omega arith) (omega arith) in
+    neat-change (withRecords p (cleanedTo (p .records) n)) n _ (rw (cleaned-length (p .records) n) l) h (neat-cleaned n _ (M .at n)) M
+
+-- ---- the images written out
+
+module _ (x : Point) (I : Invariant x) where
+  abbrev s : State
+  s = x .now
+
+  abbrev v : View
+  v = view (x .now)
+
+  abbrev rs : List FrameRecord
+  rs = x .now .pool .records
+
+  -- page p in the store b is the map's
+  record Right (b : List ℕ) (p : ℕ) : Type 0 where
+    word : (k : ℕ) → k < slotCount → slot b p k ≡ slot (x .map) p k
+    bytes : (i : ℕ) → payloadStart ≤ i → i < pageSize → byte b p i ≡ byte (x .map) p i
+
+  -- an empty frame's record has page 0, and is clean
+  pageLt : (n : ℕ) → n < v .F → v .page n < v .N
+  pageLt n hn = elim (case (v .used n)) [
+    | on u ↦ I .shape .pageLt n (record { lt = hn; on = u })
+    | off u ↦ let z : v .page n ≡ 0 = ap (λ r. r .page .0) (I .neat .at n .empty u) in omega (arith, I .shape .some)
+  ]
+
+  dirtyUsed : (n : ℕ) → v .dirty n ≡ true → v .used n ≡ true
+  dirtyUsed n d = elim (case (v .used n)) [ on u ↦ u | off u ↦ absurd (clash (sym d ∙ ap (λ r. r .dirty) (I .neat .at n .empty u))) ]
+
+  module _ (b : List ℕ) (lb : length b ≡ pageSize * v .N) (n : ℕ) (hn : n < v .F) where
+    outStays : (p : ℕ) → (p ≡ v .page n → v .dirty n ≡ false) → Right b p → Right (writtenOut rs (s .frames) b n) p
+    outStays p h R = record {
+      word = λ k hk. out-wordStays (v .page) (recordAt rs n) (s .frames) b n _ _ (I .sized .frames) hn lb (pageLt n hn) p k hk h ∙ R .word k hk;
+      bytes = λ i lo hi. out-byteStays (v .page) (recordAt rs n) (s .frames) b n _ _ (I .sized .frames) hn lb (pageLt n hn) p i hi h ∙ R .bytes i lo hi;
+    }
+
+    outDirty : v .dirty n ≡ true → Right (writtenOut rs (s .frames) b n) (v .page n)
+    outDirty d = record {
+      word = λ k hk. out-word (v .page) (recordAt rs n) (s .frames) b n _ _ (I .sized .frames) hn lb (pageLt n hn) d small k hk ∙ I .content .frameWord n k o hk;
+      bytes = λ i lo hi. out-byte (v .page) (recordAt rs n) (s .frames) b n _ _ (I .sized .frames) hn lb (pageLt n hn) d small i lo hi ∙ I .content .frameByte n i o lo hi;
+    }
+      where
+        o : Occupied v n
+        o = record { lt = hn; on = dirtyUsed n d }
+
+        small : (k : ℕ) → k < slotCount → plain (v .page) (v .word n k) < wordRadix
+        small k hk = omega (arith, plain-lt v (I .shape) n k o hk, I .shape .pages)
+
+    outKeeps : (p : ℕ) → Right b p → Right (writtenOut rs (s .frames) b n) p
+    outKeeps p R = elim (case (v .dirty n)) [
+      | on d ↦ elim (ℕ-discrete p (v .page n)) [ yes z ↦ rw z (outDirty d) | no z ↦ outStays p (λ y. absurd (z y)) R ]
+      | off d ↦ outStays p (λ y. d) R
+    ]
+
+    outHere : (v .dirty n ≡ false → Right b (v .page n)) → Right (writtenOut rs (s .frames) b n) (v .page n)
+    outHere R = elim (case (v .dirty n)) [ on d ↦ outDirty d | off d ↦ outStays (v .page n) (λ y. d) (R d) ]
+
+  -- the store after the first n frames
+  abbrev to : ℕ → List ℕ
+  to n = writtenOutTo rs (x .now .frames) (x .now .store) n
+
+  toLength : (n : ℕ) → n ≤ v .F → length (to n) ≡ pageSize * v .N
+  toLength n h = writtenOutTo-length rs (s .frames) (s .store) _ _ (I .sized .frames) (I .sized .store) pageLt n h ∙ I .sized .store
+
+  toOctets : (n : ℕ) → Octets (to n)
+  unfolding writtenOutTo
+  toOctets zero = I .storeOctets
+  toOctets (suc n) = out-octets (v .page) (recordAt rs n) (s .frames) (to n) n (I .frameOctets) (toOctets n)
+
+  toKeeps : (n : ℕ) → n ≤ v .F → (p : ℕ) → Right (s .store) p → Right (to n) p
+  unfolding writtenOutTo
+  toKeeps zero h p R = R
+  toKeeps (suc n) h p R = outKeeps (to n) (toLength n (omega arith)) n h p (toKeeps n (omega arith) p R)
+
+  toDone : (n : ℕ) → n ≤ v .F → (g : ℕ) → g < n → Occupied v g → Right (to n) (v .page g)
+  unfolding writtenOutTo
+  toDone zero h g l o = absurd (omega arith)
+  toDone (suc n) h g l o = elim (ℕ-discrete g n) [
+    | yes z ↦ rw z (outHere (to n) (toLength n (omega arith)) n h (λ d. toKeeps n (omega arith) (v .page n)
+        (let c : Occupied v n = rw z at o in record { word = λ k hk. I .content .cleanWord n k c d hk; bytes = λ i lo hi. I .content .cleanByte n i c d lo hi })))
+    | no z ↦ outKeeps (to n) (toLength n (omega arith)) n h (v .page g) (toDone n (omega arith) g (omega arith) o)
+  ]
+
+  toRight : (p : ℕ) → p < v .N → Right (to (v .F)) p
+  toRight p hp = elim (decLt (found (s .pool) p) (v .F)) [
+    | yes l ↦
+        let h = found-holds (s .pool) p l in
+        rw (h .1) at (toDone (v .F) (le-refl _) (found (s .pool) p) l (record { lt = l; on = occupied-used (s .pool) _ (h .0) }))
+    | no l ↦
+        let a : Absent v p = λ f o e. found-none (s .pool) p (omega arith) f (make-occupied (s .pool) f (o .lt) (o .on)) e in
+        toKeeps (v .F) (le-refl _) p (record { word = λ k hk. I .content .absentWord p k hp a hk; bytes = λ i lo hi. I .content .absentByte p i hp a lo hi })
+  ]
+
+  pub settle-store : settled s .store ≡ x .map
+  unfolding settled
+  settle-store = buffer-ext _ _ (v .N) (toOctets (v .F)) (I .mapOctets) (toLength (v .F) (le-refl _)) (I .mapLength)
+      (λ p k hp hk. toRight p hp .word k hk) (λ p i hp lo hi. toRight p hp .bytes i lo hi)
+
+  -- ---- the invariant
+
+  enough : v .F ≤ length rs
+  enough = omega (arith, I .records, I .shape .most)
+
+  kept : Kept v (view (settled s))
+  unfolding settled
+  kept = record {
+    steady = record {
+      sameF = refl;
+      sameN = refl;
+      used = cleaned-same (λ r. r .used) (λ r. refl) rs (v .F) enough;
+      page = cleaned-same (λ r. r .page .0) (λ r. refl) rs (v .F) enough;
+      up = cleaned-same (λ r. r .parent .0) (λ r. refl) rs (v .F) enough;
+      upSlot = cleaned-same (λ r. r .slot) (λ r. refl) rs (v .F) enough;
+    };
+    word = λ g k hg hk. refl;
+  }
+
+  storeWord : (p k : ℕ) → slot (settled s .store) p k ≡ slot (x .map) p k
+  storeWord p k = ap (λ (b : List ℕ). slot b p k) settle-store
+
+  storeByte : (p i : ℕ) → byte (settled s .store) p i ≡ byte (x .map) p i
+  storeByte p i = ap (λ (b : List ℕ). byte b p i) settle-store
+
+  content : Content (view (settled s)) (mapOf (x .map))
+  content = record {
+    frameWord = unfold settled in λ f k o hk. steady-plain v _ (kept .steady) _ ∙ I .content .frameWord f k (was f o) hk ∙ ap (λ (p : ℕ). slot (x .map) p k) (sym (kept .steady .page f));
+    frameByte = unfold settled in λ f i o h l. I .content .frameByte f i (was f o) h l ∙ ap (λ (p : ℕ). byte (x .map) p i) (sym (kept .steady .page f));
+    absentWord = λ p k hp a hk. storeWord p k;
+    absentByte = λ p i hp a h l. storeByte p i;
+    cleanWord = λ f k o d hk. storeWord _ k;
+    cleanByte = λ f i o d h l. storeByte _ i;
+    storePlain = λ p k hp hk. rw (storeWord p k) (omega (arith, I .sound .below p k (unfold settled in hp) hk, I .shape .pages));
+  }
+    where
+      was : (g : ℕ) → Occupied (view (settled s)) g → Occupied v g
+      was = steady-was v (view (settled s)) (kept .steady)
+
+  pub settle-keeps : Invariant (record { now = settled s; map = x .map; balance = x .balance })
+  unfolding settled
+  settle-keeps = record {
+    sized = lengths-kept (s .frames) _ (I .sized) refl (toLength (v .F) (le-refl _) ∙ sym (I .sized .store));
+    records = cleaned-length rs (v .F) ∙ I .records;
+    mapLength = I .mapLength;
+    neat = cleaned-neat (s .pool) (I .neat) (v .F) (le-refl _) enough;
+    frameOctets = I .frameOctets;
+    storeOctets = toOctets (v .F);
+    mapOctets = I .mapOctets;
+    shape = kept-shape v (view (settled s)) kept (I .shape);
+    content = content;
+    sound = I .sound;
+    pins = pins-kept v (view (settled s)) (kept .steady) (x .balance) (I .pins) (cleaned-same (λ r. r .pins) (λ r. refl) rs (v .F) enough);
+  }
