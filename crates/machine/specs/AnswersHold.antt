@@ -2,28 +2,27 @@
 use Prim.Native.Nat.{ℕ, _+_, _*_, _<_, _≤_}
 use mathlib.Core.Path.{_≡_, refl, sym, _∙_, ap}
 use mathlib.Core.Logic.{_≢_}
-use mathlib.Core.Bool.{Bool, true, false}
+use mathlib.Core.Bool.{true}
 use mathlib.Core.List.{List}
 use native.Mathlib.Omega.{arith}
 use borrow.Author.Tests.{lt-ltb, le-ltb}
-use lib.Dec.{ltb}
 use lib.ListN.{length, take, drop, getD, length-take, length-drop}
 use lib.Seq.{getD-take, getD-drop, ext-getD}
-use Rattle.page.specs.Figures.{pageSize, slotCount, payloadStart, payloadSize}
+use Rattle.page.specs.Figures.{pageSize, payloadStart, payloadSize}
 use Rattle.page.specs.Page.{slot, byte, payloadAt, bytesFrom, payloadOf}
 use Rattle.machine.specs.declared.Handle.{Handle}
 use Rattle.machine.specs.TestLaws.{pick-yes, pick-no, pick-either}
-use Rattle.machine.specs.Machine.{State, pageNumber, found}
-use Rattle.machine.specs.Answers.{Answer, refused, payload, number, frame, nowhere, inFrames, inStore, Out}
+use Rattle.machine.specs.Machine.{pageNumber, found}
+use Rattle.machine.specs.Answers.{Answer, refused, number, frame, inFrames, inStore, Out}
 use Rattle.machine.specs.Calls.{showCall, payloadPlace, peekCall, wordCall, foundAnswer, fixCall}
 use Rattle.machine.specs.History.{Call, reopen, root, fix, unfix, show, peek, word, write, link, unlink, evict, settle, find, Point, accepted, row}
 use Rattle.machine.specs.Demand3.{GivesPayload}
-use Rattle.machine.specs.View.{View, view, Occupied, Absent}
+use Rattle.machine.specs.View.{view, Absent}
 use Rattle.machine.specs.Invariant.{Invariant}
 use Rattle.machine.specs.Outcomes.{Usual, granted-of, no-refusal, one-refusal, denied-of}
-use Rattle.machine.specs.Holders.{Holder, Place, place, held, unheld, found-absent}
+use Rattle.machine.specs.Holders.{Holder, place, held, unheld, found-absent}
 use Rattle.machine.specs.CallCases.{open-case, root-case, unfix-case, show-case, word-case, write-case, peek-case, find-case, link-case, unlink-case, evict-case, settle-case}
-use Rattle.machine.specs.FixCases.{FixCase, pins, fills, sweeps, refuses, fix-case}
+use Rattle.machine.specs.FixCases.{pins, fills, sweeps, refuses, fix-case}
 use Rattle.machine.specs.PointHolds.{plain-word}
 
 -- two pages with equal payload bytes have one payload

@@ -1,36 +1,34 @@
 -- The cases of each call where the invariant holds: accepted, with what its rules say, or refused by a rule but 1, 2 and 14. Assumes nothing.
-use Prim.Native.Nat.{ℕ, suc, _+_, _-_, _/_, _<_, _≤_}
-use mathlib.Core.Path.{_≡_, refl, sym, _∙_, ap}
+use Prim.Native.Nat.{ℕ, _+_, _-_, _/_, _<_, _≤_}
+use mathlib.Core.Path.{_≡_, refl}
 use mathlib.Core.Logic.{_≢_}
-use mathlib.Core.Bool.{Bool, true, false, not}
-use mathlib.Core.List.{List, [], _∷_, _++_}
+use mathlib.Core.Bool.{true, not}
+use mathlib.Core.List.{List, [], _∷_}
 use native.Mathlib.Omega.{arith}
-use borrow.Author.Tests.{eqb-true, eqb-false, ltb-true, ltb-false, leb-true, not-true}
+use borrow.Author.Tests.{eqb-true, eqb-false, ltb-true, leb-true, not-true}
 use lib.Dec.{eqb, ltb, leb}
 use lib.ListN.{length}
 use Rattle.page.specs.declared.PageNumber.{PageNumber}
 use Rattle.page.specs.Figures.{pageSize, slotCount, payloadSize, maxPins, swizzleBit}
-use Rattle.page.specs.Word.{isNumber, frameIn, frameWord, numberWord}
+use Rattle.page.specs.Word.{numberWord}
 use Rattle.page.specs.Page.{slot, payloadAt}
 use Rattle.machine.specs.declared.Handle.{Handle}
-use Rattle.machine.specs.Tests.{pick, _and_, _or_, Rule, firstBroken}
-use Rattle.machine.specs.TestLaws.{clash, Case, case, on, off, and-true, or-second, first-kept, kept-then, none-broken, numbered, pick-yes, pick-no}
-use Rattle.machine.specs.Machine.{State, state, zeroPool, pageIn, recordAt, found, unpinned}
+use Rattle.machine.specs.Tests.{_and_, Rule, firstBroken}
+use Rattle.machine.specs.TestLaws.{and-true, first-kept, kept-then}
+use Rattle.machine.specs.Machine.{State, state, zeroPool, pageIn, found, unpinned}
 use Rattle.machine.specs.Moves.{plain, settled, evicted}
-use Rattle.machine.specs.Naming.{named, loadable}
+use Rattle.machine.specs.Naming.{named}
 use Rattle.machine.specs.Soundness.{sound}
-use Rattle.machine.specs.Sweep.{firstEmpty, isOpen, sweep}
-use Rattle.machine.specs.Rules.{handleFits, rangeFits, wordOf, rule1, rule2, rule3, rule4, rule5, rule6, rule6-link, rule7, rule8, rule9, rule10, rule11, rule12, rule13, rule14, rule15, rule16}
-use Rattle.machine.specs.Answers.{Answer, done, payload, number, inFrames, Out, out, refused}
-use Rattle.machine.specs.Calls.{decide, changeRecord, openRules, opened, openCall, pinnedOut, rootCall, loadedOut, sweptOut, missOut, fixEntryRules, fixCall, unfixCall, showCall, payloadPlace, peekCall, wordCall, written, writeCall, relinked, linkCall, unlinkCall, evictCall, settleCall, foundAnswer, findCall}
-use Rattle.machine.specs.View.{View, view, Occupied, Child}
+use Rattle.machine.specs.Rules.{handleFits, rangeFits, wordOf, rule1, rule2, rule3, rule4, rule5, rule6, rule6-link, rule7, rule8, rule9, rule10, rule11, rule12, rule13, rule16}
+use Rattle.machine.specs.Answers.{done, payload, number, inFrames, Out, out}
+use Rattle.machine.specs.Calls.{decide, changeRecord, openRules, opened, openCall, pinnedOut, rootCall, unfixCall, showCall, payloadPlace, peekCall, wordCall, written, writeCall, relinked, linkCall, unlinkCall, evictCall, settleCall, foundAnswer, findCall}
+use Rattle.machine.specs.View.{view}
 use Rattle.machine.specs.History.{Point}
 use Rattle.machine.specs.Invariant.{Invariant}
-use Rattle.machine.specs.SweepLaws.{FirstEmpty, empty, full, first-empty}
-use Rattle.machine.specs.Outcomes.{Outcome, kept, broken, outcome, Parts, parts, first, second, Usual, usual, usual-breach, Cases, cases, lacks}
+use Rattle.machine.specs.Outcomes.{Outcome, outcome, usual, Cases, cases, lacks}
 use Rattle.machine.specs.Holders.{Holder, holder-found}
 use Rattle.machine.specs.TestReads.{Handled, handled, Open, open-of}
-use Rattle.machine.specs.InvariantReads.{lengths-fit-open, unbroken, unnamed, may-load}
+use Rattle.machine.specs.InvariantReads.{lengths-fit-open, unbroken, unnamed}
 
 -- ---- what the rules of a call say where none is broken
 

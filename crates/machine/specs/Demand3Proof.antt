@@ -1,17 +1,16 @@
 -- Demand 3 holds: the invariant at every point of every list of calls from an accepted open, and what follows from it there. Assumes nothing.
 use Prim.Native.Nat.{ℕ, _/_}
 use mathlib.Core.Path.{_≡_, refl, sym, _∙_, ap}
-use mathlib.Core.Bool.{true}
 use mathlib.Core.List.{List, [], _∷_}
 use native.Mathlib.Omega.{arith}
 use lib.ListN.{length}
 use Rattle.page.specs.Figures.{pageSize}
 use Rattle.page.specs.Octets.{Octets}
 use Rattle.machine.specs.TestLaws.{first-kept}
-use Rattle.machine.specs.Machine.{State, state, zeroPool}
+use Rattle.machine.specs.Machine.{state, zeroPool}
 use Rattle.machine.specs.Soundness.{sound}
-use Rattle.machine.specs.Rules.{lengthsFit, rule16}
-use Rattle.machine.specs.Answers.{Answer, refused, done, Out, out}
+use Rattle.machine.specs.Rules.{lengthsFit}
+use Rattle.machine.specs.Answers.{refused, done, Out, out}
 use Rattle.machine.specs.Calls.{openRules, opened, openCall}
 use Rattle.machine.specs.History.{Call, row, Point, start, next, run, AllBytes}
 use Rattle.machine.specs.Demand3.{Holds, Demand3}

@@ -1,8 +1,8 @@
 -- "A load is denied a frame exactly when none is empty and every resident page but the root is pinned or has a resident child", from the invariant. Assumes nothing.
-use Prim.Native.Nat.{ℕ, _+_, _<_, _≤_}
+use Prim.Native.Nat.{ℕ, _<_, _≤_}
 use mathlib.Core.Path.{_≡_, refl, sym, _∙_, ap}
 use mathlib.Core.Logic.{_≢_, _⊎_, inl, inr, _↔_}
-use mathlib.Core.Bool.{Bool, true, false}
+use mathlib.Core.Bool.{true, false}
 use mathlib.Core.List.{List, [], _∷_, _++_}
 use native.Mathlib.Omega.{arith}
 use native.Mathlib.Decide.{ℕ-discrete}
@@ -12,26 +12,24 @@ use Rattle.page.specs.Word.{isNumber, frameIn, frameWord}
 use Rattle.page.specs.Page.{slot}
 use Rattle.machine.specs.declared.Handle.{Handle}
 use Rattle.machine.specs.Tests.{_and_, Rule, firstBroken}
-use Rattle.machine.specs.TestLaws.{clash, Case, case, on, off, is-off, first-kept, kept-then, broken-here, none-broken, numbered, parts-kept}
-use Rattle.machine.specs.Machine.{State, recordAt}
-use Rattle.machine.specs.Sweep.{isOpen}
-use Rattle.machine.specs.Rules.{wordOf, rule1, rule2, rule13, rule14, rule15}
+use Rattle.machine.specs.TestLaws.{case, on, off, is-off, kept-then, broken-here, none-broken, numbered, parts-kept}
+use Rattle.machine.specs.Rules.{wordOf, rule13, rule14, rule15}
 use Rattle.machine.specs.Ready.{Ready, ready}
-use Rattle.machine.specs.Answers.{Answer, refused, Out}
-use Rattle.machine.specs.Calls.{missOut, fixEntryRules, fixCall}
+use Rattle.machine.specs.Answers.{refused, Out}
+use Rattle.machine.specs.Calls.{fixCall}
 use Rattle.machine.specs.History.{Point}
-use Rattle.machine.specs.Demand3.{InFrame, Resident, Pinned, Names, NoRoom, LoadAsked}
-use Rattle.machine.specs.View.{View, view, Occupied, Absent, plain-low}
+use Rattle.machine.specs.Demand3.{Resident, Pinned, Names, NoRoom, LoadAsked}
+use Rattle.machine.specs.View.{view, plain-low}
 use Rattle.machine.specs.Invariant.{Invariant}
 use Rattle.machine.specs.SweepLaws.{Denied, denied-of, of-denied}
-use Rattle.machine.specs.Outcomes.{Outcome, kept, broken, lacks, lacking, kept-part, Parts, parts, first, second, broken-of}
+use Rattle.machine.specs.Outcomes.{Outcome, kept, broken, lacks, lacking, kept-part, parts, first, second, broken-of}
 use Rattle.machine.specs.Holders.{Holder}
 use Rattle.machine.specs.TestReads.{Open, open-of, shut-of}
 use Rattle.machine.specs.InvariantReads.{agreed, unbroken}
 use Rattle.machine.specs.CallCases.{AtName, name-rules}
 use Rattle.machine.specs.FixCases.{nameRules, loadRules, miss-accepted, number-outcome, stays-away, loads, swizzled-outcome}
 use Rattle.machine.specs.Residence.{in-frame, resident, holder, not-resident, pinned-holder, pinned-of}
-use Rattle.machine.specs.PointHolds.{Meets, number, swizzledTo, meets, plain-word, swizzled-word}
+use Rattle.machine.specs.PointHolds.{number, swizzledTo, meets, plain-word, swizzled-word}
 
 module _ (x : Point) (I : Invariant x) where
   is-ready : Ready (x .now)

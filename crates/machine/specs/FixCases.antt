@@ -1,30 +1,28 @@
 -- The cases of fix where the invariant holds: the page is resident and gains a pin, it comes into an empty frame or into the one that a sweep takes, or fix is refused. Assumes nothing.
-use Prim.Native.Nat.{ℕ, suc, _+_, _-_, _<_, _≤_}
-use mathlib.Core.Path.{_≡_, refl, sym, _∙_, ap}
+use Prim.Native.Nat.{ℕ, _<_, _≤_}
+use mathlib.Core.Path.{_≡_, refl, sym, _∙_}
 use mathlib.Core.Logic.{_≢_}
-use mathlib.Core.Bool.{Bool, true, false, not}
+use mathlib.Core.Bool.{true, false}
 use mathlib.Core.List.{List, [], _∷_, _++_}
 use native.Mathlib.Omega.{arith}
 use borrow.Author.Tests.{eqb-false, lt-ltb, le-ltb, ltb-true, ltb-false, not-true}
-use lib.Dec.{eqb, ltb}
-use Rattle.page.specs.Figures.{slotCount, maxPins, swizzleBit}
+use lib.Dec.{ltb}
+use Rattle.page.specs.Figures.{maxPins, swizzleBit}
 use Rattle.page.specs.Word.{isNumber, frameIn, frameWord}
-use Rattle.page.specs.Page.{slot}
 use Rattle.machine.specs.declared.Handle.{Handle}
-use Rattle.machine.specs.Tests.{pick, _and_, _or_, Rule, firstBroken}
-use Rattle.machine.specs.TestLaws.{clash, Case, case, on, off, or-second, first-kept, kept-then, numbered, pick-yes, pick-no}
-use Rattle.machine.specs.Machine.{State, recordAt}
+use Rattle.machine.specs.Tests.{pick, _and_, Rule}
+use Rattle.machine.specs.TestLaws.{case, on, off, or-second, first-kept, kept-then, numbered, pick-yes, pick-no}
+use Rattle.machine.specs.Machine.{State}
 use Rattle.machine.specs.Naming.{loadable}
 use Rattle.machine.specs.Sweep.{firstEmpty, sweep}
 use Rattle.machine.specs.Rules.{wordOf, rule3, rule4, rule7, rule13, rule14, rule15}
 use Rattle.machine.specs.Answers.{Out, out, refused}
 use Rattle.machine.specs.Calls.{decide, pinnedOut, loadedOut, sweptOut, missOut, fixEntryRules, fixCall}
-use Rattle.machine.specs.View.{View, view, Occupied, Absent}
+use Rattle.machine.specs.View.{view, Absent}
 use Rattle.machine.specs.History.{Point, accepted}
 use Rattle.machine.specs.Invariant.{Invariant}
-use Rattle.machine.specs.SweepLaws.{FirstEmpty, empty, full, first-empty}
-use Rattle.machine.specs.Outcomes.{Outcome, kept, broken, Parts, parts, first, second, Usual, usual, usual-breach, lacks}
-use Rattle.machine.specs.TestReads.{Handled}
+use Rattle.machine.specs.SweepLaws.{empty, full, first-empty}
+use Rattle.machine.specs.Outcomes.{Outcome, kept, broken, parts, first, second, Usual, usual, usual-breach, lacks}
 use Rattle.machine.specs.InvariantReads.{may-load}
 use Rattle.machine.specs.CallCases.{AtName, name-rules, after-pool}
 

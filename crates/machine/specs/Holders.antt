@@ -1,11 +1,10 @@
 -- Which frame holds a page: what `found` says of the view. Assumes nothing.
-use Prim.Native.Nat.{ℕ, _<_, _≤_}
-use mathlib.Core.Path.{_≡_, refl, sym, _∙_}
-use mathlib.Core.Logic.{_≢_}
-use mathlib.Core.Bool.{Bool, true, false}
+use Prim.Native.Nat.{ℕ}
+use mathlib.Core.Path.{_≡_, sym, _∙_}
+use mathlib.Core.Bool.{true, false}
 use borrow.Author.Tests.{ltb-true, ltb-false}
 use lib.Dec.{ltb}
-use Rattle.machine.specs.TestLaws.{Case, case, on, off}
+use Rattle.machine.specs.TestLaws.{case, on, off}
 use Rattle.machine.specs.Machine.{State, occupied, found}
 use Rattle.machine.specs.AgreementFacts.{occupied-lt, occupied-used, make-occupied}
 use Rattle.machine.specs.FoundLaws.{found-holds, holds-found, found-none, none-found}

@@ -1,34 +1,30 @@
 -- The invariant makes every test that the calls compute what it should be. Assumes nothing.
-use Prim.Native.Nat.{ℕ, suc, _+_, _*_, _-_, _/_, _<_, _≤_}
+use Prim.Native.Nat.{ℕ, suc, _*_, _/_, _<_, _≤_}
 use mathlib.Core.Path.{_≡_, refl, sym, _∙_, ap}
 use mathlib.Core.Logic.{_≢_}
-use mathlib.Core.Bool.{Bool, true, false, not}
-use mathlib.Core.List.{List, [], _∷_, _++_}
+use mathlib.Core.Bool.{true, false, not}
+use mathlib.Core.List.{List, _∷_}
 use native.Mathlib.Omega.{arith}
 use native.Mathlib.Decide.{ℕ-discrete, decLt}
-use borrow.Author.Tests.{eqb-true, eqb-false, eq-eqb, ne-eqb, lt-ltb, le-ltb, ltb-true, ltb-false, not-true, not-false}
-use lib.Dec.{eqb, ltb, leb}
+use borrow.Author.Tests.{eqb-true, eqb-false, eq-eqb, lt-ltb, not-true}
+use lib.Dec.{eqb, ltb}
 use lib.ListN.{length}
-use Rattle.page.specs.Figures.{pageSize, slotCount, recordCount, maxPins, maxUsage, swizzleBit}
-use Rattle.page.specs.Word.{isNumber, frameIn, frameWord}
+use Rattle.page.specs.Figures.{pageSize, slotCount, swizzleBit}
+use Rattle.page.specs.Word.{frameIn, frameWord}
 use Rattle.page.specs.Page.{slot}
 use Rattle.machine.specs.declared.FrameRecord.{FrameRecord}
-use Rattle.machine.specs.declared.Handle.{Handle}
-use Rattle.machine.specs.Tests.{pick, _and_, _or_, every, some, Rule, firstBroken}
-use Rattle.machine.specs.TestLaws.{clash, Case, case, on, off, is-off, and-true, both, or-left, or-right, every-true, true-every, some-true, true-some, some-false, false-some, pick-yes, pick-no, kept-then}
-use Rattle.machine.specs.Machine.{State, recordAt, pageIn, occupied, found, blank}
-use Rattle.machine.specs.Agreement.{parentOf, isBlank, reachesRoot, agree}
+use Rattle.machine.specs.Tests.{_and_, some, Rule, firstBroken}
+use Rattle.machine.specs.TestLaws.{clash, case, on, off, is-off, and-true, both, or-left, or-right, true-every, some-true, some-false, false-some, pick-yes, pick-no, kept-then}
+use Rattle.machine.specs.Machine.{recordAt, occupied, found, blank}
+use Rattle.machine.specs.Agreement.{parentOf, isBlank}
 use Rattle.machine.specs.Parents.{climb, climb-reach}
-use Rattle.machine.specs.AgreementFacts.{occupied-lt, occupied-used, make-occupied, Points, InRange, Agreed, tests}
-use Rattle.machine.specs.Moves.{plain}
+use Rattle.machine.specs.AgreementFacts.{occupied-lt, make-occupied, Points, InRange, Agreed, tests}
 use Rattle.machine.specs.Naming.{currentWord, named, namedByResident, repeated, wordLoadable, loadable}
-use Rattle.machine.specs.Sweep.{childless, isOpen}
-use Rattle.machine.specs.Rules.{lengthsFit, handleFits, rule1, rule2}
-use Rattle.machine.specs.Calls.{poolRules}
-use Rattle.machine.specs.Ready.{Lengths, of-lengths}
-use Rattle.machine.specs.View.{View, view, Reach, top, via, Occupied, Absent, Parent, Child, Shape, Map, Content, MapSound, plain-low, plain-high, Reading, reading, low, high}
+use Rattle.machine.specs.Rules.{lengthsFit, rule1, rule2}
+use Rattle.machine.specs.Ready.{of-lengths}
+use Rattle.machine.specs.View.{view, Reach, top, via, Occupied, Absent, Parent, Child}
 use Rattle.machine.specs.History.{Point}
-use Rattle.machine.specs.Invariant.{NeatRecord, Neat, Invariant, mapOf}
+use Rattle.machine.specs.Invariant.{NeatRecord, Invariant}
 use Rattle.machine.specs.Holders.{occupied-of, of-occupied, Holder, holder-found, absent-found}
 
 -- a blank record passes its test

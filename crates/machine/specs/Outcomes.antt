@@ -1,5 +1,5 @@
 -- The two cases of a call: no rule is broken and it does as it says, or it is refused and leaves all as it was. Assumes nothing.
-use Prim.Native.Nat.{ℕ, suc}
+use Prim.Native.Nat.{ℕ}
 use mathlib.Core.Path.{_≡_, refl, sym, _∙_, ap}
 use mathlib.Core.Logic.{_≢_}
 use mathlib.Core.Bool.{Bool, true, false, not}
@@ -8,10 +8,10 @@ use native.Mathlib.Omega.{arith}
 use native.Mathlib.Decide.{ℕ-discrete}
 use borrow.Author.Tests.{eqb-false, not-true}
 use lib.Dec.{eqb}
-use Rattle.machine.specs.Tests.{_and_, pick, Rule, firstBroken, verdict}
+use Rattle.machine.specs.Tests.{_and_, pick, Rule, firstBroken}
 use Rattle.machine.specs.TestLaws.{clash, and-true, verdict-yes, verdict-no, numbered, broken-then}
 use Rattle.machine.specs.Machine.{State}
-use Rattle.machine.specs.Answers.{Answer, refused, Out, out}
+use Rattle.machine.specs.Answers.{refused, Out, out}
 use Rattle.machine.specs.Calls.{decide}
 use Rattle.machine.specs.History.{accepted}
 

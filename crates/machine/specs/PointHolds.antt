@@ -1,24 +1,23 @@
 -- What demand 3 says of a point by itself, from the invariant: frames, pins, the tree, bytes, words. Assumes nothing.
-use Prim.Native.Nat.{ℕ, _+_, _<_, _≤_}
+use Prim.Native.Nat.{ℕ, _<_, _≤_}
 use mathlib.Core.Path.{_≡_, refl, sym, _∙_, ap}
 use mathlib.Core.Logic.{_≢_}
-use mathlib.Core.Bool.{Bool, true, false}
-use native.Mathlib.Omega.{arith}
+use mathlib.Core.Bool.{true}
 use native.Mathlib.Decide.{ℕ-discrete}
 use borrow.Author.Tests.{lt-ltb}
 use Rattle.page.specs.Figures.{pageSize, slotCount, payloadStart, swizzleBit}
 use Rattle.page.specs.Word.{isNumber, frameWord}
 use Rattle.page.specs.Page.{slot, byte}
-use Rattle.machine.specs.Machine.{State, recordAt, occupied, blank}
+use Rattle.machine.specs.Machine.{recordAt, occupied, blank}
 use Rattle.machine.specs.Moves.{plain}
-use Rattle.machine.specs.TestLaws.{Case, case, on, off}
+use Rattle.machine.specs.TestLaws.{case, on, off}
 use Rattle.machine.specs.History.{Point}
 use Rattle.machine.specs.Demand3.{InFrame, Resident, Pinned, Names, LeadsToRoot, atRoot, toParent}
-use Rattle.machine.specs.View.{View, view, Reach, top, via, Occupied, Absent, Parent, Child, plain-low, plain-high, Reading, reading, low, high}
+use Rattle.machine.specs.View.{view, Reach, top, via, Occupied, Absent, Parent, Child, plain-low, plain-high, reading, low, high}
 use Rattle.machine.specs.Invariant.{Invariant}
 use Rattle.machine.specs.Holders.{Holder, occupied-of}
 use Rattle.machine.specs.InvariantReads.{blank-record}
-use Rattle.machine.specs.Residence.{in-frame, resident, holder, not-resident, pinned-holder}
+use Rattle.machine.specs.Residence.{in-frame, resident, holder, pinned-holder}
 
 -- a word of page p in frame f against the map's: a number, of no resident page, or swizzled to the frame of the page that the map's names
 pub data Meets (x : Point) (p f k : ℕ) : Type 0 where

@@ -1,23 +1,21 @@
 -- Demand 3's words for residence and pins, read by the invariant: the frame that find gives holds the page, and the balance is the records' pins. Assumes nothing.
-use Prim.Native.Nat.{ℕ, _+_, _<_, _≤_}
+use Prim.Native.Nat.{ℕ, _+_, _<_}
 use mathlib.Core.Path.{_≡_, refl, sym, _∙_, ap}
 use mathlib.Core.Logic.{_≢_}
-use mathlib.Core.Bool.{Bool, true, false}
 use mathlib.Core.List.{[], _∷_}
 use native.Mathlib.Omega.{arith}
 use borrow.Author.Tests.{lt-ltb, le-ltb, ltb-true}
-use lib.Dec.{ltb}
 use Rattle.machine.specs.TestLaws.{kept-then, none-broken, pick-yes, pick-no}
-use Rattle.machine.specs.Machine.{State, pageNumber, found}
-use Rattle.machine.specs.Answers.{Answer, refused, frame, nowhere, Out, out}
+use Rattle.machine.specs.Machine.{pageNumber, found}
+use Rattle.machine.specs.Answers.{refused, frame, nowhere, Out, out}
 use Rattle.machine.specs.Rules.{rule6}
 use Rattle.machine.specs.Calls.{foundAnswer, findCall}
 use Rattle.machine.specs.History.{Point}
 use Rattle.machine.specs.Demand3.{InFrame, Resident, Pinned}
-use Rattle.machine.specs.View.{View, view, Occupied, Absent}
+use Rattle.machine.specs.View.{view, Absent}
 use Rattle.machine.specs.Invariant.{Invariant}
-use Rattle.machine.specs.Outcomes.{Outcome, kept, broken, Cases, granted, denied}
-use Rattle.machine.specs.Holders.{Holder, Place, place, held, unheld, found-holder, found-absent}
+use Rattle.machine.specs.Outcomes.{kept, broken, granted, denied}
+use Rattle.machine.specs.Holders.{Holder, place, held, unheld, found-holder, found-absent}
 use Rattle.machine.specs.CallCases.{after-pool, find-case}
 
 module _ (x : Point) (I : Invariant x) where

@@ -1,9 +1,7 @@
 -- Every call keeps the invariant, accepted or refused. Assumes nothing.
 use Prim.Native.Nat.{ℕ, _/_}
-use mathlib.Core.Path.{_≡_, refl, sym, _∙_, ap}
-use mathlib.Core.Logic.{_≢_}
-use mathlib.Core.Bool.{Bool, true, false}
-use mathlib.Core.List.{List}
+use mathlib.Core.Path.{_≡_, refl}
+use mathlib.Core.Bool.{true}
 use native.Mathlib.Omega.{arith}
 use lib.Dec.{ltb}
 use lib.ListN.{length}
@@ -14,21 +12,19 @@ use Rattle.page.specs.Octets.{Octets}
 use Rattle.machine.specs.declared.Handle.{Handle}
 use Rattle.machine.specs.Tests.{pick}
 use Rattle.machine.specs.TestLaws.{pick-either}
-use Rattle.machine.specs.Machine.{State, state, zeroPool, found}
+use Rattle.machine.specs.Machine.{state, zeroPool, found}
 use Rattle.machine.specs.Soundness.{sound}
 use Rattle.machine.specs.Sweep.{firstEmpty}
-use Rattle.machine.specs.Rules.{wordOf}
 use Rattle.machine.specs.Answers.{Answer, refused, done, handle, payload, number, frame, nowhere, inFrames, inStore, Out, out}
-use Rattle.machine.specs.Calls.{opened, openCall, fixCall, payloadPlace, foundAnswer}
-use Rattle.machine.specs.History.{Call, reopen, root, fix, unfix, show, peek, word, write, link, unlink, evict, settle, find, Row, row, Point, start, continued, reopened, next, accepted, counted, fixedIn}
-use Rattle.machine.specs.View.{View, view, Occupied, Child}
+use Rattle.machine.specs.Calls.{opened, fixCall, payloadPlace, foundAnswer}
+use Rattle.machine.specs.History.{Call, reopen, root, fix, unfix, show, peek, word, write, link, unlink, evict, settle, find, Row, row, Point, continued, reopened, next}
 use Rattle.machine.specs.Invariant.{Invariant}
 use Rattle.machine.specs.Keeps.{pin-keeps, unpin-keeps, write-keeps, relink-keeps, evict-keeps, load-keeps, settle-keeps, open-keeps}
 use Rattle.machine.specs.SweepStep.{swept-keeps}
 use Rattle.machine.specs.Outcomes.{Cases, granted, denied}
 use Rattle.machine.specs.InvariantReads.{lengths-fit-open}
-use Rattle.machine.specs.CallCases.{AtName, open-case, root-case, unfix-case, show-case, word-case, write-case, peek-case, find-case, link-case, unlink-case, evict-case, settle-case}
-use Rattle.machine.specs.FixCases.{FixCase, pins, fills, sweeps, refuses, fix-case}
+use Rattle.machine.specs.CallCases.{open-case, root-case, unfix-case, show-case, word-case, write-case, peek-case, find-case, link-case, unlink-case, evict-case, settle-case}
+use Rattle.machine.specs.FixCases.{pins, fills, sweeps, refuses, fix-case}
 
 module _ (x : Point) (I : Invariant x) where
   -- a call that begins no new history: what its accepted case keeps, it keeps

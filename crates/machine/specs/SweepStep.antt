@@ -1,24 +1,21 @@
 -- A page that comes into the frame that a sweep takes: the sweep, the eviction and the load keep the invariant one after the other. Assumes nothing.
-use Prim.Native.Nat.{ℕ, _+_, _<_, _≤_}
-use mathlib.Core.Path.{_≡_, refl, sym, _∙_, ap}
+use Prim.Native.Nat.{ℕ, _<_}
+use mathlib.Core.Path.{_≡_, _∙_, ap}
 use mathlib.Core.Logic.{_≢_}
-use mathlib.Core.Bool.{Bool, true, false}
+use mathlib.Core.Bool.{true}
 use native.Mathlib.Omega.{arith}
 use native.Mathlib.Decide.{ℕ-discrete}
-use lib.ListN.{length}
-use lib.Seq.{getD-set-same, getD-set-other}
-use Rattle.page.specs.Figures.{slotCount, recordCount, swizzleBit}
+use Rattle.page.specs.Figures.{slotCount, swizzleBit}
 use Rattle.page.specs.Word.{frameWord}
-use Rattle.page.specs.Page.{slot, slot-putSlot-slot, slot-putSlot-page}
-use Rattle.machine.specs.declared.FrameRecord.{FrameRecord}
-use Rattle.machine.specs.Machine.{State, withPool, blank, recordAt}
+use Rattle.machine.specs.Machine.{State, withPool}
 use Rattle.machine.specs.Moves.{evicted, loaded}
 use Rattle.machine.specs.Sweep.{sweep, withSwept}
 use Rattle.machine.specs.Calls.{sweptOut}
 use Rattle.machine.specs.History.{Point, fixedIn}
-use Rattle.machine.specs.View.{View, view, Occupied, Parent}
+use Rattle.machine.specs.View.{view, Occupied, Parent}
 use Rattle.machine.specs.Invariant.{Invariant}
-use Rattle.machine.specs.Keeps.{evict-keeps, load-keeps, sweep-keeps}
+use Rattle.machine.specs.EvictEffect.{Evicted, evicted-is}
+use Rattle.machine.specs.Keeps.{evict-effect, evict-keeps, load-keeps, sweep-keeps}
 use Rattle.machine.specs.SweepLaws.{Cooled, sweep-cooled, sweep-sound}
 use Rattle.machine.specs.TestReads.{Open, open-of}
 
@@ -30,33 +27,24 @@ at x s = record { now = s; map = x .map; balance = x .balance }
 
 module _ (x : Point) (I : Invariant x) (g : ℕ) (og : Occupied (view (x .now)) g) (O : Open (view (x .now)) g)
     (f k : ℕ) (of : Occupied (view (x .now)) f) (fg : f ≢ g) (hk : k < slotCount) (low : view (x .now) .word f k < swizzleBit) (nz : view (x .now) .word f k ≢ 0) where
-  gone : view (evicted (x .now) g) .used g ≡ false
-  unfolding evicted
-  gone = ap (λ (r : FrameRecord). r .used) (getD-set-same (x .now .pool .records) g blank blank (omega (arith, I .records, I .shape .most, og .lt)))
+  E : Evicted (view (x .now)) (view (evicted (x .now) g)) g
+  E = evict-effect x I g og (O .notRoot)
 
-  stays : Occupied (view (evicted (x .now) g)) f
-  unfolding evicted
-  stays = record { lt = of .lt; on = ap (λ (r : FrameRecord). r .used) (getD-set-other (x .now .pool .records) g f blank blank fg) ∙ of .on }
-
+  -- the word is no parent's, which would be swizzled
   same-word : view (evicted (x .now) g) .word f k ≡ view (x .now) .word f k
-  unfolding evicted
   same-word =
       let P : Parent (view (x .now)) g = I .shape .parent g og (O .notRoot) in
       elim (ℕ-discrete f (view (x .now) .up g)) [
-        | no a ↦ slot-putSlot-page (x .now .frames) (view (x .now) .up g) (view (x .now) .upSlot g) _ f k (P .inPage) hk (λ e. a (sym e))
+        | no a ↦ E .wordPage f k (of .lt) hk a
         | yes a ↦ elim (ℕ-discrete k (view (x .now) .upSlot g)) [
-          | no b ↦ rw a (slot-putSlot-slot (x .now .frames) (view (x .now) .up g) (view (x .now) .upSlot g) _ k (λ e. b (sym e)))
+          | no b ↦ E .wordSlot f k (of .lt) hk b
           | yes b ↦ absurd (let w : view (x .now) .word f k ≡ frameWord g = rw (a, b) (P .names) in omega arith)
         ]
       ]
 
-  same-count : view (evicted (x .now) g) .F ≡ view (x .now) .F
-  unfolding evicted
-  same-count = refl
-
   replace-keeps : Invariant (record { now = loaded (evicted (x .now) g) f k g (view (x .now) .word f k); map = x .map; balance = fixedIn g (view (x .now) .word f k) (x .balance) })
   replace-keeps = load-keeps (at x (evicted (x .now) g)) (evict-keeps x I g og (O .notRoot) (O .leaf) (O .unpinned)) f k g (view (x .now) .word f k)
-      stays hk (rw same-count (og .lt)) gone same-word low nz
+      (evicted-is _ _ g E f of fg) hk (rw (E .sameF) (og .lt)) (E .gone) same-word low nz
 
 -- ---- the same after a sweep that took frame g
 
