@@ -33,6 +33,7 @@ pub mod KeepsLoad
 pub mod KeepsSettle
 pub mod MoveLaws
 pub mod KeepsOpen
+pub mod Keeps
 pub mod Outcomes
 pub mod Holders
 pub mod TestReads

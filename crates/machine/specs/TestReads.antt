@@ -3,11 +3,11 @@ use Prim.Native.Nat.{ℕ, _<_, _≤_}
 use mathlib.Core.Path.{_≡_, refl, sym, _∙_}
 use mathlib.Core.Logic.{_≢_}
 use mathlib.Core.Bool.{true, false}
-use borrow.Author.Tests.{eqb-true, eqb-false, eq-eqb, ne-eqb, lt-ltb, ltb-true, ltb-false}
+use borrow.Author.Tests.{eqb-true, eqb-false, eq-eqb, ne-eqb, ltb-true, ltb-false}
 use lib.Dec.{eqb, ltb}
 use Rattle.page.specs.Figures.{slotCount, swizzleBit}
 use Rattle.machine.specs.declared.Handle.{Handle}
-use Rattle.machine.specs.TestLaws.{clash, case, on, off, and-true, every-true, true-every, false-every, pick-yes, pick-no}
+use Rattle.machine.specs.TestLaws.{clash, case, on, off, and-true, every-true, false-every, pick-yes, pick-no}
 use Rattle.machine.specs.Machine.{State, recordAt}
 use Rattle.machine.specs.Sweep.{childless, isOpen}
 use Rattle.machine.specs.Rules.{handleFits}
@@ -48,11 +48,6 @@ open-of s f t = elim (case (eqb f 0)) [
         }
       ]
 ]
-
-pub of-open : (s : State) (f : ℕ) → Open (view s) f → isOpen (recordAt (s .pool .records) f) (s .frames) f ≡ true
-unfolding isOpen childless
-of-open s f O =
-    sym (pick-no false (ne-eqb f 0 (O .notRoot)) (pick-yes false (eq-eqb _ 0 (O .unpinned)) (sym (true-every slotCount _ (λ k h. lt-ltb _ swizzleBit (O .leaf k h))))))
 
 -- an unpinned frame that is not the root's and yet not open has a swizzled word
 pub shut-of : (s : State) (f : ℕ) → isOpen (recordAt (s .pool .records) f) (s .frames) f ≡ false → f ≢ 0 → view s .pins f ≡ 0 → (k : ℕ) × (k < slotCount) × (swizzleBit ≤ view s .word f k)
