@@ -8,12 +8,12 @@ use native.Mathlib.Omega.{arith}
 use borrow.Author.Tests.{lt-ltb, le-ltb}
 use lib.ListN.{length, take, drop, getD, length-take, length-drop}
 use lib.Seq.{getD-take, getD-drop, ext-getD}
-use Rattle.page.specs.Figures.{pageSize, payloadStart, payloadSize}
-use Rattle.page.specs.Page.{slot, byte, payloadAt, bytesFrom, payloadOf}
+use Rattle.page.specs.Figures.{pageSize, payloadStart}
+use Rattle.page.specs.Page.{slot, byte, bytesFrom, payloadOf}
 use Rattle.machine.specs.declared.Handle.{Handle}
 use Rattle.machine.specs.TestLaws.{pick-yes, pick-no, pick-either}
 use Rattle.machine.specs.Machine.{pageNumber, found}
-use Rattle.machine.specs.Answers.{Answer, refused, number, frame, inFrames, inStore, Out}
+use Rattle.machine.specs.Answers.{Answer, refused, number, frame, Out}
 use Rattle.machine.specs.Calls.{showCall, payloadPlace, peekCall, wordCall, foundAnswer, fixCall}
 use Rattle.machine.specs.History.{Call, reopen, root, fix, unfix, show, peek, word, write, link, unlink, evict, settle, find, Point, accepted, row}
 use Rattle.machine.specs.Demand3.{GivesPayload}
@@ -21,7 +21,7 @@ use Rattle.machine.specs.View.{view, Absent}
 use Rattle.machine.specs.Invariant.{Invariant}
 use Rattle.machine.specs.Outcomes.{Usual, granted-of, no-refusal, one-refusal, denied-of}
 use Rattle.machine.specs.Holders.{Holder, place, held, unheld, found-absent}
-use Rattle.machine.specs.CallCases.{open-case, root-case, unfix-case, show-case, word-case, write-case, peek-case, find-case, link-case, unlink-case, evict-case, settle-case}
+use Rattle.machine.specs.CallCases.{open-case, root-case, handle-case, unfix-case, word-case, write-case, peek-case, find-case, link-case, unlink-case, evict-case, settle-case}
 use Rattle.machine.specs.FixCases.{pins, fills, sweeps, refuses, fix-case}
 use Rattle.machine.specs.PointHolds.{plain-word}
 
@@ -50,18 +50,20 @@ module _ (x : Point) (I : Invariant x) where
   store-payload : (p : ℕ) → p < x .now .pool .pages → Absent (view (x .now)) p → payloadOf (x .now .store) p ≡ payloadOf (x .map) p
   store-payload p l a = payload-same (x .now .store) (x .map) p p _ _ (I .sized .store) l (I .mapLength) l (λ i lo hi. I .content .absentByte p i l a lo hi)
 
+  -- the bytes at the place that a call answers are the map's
   pub show-gives : (h : Handle) → accepted (showCall (x .now) h .answer) ≡ true → GivesPayload x (showCall (x .now) h .answer) (h .page .0)
+  unfolding showCall
   show-gives h t =
-      let r = granted-of _ _ _ _ (show-case x I h) t in
-      (inFrames, payloadAt (h .frame .0), payloadSize, ap answerOf (r .1), frame-payload (h .page .0) (h .frame .0) (record { at = r .0 .at; page = r .0 .page }))
+      let r = granted-of _ _ _ _ (handle-case x I h _) t in
+      (_, _, _, ap answerOf (r .1), frame-payload (h .page .0) (h .frame .0) (record { at = r .0 .at; page = r .0 .page }))
 
-  place-gives : (p : ℕ) → p < x .now .pool .pages → GivesPayload x (payloadPlace (x .now) p) p
+  pub place-gives : (p : ℕ) → p < x .now .pool .pages → GivesPayload x (payloadPlace (x .now) p) p
   unfolding payloadPlace
   place-gives p l = elim (place (x .now) p) [
-    | held h ↦ (inFrames, payloadAt (found (x .now .pool) p), payloadSize, sym (pick-yes _ (lt-ltb _ _ (h .at .lt)) refl), frame-payload p (found (x .now .pool) p) h)
+    | held h ↦ (_, _, _, sym (pick-yes _ (lt-ltb _ _ (h .at .lt)) refl), frame-payload p (found (x .now .pool) p) h)
     | unheld a ↦
         let e : found (x .now .pool) p ≡ x .now .pool .count = found-absent (x .now) p a in
-        (inStore, payloadAt p, payloadSize, sym (pick-no _ (le-ltb (found (x .now .pool) p) (x .now .pool .count) (omega arith)) refl), store-payload p l a)
+        (_, _, _, sym (pick-no _ (le-ltb (found (x .now .pool) p) (x .now .pool .count) (omega arith)) refl), store-payload p l a)
   ]
 
   pub peek-gives : (p : ℕ) → accepted (peekCall (x .now) (pageNumber p) .answer) ≡ true → GivesPayload x (peekCall (x .now) (pageNumber p) .answer) p
@@ -85,6 +87,10 @@ module _ (x : Point) (I : Invariant x) where
     | refuses m u q ↦ rw (one-refusal _ _ m n q e) at u
   ]
 
+  show-usual : (h : Handle) (n : ℕ) → showCall (x .now) h .answer ≡ refused n → Usual n
+  unfolding showCall
+  show-usual h n e = denied-of _ _ _ _ (handle-case x I h _) refl n e
+
   place-accepted : (p : ℕ) → accepted (payloadPlace (x .now) p) ≡ true
   unfolding payloadPlace
   place-accepted p = pick-either (λ (a : Answer). accepted a ≡ true) _ _ _ refl refl
@@ -98,7 +104,7 @@ module _ (x : Point) (I : Invariant x) where
   refusal-usual root n e = denied-of _ _ _ _ (root-case x I) refl n e
   refusal-usual (fix h k) n e = fix-usual h k n e
   refusal-usual (unfix h) n e = denied-of _ _ _ _ (unfix-case x I h) refl n e
-  refusal-usual (show h) n e = denied-of _ _ _ _ (show-case x I h) refl n e
+  refusal-usual (show h) n e = show-usual h n e
   refusal-usual (peek q) n e = denied-of _ _ _ _ (peek-case x I q) (place-accepted (q .0)) n e
   refusal-usual (word h k) n e = denied-of _ _ _ _ (word-case x I h k) refl n e
   refusal-usual (write h offset d) n e = denied-of _ _ _ _ (write-case x I h offset d) refl n e

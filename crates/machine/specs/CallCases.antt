@@ -11,7 +11,7 @@ use lib.ListN.{length}
 use Rattle.page.specs.declared.PageNumber.{PageNumber}
 use Rattle.page.specs.Figures.{pageSize, slotCount, payloadSize, maxPins, swizzleBit}
 use Rattle.page.specs.Word.{numberWord}
-use Rattle.page.specs.Page.{slot, payloadAt}
+use Rattle.page.specs.Page.{slot}
 use Rattle.machine.specs.declared.Handle.{Handle}
 use Rattle.machine.specs.Tests.{_and_, Rule, firstBroken}
 use Rattle.machine.specs.TestLaws.{and-true, first-kept, kept-then}
@@ -20,8 +20,8 @@ use Rattle.machine.specs.Moves.{plain, settled, evicted}
 use Rattle.machine.specs.Naming.{named}
 use Rattle.machine.specs.Soundness.{sound}
 use Rattle.machine.specs.Rules.{handleFits, rangeFits, wordOf, rule1, rule2, rule3, rule4, rule5, rule6, rule6-link, rule7, rule8, rule9, rule10, rule11, rule12, rule13, rule16}
-use Rattle.machine.specs.Answers.{done, payload, number, inFrames, Out, out}
-use Rattle.machine.specs.Calls.{decide, changeRecord, openRules, opened, openCall, pinnedOut, rootCall, unfixCall, showCall, payloadPlace, peekCall, wordCall, written, writeCall, relinked, linkCall, unlinkCall, evictCall, settleCall, foundAnswer, findCall}
+use Rattle.machine.specs.Answers.{done, number, Out, out}
+use Rattle.machine.specs.Calls.{decide, changeRecord, openRules, opened, openCall, pinnedOut, rootCall, unfixCall, payloadPlace, peekCall, wordCall, written, writeCall, relinked, linkCall, unlinkCall, evictCall, settleCall, foundAnswer, findCall}
 use Rattle.machine.specs.View.{view}
 use Rattle.machine.specs.History.{Point}
 use Rattle.machine.specs.Invariant.{Invariant}
@@ -98,17 +98,14 @@ module _ (x : Point) (I : Invariant x) where
   unfolding rootCall usual lacks _and_
   root-case = by-rules (rule13 (x .now) 0 ∷ []) _ _ refl (λ e. eqb-false _ maxPins (not-true _ (first-kept 12 _ [] e .0)))
 
-  handle-case : (h : Handle) (a : Out) → Cases (x .now) (Handled (view (x .now)) h) a (decide (x .now) (rule1 (x .now) ∷ rule2 (x .now) ∷ rule3 (x .now) h ∷ []) a)
+  -- show is this one, with the answer that it names
+  pub handle-case : (h : Handle) (a : Out) → Cases (x .now) (Handled (view (x .now)) h) a (decide (x .now) (rule1 (x .now) ∷ rule2 (x .now) ∷ rule3 (x .now) h ∷ []) a)
   unfolding usual lacks _and_
   handle-case h a = by-rules (rule3 (x .now) h ∷ []) _ a refl (λ e. handled (x .now) h (first-kept 2 _ [] e .0))
 
   pub unfix-case : (h : Handle) → Cases (x .now) (Handled (view (x .now)) h) (out done (changeRecord (x .now) (h .frame .0) unpinned)) (unfixCall (x .now) h)
   unfolding unfixCall
   unfix-case h = handle-case h _
-
-  pub show-case : (h : Handle) → Cases (x .now) (Handled (view (x .now)) h) (out (payload inFrames (payloadAt (h .frame .0)) payloadSize) (x .now)) (showCall (x .now) h)
-  unfolding showCall
-  show-case h = handle-case h _
 
   pub word-case : (h : Handle) (k : ℕ) → Cases (x .now) (AtSlot (x .now) h k) (out (number (plain (pageIn (x .now .pool .records)) (wordOf (x .now) h k))) (x .now)) (wordCall (x .now) h k)
   unfolding wordCall usual lacks _and_

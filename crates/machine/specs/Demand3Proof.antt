@@ -1,4 +1,5 @@
--- Demand 3 holds: the invariant at every point of every list of calls from an accepted open, and what follows from it there. Assumes nothing.
+-- Demand 3: the invariant at every point of every list of calls from an accepted open, and what follows from it there.
+-- `holds` assumes nothing. `demand3-by` is given the clauses of `run` and `AllBytes`, which unfold in specs/History alone, and assumes nothing else.
 use Prim.Native.Nat.{ℕ, _/_}
 use mathlib.Core.Path.{_≡_, refl, sym, _∙_, ap}
 use mathlib.Core.List.{List, [], _∷_}
@@ -57,7 +58,7 @@ start-keeps frames store bf bs o (broken n z b q) e = absurd (other n (sym (ap (
     other : (m : ℕ) → refused m ≡ done → ⊥
     other m c = let y : _≡_ {A = ℕ} 0 1 = cc in omega arith
 
--- the clauses of `run` and of `AllBytes`
+-- the clauses of `run` and of `AllBytes`, as specs/History writes them
 pub record ByClauses : Type 0 where
   pub none : (x : Point) → run [] x ≡ x
   pub more : (c : Call) (cs : List Call) (x : Point) → run (c ∷ cs) x ≡ run cs (next c x)

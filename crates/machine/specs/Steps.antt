@@ -1,13 +1,12 @@
 -- Every call keeps the invariant, accepted or refused. Assumes nothing.
-use Prim.Native.Nat.{ℕ, _/_}
+use Prim.Native.Nat.{ℕ, _/_, _<_}
 use mathlib.Core.Path.{_≡_, refl}
 use mathlib.Core.Bool.{true}
 use native.Mathlib.Omega.{arith}
 use lib.Dec.{ltb}
 use lib.ListN.{length}
 use Rattle.page.specs.declared.PageNumber.{PageNumber}
-use Rattle.page.specs.Figures.{pageSize, payloadSize}
-use Rattle.page.specs.Page.{payloadAt}
+use Rattle.page.specs.Figures.{pageSize}
 use Rattle.page.specs.Octets.{Octets}
 use Rattle.machine.specs.declared.Handle.{Handle}
 use Rattle.machine.specs.Tests.{pick}
@@ -15,15 +14,16 @@ use Rattle.machine.specs.TestLaws.{pick-either}
 use Rattle.machine.specs.Machine.{state, zeroPool, found}
 use Rattle.machine.specs.Soundness.{sound}
 use Rattle.machine.specs.Sweep.{firstEmpty}
-use Rattle.machine.specs.Answers.{Answer, refused, done, handle, payload, number, frame, nowhere, inFrames, inStore, Out, out}
-use Rattle.machine.specs.Calls.{opened, fixCall, payloadPlace, foundAnswer}
+use Rattle.machine.specs.Answers.{Answer, refused, done, handle, number, frame, nowhere, Out, out}
+use Rattle.machine.specs.Calls.{opened, showCall, fixCall, payloadPlace, foundAnswer}
 use Rattle.machine.specs.History.{Call, reopen, root, fix, unfix, show, peek, word, write, link, unlink, evict, settle, find, Row, row, Point, continued, reopened, next}
 use Rattle.machine.specs.Invariant.{Invariant}
 use Rattle.machine.specs.Keeps.{pin-keeps, unpin-keeps, write-keeps, relink-keeps, evict-keeps, load-keeps, settle-keeps, open-keeps}
 use Rattle.machine.specs.SweepStep.{swept-keeps}
 use Rattle.machine.specs.Outcomes.{Cases, granted, denied}
 use Rattle.machine.specs.InvariantReads.{lengths-fit-open}
-use Rattle.machine.specs.CallCases.{open-case, root-case, unfix-case, show-case, word-case, write-case, peek-case, find-case, link-case, unlink-case, evict-case, settle-case}
+use Rattle.machine.specs.CallCases.{open-case, root-case, handle-case, unfix-case, word-case, write-case, peek-case, find-case, link-case, unlink-case, evict-case, settle-case}
+use Rattle.machine.specs.AnswersHold.{place-gives}
 use Rattle.machine.specs.FixCases.{pins, fills, sweeps, refuses, fix-case}
 
 module _ (x : Point) (I : Invariant x) where
@@ -37,10 +37,13 @@ module _ (x : Point) (I : Invariant x) where
   call-keeps r Facts a o (denied n u e) keeps = refused-keeps r n o e
 
   -- ---- the calls that change nothing: show, peek, word, find
-  peek-keeps : (q : PageNumber) → Invariant (continued (row (peek q)) (out (payloadPlace (x .now) (q .0)) (x .now)) x)
-  unfolding pick payloadPlace
-  peek-keeps q = pick-either (λ (a : Answer). Invariant (continued (row (peek q)) (out a (x .now)) x)) (ltb (found (x .now .pool) (q .0)) (x .now .pool .count))
-      (payload inFrames (payloadAt (found (x .now .pool) (q .0))) payloadSize) (payload inStore (payloadAt (q .0)) payloadSize) I I
+  show-keeps : (h : Handle) → Invariant (continued (row (show h)) (showCall (x .now) h) x)
+  unfolding showCall pick
+  show-keeps h = call-keeps (row (show h)) _ _ _ (handle-case x I h _) (λ H. I)
+
+  peek-keeps : (q : PageNumber) → q .0 < x .now .pool .pages → Invariant (continued (row (peek q)) (out (payloadPlace (x .now) (q .0)) (x .now)) x)
+  unfolding pick
+  peek-keeps q l = rw (place-gives x I (q .0) l .3) I
 
   find-keeps : (q : PageNumber) → Invariant (continued (row (find q)) (out (foundAnswer (x .now) (q .0)) (x .now)) x)
   unfolding pick foundAnswer
@@ -70,8 +73,8 @@ module _ (x : Point) (I : Invariant x) where
   step-keeps root b = call-keeps (row root) _ _ _ (root-case x I) (λ few. pin-keeps x I 0 (I .shape .root) few)
   step-keeps (fix h k) b = fix-keeps h k
   step-keeps (unfix h) b = call-keeps (row (unfix h)) _ _ _ (unfix-case x I h) (λ H. rw (H .page) at (unpin-keeps x I (h .frame .0) (H .at) (H .pinned)))
-  step-keeps (show h) b = call-keeps (row (show h)) _ _ _ (show-case x I h) (λ H. I)
-  step-keeps (peek q) b = call-keeps (row (peek q)) _ _ _ (peek-case x I q) (λ l. peek-keeps q)
+  step-keeps (show h) b = show-keeps h
+  step-keeps (peek q) b = call-keeps (row (peek q)) _ _ _ (peek-case x I q) (peek-keeps q)
   step-keeps (word h k) b = call-keeps (row (word h k)) _ _ _ (word-case x I h k) (λ A. I)
   step-keeps (write h offset d) b = call-keeps (row (write h offset d)) _ _ _ (write-case x I h offset d)
       (λ A. rw (A .handle .page) at (write-keeps x I (h .frame .0) (A .handle .at) offset d (A .fits) b))
