@@ -36,3 +36,17 @@ pub mod KeepsSettle
 pub mod MoveLaws
 pub mod KeepsOpen
 pub mod Keeps
+pub mod Outcomes
+pub mod Holders
+pub mod TestReads
+pub mod InvariantReads
+pub mod CallCases
+pub mod FixCases
+pub mod Residence
+pub mod PointHolds
+pub mod AnswersHold
+pub mod DeniedHolds
+pub mod SweepStep
+pub mod Steps
+pub mod HandlesHold
+pub mod Demand3Proof

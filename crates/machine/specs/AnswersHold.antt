@@ -1,0 +1,118 @@
+-- What demand 3 says of the answers of show, peek and word, and that 1, 2 and 14 are never answered, from the invariant. Assumes nothing.
+use Prim.Native.Nat.{ℕ, _+_, _*_, _<_, _≤_}
+use mathlib.Core.Path.{_≡_, refl, sym, _∙_, ap}
+use mathlib.Core.Logic.{_≢_}
+use mathlib.Core.Bool.{true}
+use mathlib.Core.List.{List}
+use native.Mathlib.Omega.{arith}
+use borrow.Author.Tests.{lt-ltb, le-ltb}
+use lib.ListN.{length, take, drop, getD, length-take, length-drop}
+use lib.Seq.{getD-take, getD-drop, ext-getD}
+use Rattle.page.specs.Figures.{pageSize, payloadStart}
+use Rattle.page.specs.Page.{slot, byte, bytesFrom, payloadOf}
+use Rattle.machine.specs.declared.Handle.{Handle}
+use Rattle.machine.specs.TestLaws.{pick-yes, pick-no, pick-either}
+use Rattle.machine.specs.Machine.{pageNumber, found}
+use Rattle.machine.specs.Answers.{Answer, refused, number, frame, Out}
+use Rattle.machine.specs.Calls.{showCall, payloadPlace, peekCall, wordCall, foundAnswer, fixCall}
+use Rattle.machine.specs.History.{Call, reopen, root, fix, unfix, show, peek, word, write, link, unlink, evict, settle, find, Point, accepted, row}
+use Rattle.machine.specs.Demand3.{GivesPayload}
+use Rattle.machine.specs.View.{view, Absent}
+use Rattle.machine.specs.Invariant.{Invariant}
+use Rattle.machine.specs.Outcomes.{Usual, granted-of, no-refusal, one-refusal, denied-of}
+use Rattle.machine.specs.Holders.{Holder, place, held, unheld, found-absent}
+use Rattle.machine.specs.CallCases.{open-case, root-case, handle-case, unfix-case, word-case, write-case, peek-case, find-case, link-case, unlink-case, evict-case, settle-case}
+use Rattle.machine.specs.FixCases.{pins, fills, sweeps, refuses, fix-case}
+use Rattle.machine.specs.PointHolds.{plain-word}
+
+-- two pages with equal payload bytes have one payload
+payload-same : (b c : List ℕ) (f p n m : ℕ) → length b ≡ pageSize * n → f < n → length c ≡ pageSize * m → p < m
+    → ((i : ℕ) → payloadStart ≤ i → i < pageSize → byte b f i ≡ byte c p i) → payloadOf b f ≡ payloadOf c p
+unfolding bytesFrom byte
+payload-same b c f p n m lb hf lc hp e =
+    let l1 : length (take 192 (drop (256 * f + 64) b)) ≡ 192 = simp (length-take, length-drop) (omega arith) in
+    let l2 : length (take 192 (drop (256 * p + 64) c)) ≡ 192 = simp (length-take, length-drop) (omega arith) in
+    ext-getD 0 _ _ (l1 ∙ sym l2) (λ i hi.
+    let hi2 : i < 192 = omega arith in
+    getD-take 192 (drop (256 * f + 64) b) i 0 hi2 ∙ getD-drop (256 * f + 64) b i 0 ∙ ap (λ (j : ℕ). getD b j 0) (omega arith)
+    ∙ e (64 + i) (omega arith) (omega arith)
+    ∙ sym (getD-take 192 (drop (256 * p + 64) c) i 0 hi2 ∙ getD-drop (256 * p + 64) c i 0 ∙ ap (λ (j : ℕ). getD c j 0) (omega arith)))
+
+abbrev answerOf : Out → Answer
+answerOf o = o .answer
+
+module _ (x : Point) (I : Invariant x) where
+  -- ---- payloads
+  frame-payload : (p f : ℕ) → Holder (view (x .now)) p f → payloadOf (x .now .frames) f ≡ payloadOf (x .map) p
+  frame-payload p f h = payload-same (x .now .frames) (x .map) f p _ _ (I .sized .frames) (h .at .lt) (I .mapLength) (rw (h .page) at (I .shape .pageLt f (h .at)))
+      (λ i lo hi. I .content .frameByte f i (h .at) lo hi ∙ ap (λ (q : ℕ). byte (x .map) q i) (h .page))
+
+  store-payload : (p : ℕ) → p < x .now .pool .pages → Absent (view (x .now)) p → payloadOf (x .now .store) p ≡ payloadOf (x .map) p
+  store-payload p l a = payload-same (x .now .store) (x .map) p p _ _ (I .sized .store) l (I .mapLength) l (λ i lo hi. I .content .absentByte p i l a lo hi)
+
+  -- the bytes at the place that a call answers are the map's
+  pub show-gives : (h : Handle) → accepted (showCall (x .now) h .answer) ≡ true → GivesPayload x (showCall (x .now) h .answer) (h .page .0)
+  unfolding showCall
+  show-gives h t =
+      let r = granted-of _ _ _ _ (handle-case x I h _) t in
+      (_, _, _, ap answerOf (r .1), frame-payload (h .page .0) (h .frame .0) (record { at = r .0 .at; page = r .0 .page }))
+
+  pub place-gives : (p : ℕ) → p < x .now .pool .pages → GivesPayload x (payloadPlace (x .now) p) p
+  unfolding payloadPlace
+  place-gives p l = elim (place (x .now) p) [
+    | held h ↦ (_, _, _, sym (pick-yes _ (lt-ltb _ _ (h .at .lt)) refl), frame-payload p (found (x .now .pool) p) h)
+    | unheld a ↦
+        let e : found (x .now .pool) p ≡ x .now .pool .count = found-absent (x .now) p a in
+        (_, _, _, sym (pick-no _ (le-ltb (found (x .now .pool) p) (x .now .pool .count) (omega arith)) refl), store-payload p l a)
+  ]
+
+  pub peek-gives : (p : ℕ) → accepted (peekCall (x .now) (pageNumber p) .answer) ≡ true → GivesPayload x (peekCall (x .now) (pageNumber p) .answer) p
+  peek-gives p t =
+      let r = granted-of _ _ _ _ (peek-case x I (pageNumber p)) t in
+      let g = place-gives p (r .0) in
+      (g .0, g .1, g .2, ap answerOf (r .1) ∙ g .3, g .4)
+
+  -- ---- words
+  pub word-gives : (h : Handle) (k : ℕ) → accepted (wordCall (x .now) h k .answer) ≡ true → wordCall (x .now) h k .answer ≡ number (slot (x .map) (h .page .0) k)
+  word-gives h k t =
+      let r = granted-of _ _ _ _ (word-case x I h k) t in
+      ap answerOf (r .1) ∙ ap number (plain-word x I (h .page .0) (h .frame .0) k (record { at = r .0 .handle .at; page = r .0 .handle .page }) (r .0 .inPage))
+
+  -- ---- refusals
+  fix-usual : (h : Handle) (k n : ℕ) → fixCall (x .now) h k .answer ≡ refused n → Usual n
+  fix-usual h k n e = elim (fix-case x I h k) [
+    | pins a g w m q ↦ absurd (no-refusal _ _ n q refl e)
+    | fills a w l u q ↦ absurd (no-refusal _ _ n q refl e)
+    | sweeps a w u t q ↦ absurd (no-refusal _ _ n q refl e)
+    | refuses m u q ↦ rw (one-refusal _ _ m n q e) at u
+  ]
+
+  show-usual : (h : Handle) (n : ℕ) → showCall (x .now) h .answer ≡ refused n → Usual n
+  unfolding showCall
+  show-usual h n e = denied-of _ _ _ _ (handle-case x I h _) refl n e
+
+  place-accepted : (p : ℕ) → accepted (payloadPlace (x .now) p) ≡ true
+  unfolding payloadPlace
+  place-accepted p = pick-either (λ (a : Answer). accepted a ≡ true) _ _ _ refl refl
+
+  found-accepted : (p : ℕ) → accepted (foundAnswer (x .now) p) ≡ true
+  unfolding foundAnswer
+  found-accepted p = pick-either (λ (a : Answer). accepted a ≡ true) _ _ _ refl refl
+
+  refusal-usual : (c : Call) (n : ℕ) → row c .out (x .now) .answer ≡ refused n → Usual n
+  refusal-usual reopen n e = denied-of _ _ _ _ (open-case x I) refl n e
+  refusal-usual root n e = denied-of _ _ _ _ (root-case x I) refl n e
+  refusal-usual (fix h k) n e = fix-usual h k n e
+  refusal-usual (unfix h) n e = denied-of _ _ _ _ (unfix-case x I h) refl n e
+  refusal-usual (show h) n e = show-usual h n e
+  refusal-usual (peek q) n e = denied-of _ _ _ _ (peek-case x I q) (place-accepted (q .0)) n e
+  refusal-usual (word h k) n e = denied-of _ _ _ _ (word-case x I h k) refl n e
+  refusal-usual (write h offset d) n e = denied-of _ _ _ _ (write-case x I h offset d) refl n e
+  refusal-usual (link h k q) n e = denied-of _ _ _ _ (link-case x I h k q) refl n e
+  refusal-usual (unlink h k) n e = denied-of _ _ _ _ (unlink-case x I h k) refl n e
+  refusal-usual (evict q) n e = denied-of _ _ _ _ (evict-case x I q) refl n e
+  refusal-usual settle n e = denied-of _ _ _ _ (settle-case x I) refl n e
+  refusal-usual (find q) n e = denied-of _ _ _ _ (find-case x I q) (found-accepted (q .0)) n e
+
+  pub never-refused : (c : Call) (n : ℕ) → row c .out (x .now) .answer ≡ refused n → (n ≢ 1) × (n ≢ 2) × (n ≢ 14)
+  never-refused c n e = let u = refusal-usual c n e in (u .not1, u .not2, u .not14)

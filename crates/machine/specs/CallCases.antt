@@ -1,0 +1,172 @@
+-- The cases of each call where the invariant holds: accepted, with what its rules say, or refused by a rule but 1, 2 and 14. Assumes nothing.
+use Prim.Native.Nat.{ℕ, _+_, _-_, _/_, _<_, _≤_}
+use mathlib.Core.Path.{_≡_, refl}
+use mathlib.Core.Logic.{_≢_}
+use mathlib.Core.Bool.{true, not}
+use mathlib.Core.List.{List, [], _∷_}
+use native.Mathlib.Omega.{arith}
+use borrow.Author.Tests.{eqb-true, eqb-false, ltb-true, leb-true, not-true}
+use lib.Dec.{eqb, ltb, leb}
+use lib.ListN.{length}
+use Rattle.page.specs.declared.PageNumber.{PageNumber}
+use Rattle.page.specs.Figures.{pageSize, slotCount, payloadSize, maxPins, swizzleBit}
+use Rattle.page.specs.Word.{numberWord}
+use Rattle.page.specs.Page.{slot}
+use Rattle.machine.specs.declared.Handle.{Handle}
+use Rattle.machine.specs.Tests.{_and_, Rule, firstBroken}
+use Rattle.machine.specs.TestLaws.{and-true, first-kept, kept-then}
+use Rattle.machine.specs.Machine.{State, state, zeroPool, pageIn, found, unpinned}
+use Rattle.machine.specs.Moves.{plain, settled, evicted}
+use Rattle.machine.specs.Naming.{named}
+use Rattle.machine.specs.Soundness.{sound}
+use Rattle.machine.specs.Rules.{handleFits, rangeFits, wordOf, rule1, rule2, rule3, rule4, rule5, rule6, rule6-link, rule7, rule8, rule9, rule10, rule11, rule12, rule13, rule16}
+use Rattle.machine.specs.Answers.{done, number, Out, out}
+use Rattle.machine.specs.Calls.{decide, changeRecord, openRules, opened, openCall, pinnedOut, rootCall, unfixCall, payloadPlace, peekCall, wordCall, written, writeCall, relinked, linkCall, unlinkCall, evictCall, settleCall, foundAnswer, findCall}
+use Rattle.machine.specs.View.{view}
+use Rattle.machine.specs.History.{Point}
+use Rattle.machine.specs.Invariant.{Invariant}
+use Rattle.machine.specs.Outcomes.{Outcome, outcome, usual, Cases, cases, lacks}
+use Rattle.machine.specs.Holders.{Holder, holder-found}
+use Rattle.machine.specs.TestReads.{Handled, handled, Open, open-of}
+use Rattle.machine.specs.InvariantReads.{lengths-fit-open, unbroken, unnamed}
+
+-- ---- what the rules of a call say where none is broken
+
+-- a slot of a handle's page
+pub record AtSlot (s : State) (h : Handle) (k : ℕ) : Type 0 where
+  pub handle : Handled (view s) h
+  pub inPage : k < slotCount
+
+-- a slot of a handle's page that names a page
+pub record AtName (s : State) (h : Handle) (k : ℕ) : Type 0 where
+  pub handle : Handled (view s) h
+  pub inPage : k < slotCount
+  pub filled : wordOf s h k ≢ 0
+
+pub record MayWrite (s : State) (h : Handle) (offset n : ℕ) : Type 0 where
+  pub handle : Handled (view s) h
+  pub fits : offset + n ≤ payloadSize
+
+pub record MayLink (x : Point) (h : Handle) (k q : ℕ) : Type 0 where
+  pub handle : Handled (view (x .now)) h
+  pub inPage : k < slotCount
+  pub vacant : wordOf (x .now) h k ≡ 0
+  pub below : q < x .now .pool .pages
+  pub fresh : (p j : ℕ) → p < x .now .pool .pages → j < slotCount → slot (x .map) p j ≢ q
+
+pub record MayUnlink (s : State) (h : Handle) (k : ℕ) : Type 0 where
+  pub handle : Handled (view s) h
+  pub inPage : k < slotCount
+  pub number : wordOf s h k < swizzleBit
+
+pub record MayEvict (s : State) (q : ℕ) : Type 0 where
+  pub holder : Holder (view s) q (found (s .pool) q)
+  pub isopen : Open (view s) (found (s .pool) q)
+
+range-fits : (offset n : ℕ) → rangeFits offset n ≡ true → offset + n ≤ payloadSize
+unfolding rangeFits
+range-fits offset n t =
+    let a = and-true (leb offset payloadSize) _ t in
+    let l : offset ≤ payloadSize = leb-true offset payloadSize (a .0) in
+    let m : n ≤ payloadSize - offset = leb-true n (payloadSize - offset) (a .1) in
+    omega arith
+
+module _ (s : State) where
+  slot-rules : (h : Handle) (k : ℕ) (rs : List Rule) → firstBroken (rule3 s h ∷ rule4 k ∷ rs) ≡ 0 → AtSlot s h k × (firstBroken rs ≡ 0)
+  slot-rules h k rs e =
+      let a = first-kept 2 (handleFits (s .pool) h) _ e in
+      let b = first-kept 3 (ltb k slotCount) rs (a .1) in
+      (record { handle = handled s h (a .0); inPage = ltb-true k slotCount (b .0) }, b .1)
+
+  pub name-rules : (h : Handle) (k : ℕ) (rs : List Rule) → firstBroken (rule3 s h ∷ rule4 k ∷ rule7 (wordOf s h k) ∷ rs) ≡ 0 → AtName s h k × (firstBroken rs ≡ 0)
+  name-rules h k rs e =
+      let a = slot-rules h k (rule7 (wordOf s h k) ∷ rs) e in
+      let b = first-kept 6 (not (eqb (wordOf s h k) 0)) rs (a .1) in
+      (record { handle = a .0 .handle; inPage = a .0 .inPage; filled = eqb-false _ 0 (not-true _ (b .0)) }, b .1)
+
+module _ (x : Point) (I : Invariant x) where
+  -- rules 1 and 2 are kept, so those after them decide
+  pub after-pool : (rs : List Rule) (a : Out) → Outcome (x .now) rs a (decide (x .now) (rule1 (x .now) ∷ rule2 (x .now) ∷ rs) a)
+  after-pool rs a = outcome (x .now) (rule1 (x .now) ∷ rule2 (x .now) ∷ rs) rs a (unbroken x I rs)
+
+  by-rules : (rs : List Rule) (Facts : Type 0) (a : Out) → usual rs ≡ true → (firstBroken rs ≡ 0 → Facts)
+      → Cases (x .now) Facts a (decide (x .now) (rule1 (x .now) ∷ rule2 (x .now) ∷ rs) a)
+  by-rules rs Facts a t facts = cases (x .now) rs Facts a _ t facts (after-pool rs a)
+
+  -- ---- root, unfix, show, word, write
+  pub root-case : Cases (x .now) (view (x .now) .pins 0 ≢ maxPins) (pinnedOut (x .now) 0) (rootCall (x .now))
+  unfolding rootCall usual lacks _and_
+  root-case = by-rules (rule13 (x .now) 0 ∷ []) _ _ refl (λ e. eqb-false _ maxPins (not-true _ (first-kept 12 _ [] e .0)))
+
+  -- show is this one, with the answer that it names
+  pub handle-case : (h : Handle) (a : Out) → Cases (x .now) (Handled (view (x .now)) h) a (decide (x .now) (rule1 (x .now) ∷ rule2 (x .now) ∷ rule3 (x .now) h ∷ []) a)
+  unfolding usual lacks _and_
+  handle-case h a = by-rules (rule3 (x .now) h ∷ []) _ a refl (λ e. handled (x .now) h (first-kept 2 _ [] e .0))
+
+  pub unfix-case : (h : Handle) → Cases (x .now) (Handled (view (x .now)) h) (out done (changeRecord (x .now) (h .frame .0) unpinned)) (unfixCall (x .now) h)
+  unfolding unfixCall
+  unfix-case h = handle-case h _
+
+  pub word-case : (h : Handle) (k : ℕ) → Cases (x .now) (AtSlot (x .now) h k) (out (number (plain (pageIn (x .now .pool .records)) (wordOf (x .now) h k))) (x .now)) (wordCall (x .now) h k)
+  unfolding wordCall usual lacks _and_
+  word-case h k = by-rules (rule3 (x .now) h ∷ rule4 k ∷ []) _ _ refl (λ e. slot-rules (x .now) h k [] e .0)
+
+  pub write-case : (h : Handle) (offset : ℕ) (d : List ℕ) → Cases (x .now) (MayWrite (x .now) h offset (length d)) (out done (written (x .now) (h .frame .0) offset d)) (writeCall (x .now) h offset d)
+  unfolding writeCall usual lacks _and_
+  write-case h offset d = by-rules (rule3 (x .now) h ∷ rule5 offset (length d) ∷ []) _ _ refl (λ e.
+      let a = first-kept 2 (handleFits (x .now .pool) h) _ e in
+      record { handle = handled (x .now) h (a .0); fits = range-fits offset (length d) (first-kept 4 _ [] (a .1) .0) })
+
+  -- ---- peek, find
+  page-case : (p : ℕ) (a : Out) → Cases (x .now) (p < x .now .pool .pages) a (decide (x .now) (rule1 (x .now) ∷ rule2 (x .now) ∷ rule6 (x .now) p ∷ []) a)
+  unfolding usual lacks _and_
+  page-case p a = by-rules (rule6 (x .now) p ∷ []) _ a refl (λ e. ltb-true _ _ (first-kept 5 _ [] e .0))
+
+  pub peek-case : (q : PageNumber) → Cases (x .now) (q .0 < x .now .pool .pages) (out (payloadPlace (x .now) (q .0)) (x .now)) (peekCall (x .now) q)
+  unfolding peekCall
+  peek-case q = page-case (q .0) _
+
+  pub find-case : (q : PageNumber) → Cases (x .now) (q .0 < x .now .pool .pages) (out (foundAnswer (x .now) (q .0)) (x .now)) (findCall (x .now) q)
+  unfolding findCall
+  find-case q = page-case (q .0) _
+
+  -- ---- link, unlink, evict, settle
+  pub link-case : (h : Handle) (k : ℕ) (q : PageNumber) → Cases (x .now) (MayLink x h k (q .0)) (out done (relinked (x .now) (h .frame .0) k (numberWord (q .0)))) (linkCall (x .now) h k q)
+  unfolding linkCall usual lacks _and_
+  link-case h k q = by-rules (rule3 (x .now) h ∷ rule4 k ∷ rule6-link (x .now) (q .0) ∷ rule8 (wordOf (x .now) h k) ∷ rule9 (x .now) (q .0) ∷ []) _ _ refl (λ e.
+      let a = slot-rules (x .now) h k (rule6-link (x .now) (q .0) ∷ rule8 (wordOf (x .now) h k) ∷ rule9 (x .now) (q .0) ∷ []) e in
+      let b = first-kept 5 _ (rule8 (wordOf (x .now) h k) ∷ rule9 (x .now) (q .0) ∷ []) (a .1) in
+      let c = first-kept 7 (eqb (wordOf (x .now) h k) 0) (rule9 (x .now) (q .0) ∷ []) (b .1) in
+      let d = first-kept 8 (not (named (x .now) (q .0))) [] (c .1) in
+      record {
+        handle = a .0 .handle;
+        inPage = a .0 .inPage;
+        vacant = eqb-true _ 0 (c .0);
+        below = ltb-true _ _ (and-true (ltb 0 (q .0)) (ltb (q .0) (x .now .pool .pages)) (b .0) .1);
+        fresh = unnamed x I (q .0) (d .0);
+      })
+
+  pub unlink-case : (h : Handle) (k : ℕ) → Cases (x .now) (MayUnlink (x .now) h k) (out done (relinked (x .now) (h .frame .0) k 0)) (unlinkCall (x .now) h k)
+  unfolding unlinkCall usual lacks _and_
+  unlink-case h k = by-rules (rule3 (x .now) h ∷ rule4 k ∷ rule7 (wordOf (x .now) h k) ∷ rule10 (wordOf (x .now) h k) ∷ []) _ _ refl (λ e.
+      let a = name-rules (x .now) h k (rule10 (wordOf (x .now) h k) ∷ []) e in
+      record { handle = a .0 .handle; inPage = a .0 .inPage; number = ltb-true _ swizzleBit (first-kept 9 _ [] (a .1) .0) })
+
+  pub evict-case : (q : PageNumber) → Cases (x .now) (MayEvict (x .now) (q .0)) (out done (evicted (x .now) (found (x .now .pool) (q .0)))) (evictCall (x .now) q)
+  unfolding evictCall usual lacks _and_
+  evict-case q = by-rules (rule6 (x .now) (q .0) ∷ rule11 (x .now) (q .0) ∷ rule12 (x .now) (q .0) ∷ []) _ _ refl (λ e.
+      let a = first-kept 5 (ltb (q .0) (x .now .pool .pages)) (rule11 (x .now) (q .0) ∷ rule12 (x .now) (q .0) ∷ []) e in
+      let b = first-kept 10 (ltb (found (x .now .pool) (q .0)) (x .now .pool .count)) (rule12 (x .now) (q .0) ∷ []) (a .1) in
+      record { holder = holder-found (x .now) (q .0) (b .0); isopen = open-of (x .now) (found (x .now .pool) (q .0)) (first-kept 11 _ [] (b .1) .0) })
+
+  pub settle-case : Cases (x .now) (Unit {0}) (out done (settled (x .now))) (settleCall (x .now))
+  unfolding settleCall usual lacks _and_
+  settle-case = by-rules [] _ _ refl (λ e. tt)
+
+  -- ---- open, on the buffers as they stand
+  pub open-case : Cases (state zeroPool (x .now .frames) (x .now .store)) (sound (x .now .store) (length (x .now .store) / pageSize) ≡ true) (out done (opened (x .now .frames) (x .now .store))) (openCall (x .now .frames) (x .now .store))
+  unfolding openCall usual lacks _and_
+  open-case =
+      let rest : List Rule = rule16 (length (x .now .store) / pageSize) (x .now .store) ∷ [] in
+      cases (state zeroPool (x .now .frames) (x .now .store)) rest _ _ _ refl (λ e. first-kept 15 _ [] e .0)
+      (outcome _ (openRules (x .now .frames) (x .now .store)) rest _ (kept-then 1 rest (lengths-fit-open x I)))

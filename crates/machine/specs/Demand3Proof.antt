@@ -1,0 +1,73 @@
+-- Demand 3: the invariant at every point of every list of calls from an accepted open, and what follows from it there.
+-- `holds` assumes nothing. `demand3-by` is given the clauses of `run` and `AllBytes`, which unfold in specs/History alone, and assumes nothing else.
+use Prim.Native.Nat.{ℕ, _/_}
+use mathlib.Core.Path.{_≡_, refl, sym, _∙_, ap}
+use mathlib.Core.List.{List, [], _∷_}
+use native.Mathlib.Omega.{arith}
+use lib.ListN.{length}
+use Rattle.page.specs.Figures.{pageSize}
+use Rattle.page.specs.Octets.{Octets}
+use Rattle.machine.specs.TestLaws.{first-kept}
+use Rattle.machine.specs.Machine.{state, zeroPool}
+use Rattle.machine.specs.Soundness.{sound}
+use Rattle.machine.specs.Rules.{lengthsFit}
+use Rattle.machine.specs.Answers.{refused, done, Out, out}
+use Rattle.machine.specs.Calls.{openRules, opened, openCall}
+use Rattle.machine.specs.History.{Call, row, Point, start, next, run, AllBytes}
+use Rattle.machine.specs.Demand3.{Holds, Demand3}
+use Rattle.machine.specs.Invariant.{Invariant}
+use Rattle.machine.specs.Keeps.{open-keeps}
+use Rattle.machine.specs.Outcomes.{Outcome, kept, broken, outcome}
+use Rattle.machine.specs.PointHolds.{pages-apart, other-empty, kept-frame, root-resident, named-by, named-once, leads-to-root, same-payload, swizzled-word, number-word, store-plain}
+use Rattle.machine.specs.AnswersHold.{show-gives, peek-gives, word-gives, never-refused}
+use Rattle.machine.specs.DeniedHolds.{denied-exactly}
+use Rattle.machine.specs.Steps.{step-keeps}
+use Rattle.machine.specs.HandlesHold.{fix-gives, root-gives, settle-gives}
+
+pub holds : (x : Point) → Invariant x → Holds x
+holds x I = record {
+  shown = show-gives x I;
+  peeked = peek-gives x I;
+  worded = word-gives x I;
+  fixed = fix-gives x I;
+  rooted = root-gives x I;
+  apart = pages-apart x I;
+  otherwiseEmpty = other-empty x I;
+  kept = kept-frame x I;
+  rootResident = root-resident x I;
+  named = named-by x I;
+  namedOnce = named-once x I;
+  tree = leads-to-root x I;
+  payloadBytes = same-payload x I;
+  swizzled = swizzled-word x I;
+  unswizzled = number-word x I;
+  storePlain = store-plain x I;
+  settled = settle-gives x I;
+  denied = denied-exactly x I;
+  neverRefused = never-refused x I;
+}
+
+-- an open that is accepted starts with the invariant
+start-keeps : (frames store : List ℕ) → Octets frames → Octets store → (o : Out) → Outcome (state zeroPool frames store) (openRules frames store) (out done (opened frames store)) o
+    → o .answer ≡ done → Invariant (start (o .left))
+start-keeps frames store bf bs o (kept b q) e =
+    let a = first-kept 0 (lengthsFit (length frames / pageSize) (length store / pageSize) frames store) _ b in
+    rw q (open-keeps frames store bf bs (a .0) (first-kept 15 (sound store (length store / pageSize)) [] (a .1) .0))
+start-keeps frames store bf bs o (broken n z b q) e = absurd (other n (sym (ap (λ (y : Out). y .answer) q) ∙ e))
+  where
+    other : (m : ℕ) → refused m ≡ done → ⊥
+    other m c = let y : _≡_ {A = ℕ} 0 1 = cc in omega arith
+
+-- the clauses of `run` and of `AllBytes`, as specs/History writes them
+pub record ByClauses : Type 0 where
+  pub none : (x : Point) → run [] x ≡ x
+  pub more : (c : Call) (cs : List Call) (x : Point) → run (c ∷ cs) x ≡ run cs (next c x)
+  pub bytes : (c : Call) (cs : List Call) → AllBytes (c ∷ cs) → Octets (row c .bytes) × AllBytes cs
+
+run-keeps : ByClauses → (cs : List Call) (x : Point) → AllBytes cs → Invariant x → Invariant (run cs x)
+run-keeps L [] x b I = rw (L .none x) I
+run-keeps L (c ∷ cs) x b I = let t = L .bytes c cs b in rw (L .more c cs x) (run-keeps L cs (next c x) (t .1) (step-keeps x I c (t .0)))
+
+pub demand3-by : ByClauses → Demand3
+unfolding openCall
+demand3-by L frames store bf bs e cs b = holds _ (run-keeps L cs (start (openCall frames store .left)) b (start-keeps frames store bf bs _ (outcome _ _ _ _ refl) e))

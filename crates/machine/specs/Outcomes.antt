@@ -1,0 +1,108 @@
+-- The two cases of a call: no rule is broken and it does as it says, or it is refused and leaves all as it was. Assumes nothing.
+use Prim.Native.Nat.{ℕ}
+use mathlib.Core.Path.{_≡_, refl, sym, _∙_, ap}
+use mathlib.Core.Logic.{_≢_}
+use mathlib.Core.Bool.{Bool, true, false, not}
+use mathlib.Core.List.{List, [], _∷_, _++_}
+use native.Mathlib.Omega.{arith}
+use native.Mathlib.Decide.{ℕ-discrete}
+use borrow.Author.Tests.{eqb-false, not-true}
+use lib.Dec.{eqb}
+use Rattle.machine.specs.Tests.{_and_, pick, Rule, firstBroken}
+use Rattle.machine.specs.TestLaws.{clash, and-true, verdict-yes, verdict-no, numbered, broken-then}
+use Rattle.machine.specs.Machine.{State}
+use Rattle.machine.specs.Answers.{refused, Out, out}
+use Rattle.machine.specs.Calls.{decide}
+use Rattle.machine.specs.History.{accepted}
+
+-- ---- by the rules
+
+pub data Outcome (s : State) (rules : List Rule) (a o : Out) : Type 0 where
+  kept : firstBroken rules ≡ 0 → o ≡ a → Outcome s rules a o
+  broken : (n : ℕ) → n ≢ 0 → firstBroken rules ≡ n → o ≡ out (refused n) s → Outcome s rules a o
+
+-- others: rules of which the same is broken first
+pub outcome : (s : State) (rules others : List Rule) (a : Out) → firstBroken rules ≡ firstBroken others → Outcome s others a (decide s rules a)
+unfolding decide
+outcome s rules others a q = elim (ℕ-discrete (firstBroken others) 0) [
+  | yes e ↦ kept e (sym (verdict-yes (λ n. out (refused n) s) (sym q) e refl))
+  | no e ↦ broken (firstBroken others) e refl (sym (verdict-no (λ n. out (refused n) s) a (sym q) e))
+]
+
+-- ---- the numbers that rules have
+
+-- none of the rules has the number n
+unfoldable pub lacks : ℕ → List Rule → Bool
+lacks n [] = true
+lacks n (r ∷ rs) = not (eqb (r .0) n) and lacks n rs
+
+pub lacking : (n : ℕ) (rs : List Rule) → lacks n rs ≡ true → n ≢ 0 → firstBroken rs ≢ n
+unfolding lacks firstBroken pick
+lacking n [] t z e = z (sym e)
+lacking n ((m, true) ∷ rs) t z e = lacking n rs (and-true (not (eqb m n)) (lacks n rs) t .1) z e
+lacking n ((m, false) ∷ rs) t z e = eqb-false m n (not-true _ (and-true (not (eqb m n)) (lacks n rs) t .0)) e
+
+-- rules tested in two parts: those of the first are kept and the second decides, or the first does
+pub kept-part : (xs ys : List Rule) → numbered xs ≡ true → firstBroken xs ≡ 0 → firstBroken (xs ++ ys) ≡ firstBroken ys
+kept-part xs ys t e = sym (broken-then xs ys t) ∙ sym (verdict-yes (λ n. n) refl e refl)
+
+pub data Parts (xs ys : List Rule) : Type 0 where
+  second : firstBroken xs ≡ 0 → firstBroken (xs ++ ys) ≡ firstBroken ys → Parts xs ys
+  first : firstBroken xs ≢ 0 → firstBroken (xs ++ ys) ≡ firstBroken xs → Parts xs ys
+
+pub parts : (xs ys : List Rule) → numbered xs ≡ true → Parts xs ys
+parts xs ys t = elim (ℕ-discrete (firstBroken xs) 0) [
+  | yes e ↦ second e (kept-part xs ys t e)
+  | no e ↦ first e (sym (broken-then xs ys t) ∙ sym (verdict-no (λ n. n) (firstBroken ys) refl e))
+]
+
+-- a refusal's number but 1, 2 and 14
+pub record Usual (n : ℕ) : Type 0 where
+  pub not0 : n ≢ 0
+  pub not1 : n ≢ 1
+  pub not2 : n ≢ 2
+  pub not14 : n ≢ 14
+
+-- the rules have such numbers
+unfoldable pub usual : List Rule → Bool
+usual rs = lacks 1 rs and lacks 2 rs and lacks 14 rs
+
+pub usual-breach : (rs : List Rule) (n : ℕ) → usual rs ≡ true → n ≢ 0 → firstBroken rs ≡ n → Usual n
+unfolding usual
+usual-breach rs n t z e =
+    let a = and-true (lacks 1 rs) _ t in
+    let b = and-true (lacks 2 rs) (lacks 14 rs) (a .1) in
+    record { not0 = z; not1 = λ q. lacking 1 rs (a .0) (omega arith) (e ∙ q); not2 = λ q. lacking 2 rs (b .0) (omega arith) (e ∙ q); not14 = λ q. lacking 14 rs (b .1) (omega arith) (e ∙ q) }
+
+-- ---- by what the rules say
+
+pub data Cases (s : State) (Facts : Type 0) (a o : Out) : Type 0 where
+  granted : Facts → o ≡ a → Cases s Facts a o
+  denied : (n : ℕ) → Usual n → o ≡ out (refused n) s → Cases s Facts a o
+
+pub cases : (s : State) (rules : List Rule) (Facts : Type 0) (a o : Out) → usual rules ≡ true → (firstBroken rules ≡ 0 → Facts) → Outcome s rules a o → Cases s Facts a o
+cases s rules Facts a o t facts (kept e q) = granted (facts e) q
+cases s rules Facts a o t facts (broken n z e q) = denied n (usual-breach rules n t z e) q
+
+-- an accepted call is the one; a refused call, whose own answer is no refusal, the other
+pub granted-of : (s : State) (Facts : Type 0) (a o : Out) → Cases s Facts a o → accepted (o .answer) ≡ true → Facts × (o ≡ a)
+granted-of s Facts a o (granted k q) e = (k, q)
+granted-of s Facts a o (denied n u q) e = absurd (clash (sym e ∙ ap (λ (x : Out). accepted (x .answer)) q))
+
+-- an accepted answer is no refusal, and a refusal has one number
+pub no-refusal : (a o : Out) (n : ℕ) → o ≡ a → accepted (a .answer) ≡ true → o .answer ≡ refused n → ⊥
+no-refusal a o n q t e = clash (sym t ∙ ap (λ (x : Out). accepted (x .answer)) (sym q) ∙ ap accepted e)
+
+pub one-refusal : (s : State) (o : Out) (m n : ℕ) → o ≡ out (refused m) s → o .answer ≡ refused n → m ≡ n
+one-refusal s o m n q e = same (sym (ap (λ (x : Out). x .answer) q) ∙ e)
+  where
+    same : refused m ≡ refused n → m ≡ n
+    same e = cc
+
+pub denied-of : (s : State) (Facts : Type 0) (a o : Out) → Cases s Facts a o → accepted (a .answer) ≡ true → (n : ℕ) → o .answer ≡ refused n → Usual n
+denied-of s Facts a o (granted k q) t n e = absurd (no-refusal a o n q t e)
+denied-of s Facts a o (denied m u q) t n e = rw (one-refusal s o m n q e) at u
+
+pub broken-of : (s : State) (rules : List Rule) (a o : Out) → Outcome s rules a o → accepted (a .answer) ≡ true → (n : ℕ) → o .answer ≡ refused n → firstBroken rules ≡ n
+broken-of s rules a o (kept k q) t n e = absurd (no-refusal a o n q t e)
+broken-of s rules a o (broken m z k q) t n e = k ∙ one-refusal s o m n q e

@@ -1,0 +1,90 @@
+-- Demand 3's words for residence and pins, read by the invariant: the frame that find gives holds the page, and the balance is the records' pins. Assumes nothing.
+use Prim.Native.Nat.{ℕ, _+_, _<_}
+use mathlib.Core.Path.{_≡_, refl, sym, _∙_, ap}
+use mathlib.Core.Logic.{_≢_}
+use mathlib.Core.List.{[], _∷_}
+use native.Mathlib.Omega.{arith}
+use borrow.Author.Tests.{lt-ltb, le-ltb, ltb-true}
+use Rattle.machine.specs.TestLaws.{kept-then, none-broken, pick-yes, pick-no}
+use Rattle.machine.specs.Machine.{pageNumber, found}
+use Rattle.machine.specs.Answers.{refused, frame, nowhere, Out, out}
+use Rattle.machine.specs.Rules.{rule6}
+use Rattle.machine.specs.Calls.{foundAnswer, findCall}
+use Rattle.machine.specs.History.{Point}
+use Rattle.machine.specs.Demand3.{InFrame, Resident, Pinned}
+use Rattle.machine.specs.View.{view, Absent}
+use Rattle.machine.specs.Invariant.{Invariant}
+use Rattle.machine.specs.Outcomes.{kept, broken, granted, denied}
+use Rattle.machine.specs.Holders.{Holder, place, held, unheld, found-holder, found-absent}
+use Rattle.machine.specs.CallCases.{after-pool, find-case}
+
+module _ (x : Point) (I : Invariant x) where
+  -- ---- find's answer
+  answer-held : (p f : ℕ) → Holder (view (x .now)) p f → foundAnswer (x .now) p ≡ frame f
+  unfolding foundAnswer
+  answer-held p f h =
+      let e : found (x .now .pool) p ≡ f = found-holder (x .now) (I .shape) p f h in
+      rw e (sym (pick-yes nowhere (lt-ltb f (x .now .pool .count) (h .at .lt)) refl))
+
+  answer-absent : (p : ℕ) → Absent (view (x .now)) p → foundAnswer (x .now) p ≡ nowhere
+  unfolding foundAnswer
+  answer-absent p a =
+      let e : found (x .now .pool) p ≡ x .now .pool .count = found-absent (x .now) p a in
+      sym (pick-no _ (le-ltb (found (x .now .pool) p) (x .now .pool .count) (omega arith)) refl)
+
+  answers : (p : ℕ) → p < x .now .pool .pages → findCall (x .now) (pageNumber p) ≡ out (foundAnswer (x .now) p) (x .now)
+  unfolding findCall
+  answers p l = elim (after-pool x I (rule6 (x .now) p ∷ []) (out (foundAnswer (x .now) p) (x .now))) [
+    | kept b e ↦ e
+    | broken n z b e ↦ absurd (z (sym b ∙ kept-then 6 [] (lt-ltb p (x .now .pool .pages) l) ∙ none-broken))
+  ]
+
+  -- ---- a page is in a frame exactly where that holds it
+  pub in-frame : (p f : ℕ) → Holder (view (x .now)) p f → InFrame x p f
+  in-frame p f h = ap (λ (o : Out). o .answer) (answers p (rw (h .page) at (I .shape .pageLt f (h .at)))) ∙ answer-held p f h
+
+  pub resident : (p f : ℕ) → Holder (view (x .now)) p f → Resident x p
+  resident p f h = (f, in-frame p f h)
+
+  found-answer : (p f : ℕ) → foundAnswer (x .now) p ≡ frame f → Holder (view (x .now)) p f
+  found-answer p f e = elim (place (x .now) p) [
+    | held h ↦ let q : found (x .now .pool) p ≡ f = same-frame (sym (answer-held p _ h) ∙ e) in rw q at h
+    | unheld a ↦ absurd (no-frame (sym (answer-absent p a) ∙ e))
+  ]
+    where
+      same-frame : {g : ℕ} → frame g ≡ frame f → g ≡ f
+      same-frame e = cc
+
+      no-frame : nowhere ≡ frame f → ⊥
+      no-frame e = let z : _≡_ {A = ℕ} 0 1 = cc in omega arith
+
+  pub holder : (p f : ℕ) → InFrame x p f → Holder (view (x .now)) p f
+  holder p f e = elim (find-case x I (pageNumber p)) [
+    | granted l q ↦ found-answer p f (sym (ap (λ (o : Out). o .answer) q) ∙ e)
+    | denied n u q ↦ absurd (refused-none n (sym (ap (λ (o : Out). o .answer) q) ∙ e))
+  ]
+    where
+      refused-none : (n : ℕ) → refused n ≡ frame f → ⊥
+      refused-none n e = let z : _≡_ {A = ℕ} 0 1 = cc in omega arith
+
+  pub not-resident : (p : ℕ) → Absent (view (x .now)) p → Resident x p → ⊥
+  not-resident p a r = let h : Holder (view (x .now)) p (r .0) = holder p (r .0) (r .1) in a (r .0) (h .at) (h .page)
+
+  pub absent : (p : ℕ) → (Resident x p → ⊥) → Absent (view (x .now)) p
+  absent p n f o e = n (resident p f (record { at = o; page = e }))
+
+  -- ---- a page is pinned exactly where its frame has pins
+  pub pinned-holder : (p : ℕ) → Pinned x p → (f : ℕ) × Holder (view (x .now)) p f × (view (x .now) .pins f ≢ 0)
+  pinned-holder p t =
+      let l : x .balance .unfixes p < x .balance .fixes p = ltb-true (x .balance .unfixes p) (x .balance .fixes p) t in
+      elim (place (x .now) p) [
+        | unheld a ↦ absurd (omega (arith, I .pins .none p a))
+        | held h ↦
+            let c : x .balance .fixes p ≡ x .balance .unfixes p + view (x .now) .pins (found (x .now .pool) p) = rw (h .page) at (I .pins .count (found (x .now .pool) p) (h .at)) in
+            (found (x .now .pool) p, h, λ z. omega arith)
+      ]
+
+  pub pinned-of : (p f : ℕ) → Holder (view (x .now)) p f → view (x .now) .pins f ≢ 0 → Pinned x p
+  pinned-of p f h n =
+      let c : x .balance .fixes p ≡ x .balance .unfixes p + view (x .now) .pins f = rw (h .page) at (I .pins .count f (h .at)) in
+      lt-ltb (x .balance .unfixes p) (x .balance .fixes p) (omega arith)
