@@ -1,5 +1,4 @@
--- Demand 3: the invariant at every point of every list of calls from an accepted open, and what follows from it there.
--- `holds` assumes nothing. `demand3-by` is given the clauses of `run` and `AllBytes`, which unfold in specs/History alone, and assumes nothing else.
+-- Demand 3 holds: the invariant at every point of every list of calls from an accepted open, and what follows from it there. Assumes nothing.
 use Prim.Native.Nat.{ℕ, _/_}
 use mathlib.Core.Path.{_≡_, refl, sym, _∙_, ap}
 use mathlib.Core.List.{List, [], _∷_}
@@ -13,7 +12,7 @@ use Rattle.machine.specs.Soundness.{sound}
 use Rattle.machine.specs.Rules.{lengthsFit}
 use Rattle.machine.specs.Answers.{refused, done, Out, out}
 use Rattle.machine.specs.Calls.{openRules, opened, openCall}
-use Rattle.machine.specs.History.{Call, row, Point, start, next, run, AllBytes}
+use Rattle.machine.specs.History.{Call, Point, start, next, run, AllBytes}
 use Rattle.machine.specs.Demand3.{Holds, Demand3}
 use Rattle.machine.specs.Invariant.{Invariant}
 use Rattle.machine.specs.Keeps.{open-keeps}
@@ -58,16 +57,11 @@ start-keeps frames store bf bs o (broken n z b q) e = absurd (other n (sym (ap (
     other : (m : ℕ) → refused m ≡ done → ⊥
     other m c = let y : _≡_ {A = ℕ} 0 1 = cc in omega arith
 
--- the clauses of `run` and of `AllBytes`, as specs/History writes them
-pub record ByClauses : Type 0 where
-  pub none : (x : Point) → run [] x ≡ x
-  pub more : (c : Call) (cs : List Call) (x : Point) → run (c ∷ cs) x ≡ run cs (next c x)
-  pub bytes : (c : Call) (cs : List Call) → AllBytes (c ∷ cs) → Octets (row c .bytes) × AllBytes cs
+run-keeps : (cs : List Call) (x : Point) → AllBytes cs → Invariant x → Invariant (run cs x)
+unfolding run AllBytes
+run-keeps [] x b I = I
+run-keeps (c ∷ cs) x b I = run-keeps cs (next c x) (b .1) (step-keeps x I c (b .0))
 
-run-keeps : ByClauses → (cs : List Call) (x : Point) → AllBytes cs → Invariant x → Invariant (run cs x)
-run-keeps L [] x b I = rw (L .none x) I
-run-keeps L (c ∷ cs) x b I = let t = L .bytes c cs b in rw (L .more c cs x) (run-keeps L cs (next c x) (t .1) (step-keeps x I c (t .0)))
-
-pub demand3-by : ByClauses → Demand3
+pub demand3 : Demand3
 unfolding openCall
-demand3-by L frames store bf bs e cs b = holds _ (run-keeps L cs (start (openCall frames store .left)) b (start-keeps frames store bf bs _ (outcome _ _ _ _ refl) e))
+demand3 frames store bf bs e cs b = holds _ (run-keeps cs (start (openCall frames store .left)) b (start-keeps frames store bf bs _ (outcome _ _ _ _ refl) e))

@@ -139,11 +139,11 @@ unfoldable pub next : Call → Point → Point
 next c x = let o = row c .out (x .now) in pick (row c .anew) (reopened o x) (continued (row c) o x)
 
 -- the point that a list of calls leads to
-pub run : List Call → Point → Point
+unfoldable pub run : List Call → Point → Point
 run [] x = x
 run (c ∷ cs) x = run cs (next c x)
 
 -- what the calls hand to write are bytes
-pub AllBytes : List Call → Type 0
+unfoldable pub AllBytes : List Call → Type 0
 AllBytes [] = Unit {0}
 AllBytes (c ∷ cs) = Octets (row c .bytes) × AllBytes cs
