@@ -14,8 +14,8 @@ abbrev pub pageBy : List ℕ → ℕ → ℕ
 pageBy t f = getD t f 0
 
 -- the table gives the page of each of 64 frames
-unfoldable pub Table : List FrameRecord → List ℕ → Type 0
-Table rs t = (f : ℕ) → f < mostFrames → pageBy t f ≡ pageIn rs f
+pub record Table (rs : List FrameRecord) (t : List ℕ) : Type 0 where
+  pub entry : (f : ℕ) → f < mostFrames → pageBy t f ≡ pageIn rs f
 
 -- every swizzled word of frame f names one of 64 frames
 abbrev pub Named : List ℕ → ℕ → Type 0
