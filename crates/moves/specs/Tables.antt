@@ -7,7 +7,7 @@ use lib.ListN.{length, getD}
 use Rattle.page.specs.Figures.{pageSize, slotCount, mostFrames, swizzleBit}
 use Rattle.page.specs.Page.{slot}
 use Rattle.machine.specs.declared.FrameRecord.{FrameRecord}
-use Rattle.machine.specs.Machine.{recordAt, pageIn}
+use Rattle.machine.specs.Machine.{pageIn}
 
 -- the page of each frame, by a table
 abbrev pub pageBy : List ℕ → ℕ → ℕ
@@ -31,6 +31,3 @@ pub record Placed (q : ℕ) (fs st : List ℕ) (f : ℕ) : Type 0 where
 pub record Writable (r : FrameRecord) (fs st : List ℕ) (f : ℕ) : Type 0 where
   pub placed : Placed (r .page .0) fs st f
   pub words : r .dirty ≡ true → Named fs f
-
-abbrev pub AllWritable : List FrameRecord → List ℕ → List ℕ → ℕ → Type 0
-AllWritable rs fs st n = (f : ℕ) → f < n → Writable (recordAt rs f) fs st f

@@ -18,9 +18,9 @@ fn vacated(pool: Pool, frame: FrameIndex) -> Pool
     requires { ⌜ frame .0 < recordCount ⌝ }
     ensures { λ r. ⌜ r ≡ vacate pool (frame .0) ⌝ }
 {
-    let mut next = pool;
+    let mut left = pool;
     let f = frame.0 as usize;
-    next.records[f] = FrameRecord {
+    left.records[f] = FrameRecord {
         used: false,
         dirty: false,
         usage: 0,
@@ -29,7 +29,7 @@ fn vacated(pool: Pool, frame: FrameIndex) -> Pool
         pins: 0,
         page: PageNumber(0),
     };
-    next
+    left
 }
 
 // Takes the page out of a frame: its image to the store if dirty, its number to its parent's word.
