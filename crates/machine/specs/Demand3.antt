@@ -1,4 +1,4 @@
--- Demand 3: what holds at every point of every list of calls from an accepted open. The proof stands in specs/Demand3Proof.
+-- Demand 3: what holds at every point of every list of calls from an accepted open. The proof stands in specs/Theorem.
 use Prim.Native.Nat.{ℕ, _+_, _*_, _≤_, _<_}
 use mathlib.Core.Path.{_≡_}
 use mathlib.Core.Logic.{_≢_, _⊎_, _↔_}

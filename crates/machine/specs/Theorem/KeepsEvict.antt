@@ -12,14 +12,14 @@ use Rattle.machine.specs.declared.FrameRecord.{FrameRecord}
 use Rattle.machine.specs.Machine.{State, blank, recordAt}
 use Rattle.machine.specs.Moves.{plain, evicted}
 use Rattle.machine.specs.History.{Point}
-use Rattle.machine.specs.View.{View, view, Occupied, Parent}
-use Rattle.machine.specs.Invariant.{Invariant, mapOf}
-use Rattle.machine.specs.EvictEffect.{Evicted, evict-shape, evict-content}
-use Rattle.machine.specs.PinsEffect.{pins-evicted}
+use Rattle.machine.specs.Theorem.View.{View, view, Occupied, Parent}
+use Rattle.machine.specs.Theorem.Invariant.{Invariant, mapOf}
+use Rattle.machine.specs.Theorem.EvictEffect.{Evicted, evict-shape, evict-content}
+use Rattle.machine.specs.Theorem.PinsEffect.{pins-evicted}
 use Rattle.machine.specs.MoveLaws.{writtenOutBy-length}
-use Rattle.machine.specs.WriteOut.{out-octets, out-wordStays, out-byteStays, out-word, out-byte, plain-lt}
-use Rattle.machine.specs.SlotChange.{slot-putSlot-other}
-use Rattle.machine.specs.RecordChange.{change-here, change-other, neat-blank, neat-change, record-lt, lengths-kept}
+use Rattle.machine.specs.Theorem.WriteOut.{out-octets, out-wordStays, out-byteStays, out-word, out-byte, plain-lt}
+use Rattle.machine.specs.Theorem.SlotChange.{slot-putSlot-other}
+use Rattle.machine.specs.Theorem.RecordChange.{change-here, change-other, neat-blank, neat-change, record-lt, lengths-kept}
 
 module _ (x : Point) (I : Invariant x) (f : ℕ) (of : Occupied (view (x .now)) f) (nz : f ≢ 0) where
   abbrev s : State

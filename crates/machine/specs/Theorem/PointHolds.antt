@@ -13,11 +13,11 @@ use Rattle.machine.specs.Moves.{plain}
 use Rattle.machine.specs.TestLaws.{case, on, off}
 use Rattle.machine.specs.History.{Point}
 use Rattle.machine.specs.Demand3.{InFrame, Resident, Pinned, Names, LeadsToRoot, atRoot, toParent}
-use Rattle.machine.specs.View.{view, Reach, top, via, Occupied, Absent, Parent, Child, plain-low, plain-high, reading, low, high}
-use Rattle.machine.specs.Invariant.{Invariant}
-use Rattle.machine.specs.Holders.{Holder, occupied-of}
-use Rattle.machine.specs.InvariantReads.{blank-record}
-use Rattle.machine.specs.Residence.{in-frame, resident, holder, pinned-holder}
+use Rattle.machine.specs.Theorem.View.{view, Reach, top, via, Occupied, Absent, Parent, Child, plain-low, plain-high, reading, low, high}
+use Rattle.machine.specs.Theorem.Invariant.{Invariant}
+use Rattle.machine.specs.Theorem.Holders.{Holder, occupied-of}
+use Rattle.machine.specs.Theorem.InvariantReads.{blank-record}
+use Rattle.machine.specs.Theorem.Residence.{in-frame, resident, holder, pinned-holder}
 
 -- a word of page p in frame f against the map's: a number, of no resident page, or swizzled to the frame of the page that the map's names
 pub data Meets (x : Point) (p f k : ℕ) : Type 0 where

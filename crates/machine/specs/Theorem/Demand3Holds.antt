@@ -14,14 +14,14 @@ use Rattle.machine.specs.Answers.{refused, done, Out, out}
 use Rattle.machine.specs.Calls.{openRules, opened, openCall}
 use Rattle.machine.specs.History.{Call, Point, start, next, run, AllBytes}
 use Rattle.machine.specs.Demand3.{Holds, Demand3}
-use Rattle.machine.specs.Invariant.{Invariant}
-use Rattle.machine.specs.Keeps.{open-keeps}
-use Rattle.machine.specs.Outcomes.{Outcome, kept, broken, outcome}
-use Rattle.machine.specs.PointHolds.{pages-apart, other-empty, kept-frame, root-resident, named-by, named-once, leads-to-root, same-payload, swizzled-word, number-word, store-plain}
-use Rattle.machine.specs.AnswersHold.{show-gives, peek-gives, word-gives, never-refused}
-use Rattle.machine.specs.DeniedHolds.{denied-exactly}
-use Rattle.machine.specs.Steps.{step-keeps}
-use Rattle.machine.specs.HandlesHold.{fix-gives, root-gives, settle-gives}
+use Rattle.machine.specs.Theorem.Invariant.{Invariant}
+use Rattle.machine.specs.Theorem.Keeps.{open-keeps}
+use Rattle.machine.specs.Theorem.Outcomes.{Outcome, kept, broken, outcome}
+use Rattle.machine.specs.Theorem.PointHolds.{pages-apart, other-empty, kept-frame, root-resident, named-by, named-once, leads-to-root, same-payload, swizzled-word, number-word, store-plain}
+use Rattle.machine.specs.Theorem.AnswersHold.{show-gives, peek-gives, word-gives, never-refused}
+use Rattle.machine.specs.Theorem.DeniedHolds.{denied-exactly}
+use Rattle.machine.specs.Theorem.Steps.{step-keeps}
+use Rattle.machine.specs.Theorem.HandlesHold.{fix-gives, root-gives, settle-gives}
 
 pub holds : (x : Point) → Invariant x → Holds x
 holds x I = record {

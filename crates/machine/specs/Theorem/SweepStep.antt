@@ -12,12 +12,12 @@ use Rattle.machine.specs.Moves.{evicted, loaded}
 use Rattle.machine.specs.Sweep.{sweep, withSwept}
 use Rattle.machine.specs.Calls.{sweptOut}
 use Rattle.machine.specs.History.{Point, fixedIn}
-use Rattle.machine.specs.View.{view, Occupied, Parent}
-use Rattle.machine.specs.Invariant.{Invariant}
-use Rattle.machine.specs.EvictEffect.{Evicted, evicted-is}
-use Rattle.machine.specs.Keeps.{evict-effect, evict-keeps, load-keeps, sweep-keeps}
+use Rattle.machine.specs.Theorem.View.{view, Occupied, Parent}
+use Rattle.machine.specs.Theorem.Invariant.{Invariant}
+use Rattle.machine.specs.Theorem.EvictEffect.{Evicted, evicted-is}
+use Rattle.machine.specs.Theorem.Keeps.{evict-effect, evict-keeps, load-keeps, sweep-keeps}
 use Rattle.machine.specs.SweepLaws.{Cooled, sweep-cooled, sweep-sound}
-use Rattle.machine.specs.TestReads.{Open, open-of}
+use Rattle.machine.specs.Theorem.TestReads.{Open, open-of}
 
 -- the point with another state
 abbrev at : Point → State → Point

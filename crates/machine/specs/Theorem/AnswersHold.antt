@@ -17,13 +17,13 @@ use Rattle.machine.specs.Answers.{Answer, refused, number, frame, Out}
 use Rattle.machine.specs.Calls.{showCall, payloadPlace, peekCall, wordCall, foundAnswer, fixCall}
 use Rattle.machine.specs.History.{Call, reopen, root, fix, unfix, show, peek, word, write, link, unlink, evict, settle, find, Point, accepted, row}
 use Rattle.machine.specs.Demand3.{GivesPayload}
-use Rattle.machine.specs.View.{view, Absent}
-use Rattle.machine.specs.Invariant.{Invariant}
-use Rattle.machine.specs.Outcomes.{Usual, granted-of, no-refusal, one-refusal, denied-of}
-use Rattle.machine.specs.Holders.{Holder, place, held, unheld, found-absent}
-use Rattle.machine.specs.CallCases.{open-case, root-case, handle-case, unfix-case, word-case, write-case, peek-case, find-case, link-case, unlink-case, evict-case, settle-case}
-use Rattle.machine.specs.FixCases.{pins, fills, sweeps, refuses, fix-case}
-use Rattle.machine.specs.PointHolds.{plain-word}
+use Rattle.machine.specs.Theorem.View.{view, Absent}
+use Rattle.machine.specs.Theorem.Invariant.{Invariant}
+use Rattle.machine.specs.Theorem.Outcomes.{Usual, granted-of, no-refusal, one-refusal, denied-of}
+use Rattle.machine.specs.Theorem.Holders.{Holder, place, held, unheld, found-absent}
+use Rattle.machine.specs.Theorem.CallCases.{open-case, root-case, handle-case, unfix-case, word-case, write-case, peek-case, find-case, link-case, unlink-case, evict-case, settle-case}
+use Rattle.machine.specs.Theorem.FixCases.{pins, fills, sweeps, refuses, fix-case}
+use Rattle.machine.specs.Theorem.PointHolds.{plain-word}
 
 -- two pages with equal payload bytes have one payload
 payload-same : (b c : List ℕ) (f p n m : ℕ) → length b ≡ pageSize * n → f < n → length c ≡ pageSize * m → p < m

@@ -15,11 +15,11 @@ use Rattle.machine.specs.Sweep.{withSwept}
 use Rattle.machine.specs.SweepLaws.{Cooler, Cooled}
 use Rattle.machine.specs.Calls.{changeRecord}
 use Rattle.machine.specs.History.{Balance, Point, fixedIn, unfixed}
-use Rattle.machine.specs.View.{View, view, Occupied}
-use Rattle.machine.specs.Invariant.{NeatRecord, Neat, Pins, Invariant, mapOf}
-use Rattle.machine.specs.KeepEffect.{Steady, Kept, kept-shape, kept-content, quiet-rewritten}
-use Rattle.machine.specs.PinsEffect.{pins-kept, pins-pinned, pins-unpinned}
-use Rattle.machine.specs.RecordChange.{SamePlace, change-here, change-other, change-same, change-steady, neat-change, neat-place, record-lt}
+use Rattle.machine.specs.Theorem.View.{View, view, Occupied}
+use Rattle.machine.specs.Theorem.Invariant.{NeatRecord, Neat, Pins, Invariant, mapOf}
+use Rattle.machine.specs.Theorem.KeepEffect.{Steady, Kept, kept-shape, kept-content, quiet-rewritten}
+use Rattle.machine.specs.Theorem.PinsEffect.{pins-kept, pins-pinned, pins-unpinned}
+use Rattle.machine.specs.Theorem.RecordChange.{SamePlace, change-here, change-other, change-same, change-steady, neat-change, neat-place, record-lt}
 
 -- a record that a sweep cooled is as neat: an empty frame's stays blank
 cooler-neat : (f : ℕ) (r q : FrameRecord) → Cooler r q → NeatRecord f r → NeatRecord f q

@@ -12,11 +12,11 @@ use Rattle.machine.specs.Rules.{rule6}
 use Rattle.machine.specs.Calls.{foundAnswer, findCall}
 use Rattle.machine.specs.History.{Point}
 use Rattle.machine.specs.Demand3.{InFrame, Resident, Pinned}
-use Rattle.machine.specs.View.{view, Absent}
-use Rattle.machine.specs.Invariant.{Invariant}
-use Rattle.machine.specs.Outcomes.{kept, broken, granted, denied}
-use Rattle.machine.specs.Holders.{Holder, place, held, unheld, found-holder, found-absent}
-use Rattle.machine.specs.CallCases.{after-pool, find-case}
+use Rattle.machine.specs.Theorem.View.{view, Absent}
+use Rattle.machine.specs.Theorem.Invariant.{Invariant}
+use Rattle.machine.specs.Theorem.Outcomes.{kept, broken, granted, denied}
+use Rattle.machine.specs.Theorem.Holders.{Holder, place, held, unheld, found-holder, found-absent}
+use Rattle.machine.specs.Theorem.CallCases.{after-pool, find-case}
 
 module _ (x : Point) (I : Invariant x) where
   -- ---- find's answer

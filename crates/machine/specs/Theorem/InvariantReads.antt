@@ -22,10 +22,10 @@ use Rattle.machine.specs.AgreementFacts.{occupied-lt, make-occupied, Poi
 use Rattle.machine.specs.Naming.{currentWord, named, namedByResident, repeated, wordLoadable, loadable}
 use Rattle.machine.specs.Rules.{lengthsFit, rule1, rule2}
 use Rattle.machine.specs.Ready.{of-lengths}
-use Rattle.machine.specs.View.{view, Reach, top, via, Occupied, Absent, Parent, Child}
+use Rattle.machine.specs.Theorem.View.{view, Reach, top, via, Occupied, Absent, Parent, Child}
 use Rattle.machine.specs.History.{Point}
-use Rattle.machine.specs.Invariant.{NeatRecord, Invariant}
-use Rattle.machine.specs.Holders.{occupied-of, of-occupied, Holder, holder-found, absent-found}
+use Rattle.machine.specs.Theorem.Invariant.{NeatRecord, Invariant}
+use Rattle.machine.specs.Theorem.Holders.{occupied-of, of-occupied, Holder, holder-found, absent-found}
 
 -- a blank record passes its test
 blank-is : (r : FrameRecord) → r ≡ blank → isBlank r ≡ true

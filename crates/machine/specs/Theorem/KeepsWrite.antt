@@ -16,11 +16,11 @@ use Rattle.machine.specs.TestLaws.{clash, pick-yes, pick-no, pick-either
 use Rattle.machine.specs.Machine.{State, recordAt, dirtied}
 use Rattle.machine.specs.Calls.{dirtiedBy, written}
 use Rattle.machine.specs.History.{Point}
-use Rattle.machine.specs.View.{View, view, Occupied, Map, MapSound}
-use Rattle.machine.specs.Invariant.{Invariant, mapOf}
-use Rattle.machine.specs.KeepEffect.{Kept, kept-shape, kept-content, Rewritten}
-use Rattle.machine.specs.PinsEffect.{pins-kept}
-use Rattle.machine.specs.RecordChange.{SamePlace, change-here, change-other, change-same, change-steady, neat-change, neat-place, record-lt, lengths-kept}
+use Rattle.machine.specs.Theorem.View.{View, view, Occupied, Map, MapSound}
+use Rattle.machine.specs.Theorem.Invariant.{Invariant, mapOf}
+use Rattle.machine.specs.Theorem.KeepEffect.{Kept, kept-shape, kept-content, Rewritten}
+use Rattle.machine.specs.Theorem.PinsEffect.{pins-kept}
+use Rattle.machine.specs.Theorem.RecordChange.{SamePlace, change-here, change-other, change-same, change-steady, neat-change, neat-place, record-lt, lengths-kept}
 
 -- a map with the same words is as sound
 same-sound : (m n : Map) (N : ℕ) → ((p k : ℕ) → p < N → k < slotCount → n .mapWord p k ≡ m .mapWord p k) → MapSound m N → MapSound n N

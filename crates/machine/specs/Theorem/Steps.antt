@@ -17,14 +17,14 @@ use Rattle.machine.specs.Sweep.{firstEmpty}
 use Rattle.machine.specs.Answers.{Answer, refused, done, handle, number, frame, nowhere, Out, out}
 use Rattle.machine.specs.Calls.{opened, showCall, fixCall, payloadPlace, foundAnswer}
 use Rattle.machine.specs.History.{Call, reopen, root, fix, unfix, show, peek, word, write, link, unlink, evict, settle, find, Row, row, Point, continued, reopened, next}
-use Rattle.machine.specs.Invariant.{Invariant}
-use Rattle.machine.specs.Keeps.{pin-keeps, unpin-keeps, write-keeps, relink-keeps, evict-keeps, load-keeps, settle-keeps, open-keeps}
-use Rattle.machine.specs.SweepStep.{swept-keeps}
-use Rattle.machine.specs.Outcomes.{Cases, granted, denied}
-use Rattle.machine.specs.InvariantReads.{lengths-fit-open}
-use Rattle.machine.specs.CallCases.{open-case, root-case, handle-case, unfix-case, word-case, write-case, peek-case, find-case, link-case, unlink-case, evict-case, settle-case}
-use Rattle.machine.specs.AnswersHold.{place-gives}
-use Rattle.machine.specs.FixCases.{pins, fills, sweeps, refuses, fix-case}
+use Rattle.machine.specs.Theorem.Invariant.{Invariant}
+use Rattle.machine.specs.Theorem.Keeps.{pin-keeps, unpin-keeps, write-keeps, relink-keeps, evict-keeps, load-keeps, settle-keeps, open-keeps}
+use Rattle.machine.specs.Theorem.SweepStep.{swept-keeps}
+use Rattle.machine.specs.Theorem.Outcomes.{Cases, granted, denied}
+use Rattle.machine.specs.Theorem.InvariantReads.{lengths-fit-open}
+use Rattle.machine.specs.Theorem.CallCases.{open-case, root-case, handle-case, unfix-case, word-case, write-case, peek-case, find-case, link-case, unlink-case, evict-case, settle-case}
+use Rattle.machine.specs.Theorem.AnswersHold.{place-gives}
+use Rattle.machine.specs.Theorem.FixCases.{pins, fills, sweeps, refuses, fix-case}
 
 module _ (x : Point) (I : Invariant x) where
   -- a call that begins no new history: what its accepted case keeps, it keeps

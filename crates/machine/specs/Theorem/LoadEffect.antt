@@ -10,7 +10,7 @@ use Rattle.page.specs.Figures.{pageSize, slotCount, payloadStart, swizzleBit}
 use Rattle.page.specs.Word.{frameWord}
 use Rattle.machine.specs.Moves.{plain}
 use Rattle.machine.specs.TestLaws.{clash}
-use Rattle.machine.specs.View.{View, Reach, top, via, Occupied, Absent, Parent, Child, Shape, Map, Content, MapSound, plain-low, plain-high, reading, low, high}
+use Rattle.machine.specs.Theorem.View.{View, Reach, top, via, Occupied, Absent, Parent, Child, Shape, Map, Content, MapSound, plain-low, plain-high, reading, low, high}
 
 -- page q comes into frame e, for slot k of frame f
 pub record Loaded (v w : View) (f k e q : ℕ) : Type 0 where

@@ -19,17 +19,17 @@ use Rattle.machine.specs.Answers.{refused, Out}
 use Rattle.machine.specs.Calls.{fixCall}
 use Rattle.machine.specs.History.{Point}
 use Rattle.machine.specs.Demand3.{Resident, Pinned, Names, NoRoom, LoadAsked}
-use Rattle.machine.specs.View.{view, plain-low}
-use Rattle.machine.specs.Invariant.{Invariant}
+use Rattle.machine.specs.Theorem.View.{view, plain-low}
+use Rattle.machine.specs.Theorem.Invariant.{Invariant}
 use Rattle.machine.specs.SweepLaws.{Denied, denied-of, of-denied}
-use Rattle.machine.specs.Outcomes.{Outcome, kept, broken, lacks, lacking, kept-part, parts, first, second, broken-of}
-use Rattle.machine.specs.Holders.{Holder}
-use Rattle.machine.specs.TestReads.{Open, open-of, shut-of}
-use Rattle.machine.specs.InvariantReads.{agreed, unbroken}
-use Rattle.machine.specs.CallCases.{AtName, name-rules}
-use Rattle.machine.specs.FixCases.{nameRules, loadRules, miss-accepted, number-outcome, stays-away, loads, swizzled-outcome}
-use Rattle.machine.specs.Residence.{in-frame, resident, holder, not-resident, pinned-holder, pinned-of}
-use Rattle.machine.specs.PointHolds.{number, swizzledTo, meets, plain-word, swizzled-word}
+use Rattle.machine.specs.Theorem.Outcomes.{Outcome, kept, broken, lacks, lacking, kept-part, parts, first, second, broken-of}
+use Rattle.machine.specs.Theorem.Holders.{Holder}
+use Rattle.machine.specs.Theorem.TestReads.{Open, open-of, shut-of}
+use Rattle.machine.specs.Theorem.InvariantReads.{agreed, unbroken}
+use Rattle.machine.specs.Theorem.CallCases.{AtName, name-rules}
+use Rattle.machine.specs.Theorem.FixCases.{nameRules, loadRules, miss-accepted, number-outcome, stays-away, loads, swizzled-outcome}
+use Rattle.machine.specs.Theorem.Residence.{in-frame, resident, holder, not-resident, pinned-holder, pinned-of}
+use Rattle.machine.specs.Theorem.PointHolds.{number, swizzledTo, meets, plain-word, swizzled-word}
 
 module _ (x : Point) (I : Invariant x) where
   is-ready : Ready (x .now)

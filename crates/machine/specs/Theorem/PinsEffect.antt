@@ -8,11 +8,11 @@ use native.Mathlib.Decide.{ℕ-discrete}
 use borrow.Author.Tests.{eq-eqb, ne-eqb, ltb-true}
 use Rattle.machine.specs.TestLaws.{pick-yes, pick-no, pick-either, case, on, off}
 use Rattle.machine.specs.History.{Balance, isPinned, update, fixedIn, unfixed}
-use Rattle.machine.specs.View.{View, Occupied, Absent, Shape}
-use Rattle.machine.specs.Invariant.{Pins}
-use Rattle.machine.specs.KeepEffect.{Steady, steady-was, steady-is, steady-absentWas}
-use Rattle.machine.specs.EvictEffect.{Evicted, evicted-other, evicted-was, evicted-absentWas}
-use Rattle.machine.specs.LoadEffect.{Loaded, loaded-here, loaded-was, loaded-absentWas}
+use Rattle.machine.specs.Theorem.View.{View, Occupied, Absent, Shape}
+use Rattle.machine.specs.Theorem.Invariant.{Pins}
+use Rattle.machine.specs.Theorem.KeepEffect.{Steady, steady-was, steady-is, steady-absentWas}
+use Rattle.machine.specs.Theorem.EvictEffect.{Evicted, evicted-other, evicted-was, evicted-absentWas}
+use Rattle.machine.specs.Theorem.LoadEffect.{Loaded, loaded-here, loaded-was, loaded-absentWas}
 
 -- ---- a function with another value at one place
 

@@ -22,13 +22,13 @@ use Rattle.machine.specs.Soundness.{sound}
 use Rattle.machine.specs.Rules.{handleFits, rangeFits, wordOf, rule1, rule2, rule3, rule4, rule5, rule6, rule6-link, rule7, rule8, rule9, rule10, rule11, rule12, rule13, rule16}
 use Rattle.machine.specs.Answers.{done, number, Out, out}
 use Rattle.machine.specs.Calls.{decide, changeRecord, openRules, opened, openCall, pinnedOut, rootCall, unfixCall, payloadPlace, peekCall, wordCall, written, writeCall, relinked, linkCall, unlinkCall, evictCall, settleCall, foundAnswer, findCall}
-use Rattle.machine.specs.View.{view}
+use Rattle.machine.specs.Theorem.View.{view}
 use Rattle.machine.specs.History.{Point}
-use Rattle.machine.specs.Invariant.{Invariant}
-use Rattle.machine.specs.Outcomes.{Outcome, outcome, usual, Cases, cases, lacks}
-use Rattle.machine.specs.Holders.{Holder, holder-found}
-use Rattle.machine.specs.TestReads.{Handled, handled, Open, open-of}
-use Rattle.machine.specs.InvariantReads.{lengths-fit-open, unbroken, unnamed}
+use Rattle.machine.specs.Theorem.Invariant.{Invariant}
+use Rattle.machine.specs.Theorem.Outcomes.{Outcome, outcome, usual, Cases, cases, lacks}
+use Rattle.machine.specs.Theorem.Holders.{Holder, holder-found}
+use Rattle.machine.specs.Theorem.TestReads.{Handled, handled, Open, open-of}
+use Rattle.machine.specs.Theorem.InvariantReads.{lengths-fit-open, unbroken, unnamed}
 
 -- ---- what the rules of a call say where none is broken
 

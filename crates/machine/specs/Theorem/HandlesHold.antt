@@ -20,18 +20,18 @@ use Rattle.machine.specs.Answers.{Answer, handle, Out}
 use Rattle.machine.specs.Calls.{changeRecord, rootCall, fixCall, sweptOut, settleCall}
 use Rattle.machine.specs.History.{Point, root, fix, next, accepted}
 use Rattle.machine.specs.Demand3.{GivesHandle}
-use Rattle.machine.specs.View.{view, Occupied, plain-low, plain-high}
-use Rattle.machine.specs.Invariant.{Invariant}
-use Rattle.machine.specs.RecordChange.{change-here, record-lt}
-use Rattle.machine.specs.Keeps.{settle-store}
+use Rattle.machine.specs.Theorem.View.{view, Occupied, plain-low, plain-high}
+use Rattle.machine.specs.Theorem.Invariant.{Invariant}
+use Rattle.machine.specs.Theorem.RecordChange.{change-here, record-lt}
+use Rattle.machine.specs.Theorem.Keeps.{settle-store}
 use Rattle.machine.specs.SweepLaws.{sweep-cooled, sweep-sound}
-use Rattle.machine.specs.Outcomes.{granted-of}
-use Rattle.machine.specs.Holders.{Holder}
-use Rattle.machine.specs.CallCases.{AtName, root-case, settle-case}
-use Rattle.machine.specs.FixCases.{pins, fills, sweeps, refuses, fix-case}
-use Rattle.machine.specs.Residence.{in-frame}
-use Rattle.machine.specs.PointHolds.{root-holder, plain-word}
-use Rattle.machine.specs.Steps.{step-keeps}
+use Rattle.machine.specs.Theorem.Outcomes.{granted-of}
+use Rattle.machine.specs.Theorem.Holders.{Holder}
+use Rattle.machine.specs.Theorem.CallCases.{AtName, root-case, settle-case}
+use Rattle.machine.specs.Theorem.FixCases.{pins, fills, sweeps, refuses, fix-case}
+use Rattle.machine.specs.Theorem.Residence.{in-frame}
+use Rattle.machine.specs.Theorem.PointHolds.{root-holder, plain-word}
+use Rattle.machine.specs.Theorem.Steps.{step-keeps}
 
 abbrev answerOf : Out → Answer
 answerOf o = o .answer

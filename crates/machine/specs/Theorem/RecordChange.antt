@@ -14,10 +14,10 @@ use Rattle.machine.specs.declared.Pool.{Pool}
 use Rattle.machine.specs.TestLaws.{clash}
 use Rattle.machine.specs.Machine.{State, state, blank, recordAt, withRecord}
 use Rattle.machine.specs.Ready.{Lengths}
-use Rattle.machine.specs.View.{view}
+use Rattle.machine.specs.Theorem.View.{view}
 use Rattle.machine.specs.History.{Point}
-use Rattle.machine.specs.Invariant.{NeatRecord, Neat, Invariant}
-use Rattle.machine.specs.KeepEffect.{Steady}
+use Rattle.machine.specs.Theorem.Invariant.{NeatRecord, Neat, Invariant}
+use Rattle.machine.specs.Theorem.KeepEffect.{Steady}
 
 module _ (rs : List FrameRecord) (f : ℕ) (r : FrameRecord) where
   pub change-other : (g : ℕ) → g ≢ f → recordAt (set rs f r) g ≡ recordAt rs g

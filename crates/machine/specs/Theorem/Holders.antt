@@ -8,7 +8,7 @@ use Rattle.machine.specs.TestLaws.{case, on, off}
 use Rattle.machine.specs.Machine.{State, occupied, found}
 use Rattle.machine.specs.AgreementFacts.{occupied-lt, occupied-used, make-occupied}
 use Rattle.machine.specs.FoundLaws.{found-holds, holds-found, found-none, none-found}
-use Rattle.machine.specs.View.{View, view, Occupied, Absent, Shape}
+use Rattle.machine.specs.Theorem.View.{View, view, Occupied, Absent, Shape}
 
 -- ---- the two readings of 'occupied'
 

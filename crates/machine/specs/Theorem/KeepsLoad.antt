@@ -14,12 +14,12 @@ use Rattle.machine.specs.TestLaws.{clash}
 use Rattle.machine.specs.Machine.{State, loadedRecord}
 use Rattle.machine.specs.Moves.{loaded}
 use Rattle.machine.specs.History.{Point, fixedIn}
-use Rattle.machine.specs.View.{View, view, Occupied, Absent}
-use Rattle.machine.specs.Invariant.{Invariant, mapOf}
-use Rattle.machine.specs.LoadEffect.{Loaded, Fits, absent-fits, empty-other, load-shape, load-content}
-use Rattle.machine.specs.PinsEffect.{pins-loaded}
-use Rattle.machine.specs.SlotChange.{slot-putSlot-other}
-use Rattle.machine.specs.RecordChange.{change-here, change-other, neat-change, record-lt, lengths-kept}
+use Rattle.machine.specs.Theorem.View.{View, view, Occupied, Absent}
+use Rattle.machine.specs.Theorem.Invariant.{Invariant, mapOf}
+use Rattle.machine.specs.Theorem.LoadEffect.{Loaded, Fits, absent-fits, empty-other, load-shape, load-content}
+use Rattle.machine.specs.Theorem.PinsEffect.{pins-loaded}
+use Rattle.machine.specs.Theorem.SlotChange.{slot-putSlot-other}
+use Rattle.machine.specs.Theorem.RecordChange.{change-here, change-other, neat-change, record-lt, lengths-kept}
 
 module _ (x : Point) (I : Invariant x) where
   abbrev s : State

@@ -18,13 +18,13 @@ use Rattle.machine.specs.Sweep.{firstEmpty, sweep}
 use Rattle.machine.specs.Rules.{wordOf, rule3, rule4, rule7, rule13, rule14, rule15}
 use Rattle.machine.specs.Answers.{Out, out, refused}
 use Rattle.machine.specs.Calls.{decide, pinnedOut, loadedOut, sweptOut, missOut, fixEntryRules, fixCall}
-use Rattle.machine.specs.View.{view, Absent}
+use Rattle.machine.specs.Theorem.View.{view, Absent}
 use Rattle.machine.specs.History.{Point, accepted}
-use Rattle.machine.specs.Invariant.{Invariant}
+use Rattle.machine.specs.Theorem.Invariant.{Invariant}
 use Rattle.machine.specs.SweepLaws.{empty, full, first-empty}
-use Rattle.machine.specs.Outcomes.{Outcome, kept, broken, parts, first, second, Usual, usual, usual-breach, lacks}
-use Rattle.machine.specs.InvariantReads.{may-load}
-use Rattle.machine.specs.CallCases.{AtName, name-rules, after-pool}
+use Rattle.machine.specs.Theorem.Outcomes.{Outcome, kept, broken, parts, first, second, Usual, usual, usual-breach, lacks}
+use Rattle.machine.specs.Theorem.InvariantReads.{may-load}
+use Rattle.machine.specs.Theorem.CallCases.{AtName, name-rules, after-pool}
 
 -- ---- fix by the word that it meets
 

@@ -17,14 +17,14 @@ use Rattle.machine.specs.Machine.{State, recordAt, cleaned, withRecords,
 use Rattle.machine.specs.AgreementFacts.{occupied-used, make-occupied}
 use Rattle.machine.specs.Moves.{plain, writtenOut, writtenOutTo, cleanedTo, settled}
 use Rattle.machine.specs.History.{Point}
-use Rattle.machine.specs.View.{View, view, Occupied, Absent, Content}
-use Rattle.machine.specs.Invariant.{NeatRecord, Neat, Invariant, mapOf}
-use Rattle.machine.specs.KeepEffect.{Kept, kept-shape, steady-was, steady-plain}
-use Rattle.machine.specs.PinsEffect.{pins-kept}
+use Rattle.machine.specs.Theorem.View.{View, view, Occupied, Absent, Content}
+use Rattle.machine.specs.Theorem.Invariant.{NeatRecord, Neat, Invariant, mapOf}
+use Rattle.machine.specs.Theorem.KeepEffect.{Kept, kept-shape, steady-was, steady-plain}
+use Rattle.machine.specs.Theorem.PinsEffect.{pins-kept}
 use Rattle.machine.specs.MoveLaws.{writtenOutTo-length}
 use Rattle.machine.specs.FoundLaws.{found-holds, found-none}
-use Rattle.machine.specs.WriteOut.{out-octets, out-wordStays, out-byteStays, out-word, out-byte, plain-lt}
-use Rattle.machine.specs.RecordChange.{change-same, neat-change, lengths-kept}
+use Rattle.machine.specs.Theorem.WriteOut.{out-octets, out-wordStays, out-byteStays, out-word, out-byte, plain-lt}
+use Rattle.machine.specs.Theorem.RecordChange.{change-same, neat-change, lengths-kept}
 
 -- ---- the records marked clean
 

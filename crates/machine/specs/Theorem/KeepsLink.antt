@@ -12,12 +12,12 @@ use Rattle.machine.specs.declared.FrameRecord.{FrameRecord}
 use Rattle.machine.specs.Machine.{State, recordAt, dirtied}
 use Rattle.machine.specs.Calls.{relinked}
 use Rattle.machine.specs.History.{Point}
-use Rattle.machine.specs.View.{View, view, Occupied}
-use Rattle.machine.specs.Invariant.{Invariant, mapOf}
-use Rattle.machine.specs.LinkEffect.{Linked, MapLinked, Unnamed, link-sound, link-shape, link-content}
-use Rattle.machine.specs.PinsEffect.{pins-kept}
-use Rattle.machine.specs.SlotChange.{slot-putSlot-other}
-use Rattle.machine.specs.RecordChange.{SamePlace, change-here, change-other, change-same, change-steady, neat-change, neat-place, record-lt, lengths-kept}
+use Rattle.machine.specs.Theorem.View.{View, view, Occupied}
+use Rattle.machine.specs.Theorem.Invariant.{Invariant, mapOf}
+use Rattle.machine.specs.Theorem.LinkEffect.{Linked, MapLinked, Unnamed, link-sound, link-shape, link-content}
+use Rattle.machine.specs.Theorem.PinsEffect.{pins-kept}
+use Rattle.machine.specs.Theorem.SlotChange.{slot-putSlot-other}
+use Rattle.machine.specs.Theorem.RecordChange.{SamePlace, change-here, change-other, change-same, change-steady, neat-change, neat-place, record-lt, lengths-kept}
 
 -- the map with the word y in slot k of page p
 map-linked : (m : List ℕ) (N p k y : ℕ) → length m ≡ pageSize * N → p < N → k < slotCount → y < wordRadix → MapLinked (mapOf m) (mapOf (putSlot m p k y)) N p k y

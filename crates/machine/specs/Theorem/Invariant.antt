@@ -12,7 +12,7 @@ use Rattle.machine.specs.declared.FrameRecord.{FrameRecord}
 use Rattle.machine.specs.declared.Pool.{Pool}
 use Rattle.machine.specs.Machine.{blank, recordAt}
 use Rattle.machine.specs.Ready.{Sized}
-use Rattle.machine.specs.View.{View, view, Occupied, Absent, Shape, Map, Content, MapSound}
+use Rattle.machine.specs.Theorem.View.{View, view, Occupied, Absent, Shape, Map, Content, MapSound}
 use Rattle.machine.specs.History.{Balance, Point}
 
 -- a record's fields are in their ranges; an empty frame's is blank, the root's has no parent

@@ -11,7 +11,7 @@ use Rattle.machine.specs.TestLaws.{clash, case, on, off, and-true, every
 use Rattle.machine.specs.Machine.{State, recordAt}
 use Rattle.machine.specs.Sweep.{childless, isOpen}
 use Rattle.machine.specs.Rules.{handleFits}
-use Rattle.machine.specs.View.{View, view, Occupied}
+use Rattle.machine.specs.Theorem.View.{View, view, Occupied}
 
 -- the handle's frame is occupied, holds its page, and is pinned
 pub record Handled (v : View) (h : Handle) : Type 0 where
