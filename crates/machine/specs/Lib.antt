@@ -14,6 +14,7 @@ pub mod Demand3
 pub mod BenchCases
 -- Laws of the definitions, for the code and for the theorem.
 pub mod TestLaws
+pub mod PlainLaws
 pub mod AgreementFacts
 pub mod Parents
 pub mod FoundLaws

@@ -20,7 +20,7 @@ use Rattle.machine.specs.Machine.{State, blank, cleaned, recordAt, pageI
 use Rattle.machine.specs.Moves.{plain, imageTo, imageOf, writtenOutBy, writtenOut, writtenOutTo, cleanedTo, settled, evicted, loaded}
 use Rattle.machine.specs.Sweep.{childless}
 use Rattle.machine.specs.Ready.{Sized, Ready}
-use Rattle.machine.specs.Theorem.View.{plain-low}
+use Rattle.machine.specs.PlainLaws.{plain-low}
 
 -- ---- the image of the bytes g
 

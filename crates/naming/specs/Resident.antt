@@ -20,7 +20,7 @@ use Rattle.machine.specs.AgreementFacts.{occupied-lt, Points, Agreed}
 use Rattle.machine.specs.Moves.{plain}
 use Rattle.machine.specs.Naming.{namedByResident}
 use Rattle.machine.specs.Ready.{Kept}
-use Rattle.machine.specs.Theorem.View.{plain-low, plain-high, reading, low, high}
+use Rattle.machine.specs.PlainLaws.{plain-low, plain-high, reading, low, high}
 use Rattle.soundness.specs.Seen.{among}
 use Rattle.soundness.specs.SeenLaws.{is-among, among-is}
 use Rattle.soundness.specs.Pages.{pageWords}

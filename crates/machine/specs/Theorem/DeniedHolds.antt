@@ -19,7 +19,8 @@ use Rattle.machine.specs.Answers.{refused, Out}
 use Rattle.machine.specs.Calls.{fixCall}
 use Rattle.machine.specs.History.{Point}
 use Rattle.machine.specs.Demand3.{Resident, Pinned, Names, NoRoom, LoadAsked}
-use Rattle.machine.specs.Theorem.View.{view, plain-low}
+use Rattle.machine.specs.PlainLaws.{plain-low}
+use Rattle.machine.specs.Theorem.View.{view}
 use Rattle.machine.specs.Theorem.Invariant.{Invariant}
 use Rattle.machine.specs.SweepLaws.{Denied, denied-of, of-denied}
 use Rattle.machine.specs.Theorem.Outcomes.{Outcome, kept, broken, lacks, lacking, kept-part, parts, first, second, broken-of}

@@ -10,7 +10,8 @@ use Rattle.page.specs.Figures.{pageSize, slotCount, payloadStart, swizzleBit}
 use Rattle.page.specs.Word.{frameWord}
 use Rattle.machine.specs.Moves.{plain}
 use Rattle.machine.specs.TestLaws.{clash, case, on, off}
-use Rattle.machine.specs.Theorem.View.{View, Reach, top, via, Occupied, Absent, Parent, Child, Shape, Map, Content, plain-low, plain-high, reading, low, high}
+use Rattle.machine.specs.PlainLaws.{plain-low, plain-high, reading, low, high}
+use Rattle.machine.specs.Theorem.View.{View, Reach, top, via, Occupied, Absent, Parent, Child, Shape, Map, Content}
 
 -- frame e is emptied
 pub record Evicted (v w : View) (e : ℕ) : Type 0 where

@@ -20,7 +20,8 @@ use Rattle.machine.specs.Answers.{Answer, handle, Out}
 use Rattle.machine.specs.Calls.{changeRecord, rootCall, fixCall, sweptOut, settleCall}
 use Rattle.machine.specs.History.{Point, root, fix, next, accepted}
 use Rattle.machine.specs.Demand3.{GivesHandle}
-use Rattle.machine.specs.Theorem.View.{view, Occupied, plain-low, plain-high}
+use Rattle.machine.specs.PlainLaws.{plain-low, plain-high}
+use Rattle.machine.specs.Theorem.View.{view, Occupied}
 use Rattle.machine.specs.Theorem.Invariant.{Invariant}
 use Rattle.machine.specs.Theorem.RecordChange.{change-here, record-lt}
 use Rattle.machine.specs.Theorem.Keeps.{settle-store}

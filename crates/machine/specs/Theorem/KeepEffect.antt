@@ -4,7 +4,8 @@ use mathlib.Core.Bool.{false}
 use Prim.Native.Nat.{ℕ, _≤_, _<_}
 use Rattle.page.specs.Figures.{pageSize, slotCount, payloadStart}
 use Rattle.machine.specs.Moves.{plain}
-use Rattle.machine.specs.Theorem.View.{View, Reach, top, via, Occupied, Absent, Parent, Child, Shape, Map, Content, plain-low, plain-high, reading, low, high}
+use Rattle.machine.specs.PlainLaws.{plain-low, plain-high, reading, low, high}
+use Rattle.machine.specs.Theorem.View.{View, Reach, top, via, Occupied, Absent, Parent, Child, Shape, Map, Content}
 
 -- the same pages in the same frames, with the same parents
 pub record Steady (v w : View) : Type 0 where

@@ -19,7 +19,8 @@ use Rattle.machine.specs.Rules.{lengthsFit}
 use Rattle.machine.specs.Calls.{opened}
 use Rattle.machine.specs.Ready.{Lengths, lengths-of}
 use Rattle.machine.specs.History.{start}
-use Rattle.machine.specs.Theorem.View.{View, view, top, Occupied, Shape, Content, MapSound, plain-low}
+use Rattle.machine.specs.PlainLaws.{plain-low}
+use Rattle.machine.specs.Theorem.View.{View, view, top, Occupied, Shape, Content, MapSound}
 use Rattle.machine.specs.Theorem.Invariant.{Neat, Invariant, mapOf}
 use Rattle.machine.specs.Theorem.RecordChange.{change-here, change-other, neat-blank}
 

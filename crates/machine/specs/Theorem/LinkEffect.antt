@@ -9,7 +9,8 @@ use Rattle.page.specs.Figures.{pageSize, slotCount, payloadStart, swizzleBit}
 use Rattle.page.specs.Word.{frameWord}
 use Rattle.machine.specs.Moves.{plain}
 use Rattle.machine.specs.TestLaws.{clash}
-use Rattle.machine.specs.Theorem.View.{View, Occupied, Absent, Parent, Child, Shape, Map, Content, MapSound, plain-low, plain-high}
+use Rattle.machine.specs.PlainLaws.{plain-low, plain-high}
+use Rattle.machine.specs.Theorem.View.{View, Occupied, Absent, Parent, Child, Shape, Map, Content, MapSound}
 use Rattle.machine.specs.Theorem.KeepEffect.{Steady, steady-was, steady-is, steady-reach, steady-absent, steady-absentWas, steady-plain}
 
 -- slot k of frame f is y, and its page dirty

@@ -10,7 +10,8 @@ use Rattle.page.specs.Figures.{pageSize, slotCount, payloadStart, swizzleBit}
 use Rattle.page.specs.Word.{frameWord}
 use Rattle.machine.specs.Moves.{plain}
 use Rattle.machine.specs.TestLaws.{clash}
-use Rattle.machine.specs.Theorem.View.{View, Reach, top, via, Occupied, Absent, Parent, Child, Shape, Map, Content, MapSound, plain-low, plain-high, reading, low, high}
+use Rattle.machine.specs.PlainLaws.{plain-low, plain-high, reading, low, high}
+use Rattle.machine.specs.Theorem.View.{View, Reach, top, via, Occupied, Absent, Parent, Child, Shape, Map, Content, MapSound}
 
 -- page q comes into frame e, for slot k of frame f
 pub record Loaded (v w : View) (f k e q : ℕ) : Type 0 where

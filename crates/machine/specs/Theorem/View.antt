@@ -1,15 +1,11 @@
 -- The machine as functions: what the invariant of demand 3 speaks of. No list and no byte offset stands here.
-use mathlib.Core.Path.{_≡_, refl, sym, ap, _∙_}
+use mathlib.Core.Path.{_≡_}
 use mathlib.Core.Logic.{_≢_}
 use mathlib.Core.Bool.{Bool, true, false}
-use Prim.Native.Nat.{ℕ, _+_, _-_, _≤_, _<_}
-use native.Mathlib.Omega.{arith}
-use native.Mathlib.Decide.{decLt}
-use borrow.Author.Tests.{lt-ltb, le-ltb}
+use Prim.Native.Nat.{ℕ, _≤_, _<_}
 use Rattle.page.specs.Figures.{pageSize, slotCount, payloadStart, leastFrames, mostFrames, mostPages, swizzleBit}
-use Rattle.page.specs.Word.{isNumber, frameIn, frameWord}
+use Rattle.page.specs.Word.{frameWord}
 use Rattle.page.specs.Page.{slot, byte}
-use Rattle.machine.specs.Tests.{pick}
 use Rattle.machine.specs.Machine.{State, recordAt, pageIn}
 use Rattle.machine.specs.Moves.{plain}
 
@@ -105,21 +101,3 @@ pub record Content (v : View) (m : Map) : Type 0 where
 pub record MapSound (m : Map) (N : ℕ) : Type 0 where
   pub below : (p k : ℕ) → p < N → k < slotCount → m .mapWord p k < N
   pub once : (p k q j : ℕ) → p < N → k < slotCount → q < N → j < slotCount → m .mapWord p k ≢ 0 → m .mapWord p k ≡ m .mapWord q j → (p ≡ q) × (k ≡ j)
-
--- ---- the two readings of a word
-
-pub plain-low : (page : ℕ → ℕ) (w : ℕ) → w < swizzleBit → plain page w ≡ w
-unfolding plain pick
-plain-low page w h = rw (lt-ltb w swizzleBit h)
-
-pub plain-high : (page : ℕ → ℕ) (g : ℕ) → plain page (frameWord g) ≡ page g
-unfolding plain pick
-plain-high page g = rw (le-ltb (frameWord g) swizzleBit (omega arith)) (ap page (omega arith))
-
--- a word is a number or swizzled to a frame
-pub data Reading (w : ℕ) : Type 0 where
-  low : w < swizzleBit → Reading w
-  high : (g : ℕ) → w ≡ frameWord g → Reading w
-
-pub reading : (w : ℕ) → Reading w
-reading w = elim (decLt w swizzleBit) [ yes h ↦ low h | no h ↦ high (frameIn w) (omega arith) ]
