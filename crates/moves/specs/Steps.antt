@@ -17,7 +17,7 @@ use Rattle.machine.specs.Machine.{State, state, cleaned, loadedRecord, recordAt
 use Rattle.machine.specs.Moves.{imageTo, writtenOutBy, writtenOut, writtenOutTo, cleanedTo, settled, vacate, evicted, loaded}
 use Rattle.machine.specs.MoveLaws.{image-length, writtenOutBy-ext, writtenOutTo-zero, writtenOutTo-suc, cleanedTo-zero, cleanedTo-suc, cleanedTo-above}
 use Rattle.machine.specs.Ready.{Sized, Ready}
-use Rattle.moves.specs.Tables.{pageBy, Table, Named, Writable}
+use Rattle.moves.specs.WriteOut.{pageBy, Table, Named, Writable}
 
 -- ---- a page's bytes lent as a part of the frames, and the store's part that comes back as an image
 

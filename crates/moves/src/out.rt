@@ -8,7 +8,7 @@ ghost use Rattle.page.specs.Figures.{slotCount};
 ghost use Rattle.page.specs.Page.{pageOf, putPage};
 ghost use Rattle.machine.specs.Machine.{pageIn};
 ghost use Rattle.machine.specs.Moves.{imageTo, writtenOutBy};
-ghost use Rattle.moves.specs.Tables.{pageBy, Named, Placed, Writable};
+ghost use Rattle.moves.specs.WriteOut.{pageBy, Named, Placed, Writable};
 
 // Writes the image of the page in a frame to its place in the store.
 fn store_image(
