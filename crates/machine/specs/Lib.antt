@@ -16,3 +16,4 @@ pub mod Demand3
 pub mod View
 pub mod Invariant
 pub mod BenchCases
+pub mod SweepLaws
