@@ -18,3 +18,4 @@ pub mod View
 pub mod Invariant
 pub mod BenchCases
 pub mod SweepLaws
+pub mod MoveLaws
