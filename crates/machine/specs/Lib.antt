@@ -7,6 +7,7 @@ pub mod Soundness
 pub mod Moves
 pub mod Sweep
 pub mod Naming
+pub mod FoundLaws
 pub mod Answers
 pub mod Rules
 pub mod Calls

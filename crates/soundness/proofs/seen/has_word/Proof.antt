@@ -1,0 +1,65 @@
+-- `soundness::seen::has_word` meets its contract: `hit` tells of the words passed. Assumes nothing.
+use borrow.Author.Needs.{needs}
+use borrow.Author.Tests.{eq-eqb, ne-eqb}
+use Prim.Native.Nat.{ℕ, _≤_, _-_}
+use mathlib.Core.Path.{_≡_, sym, _∙_, ap}
+use mathlib.Core.Bool.{Bool, not}
+use mathlib.Core.List.{List}
+use mathlib.Core.Logic.{⊎-elim}
+use native.Mathlib.Omega.{arith}
+use lib.Dec.{eqb}
+use Rattle.page.specs.Figures.{slotCount}
+use Rattle.machine.specs.Tests.{some}
+use Rattle.machine.specs.TestLaws.{some-zero}
+use Rattle.soundness.specs.Seen.{wordsFrom, hasWord}
+use Rattle.soundness.specs.SeenLaws.{some-keep, some-hit}
+use Rattle.soundness.proofs.seen.has_word.Statement.{statement}
+use Rattle.soundness.proofs.seen.has_word.Tie as tie
+
+abbrev test : List ℕ → ℕ → ℕ → Bool
+test buffer at k = not (eqb (wordsFrom buffer at k) 0)
+
+abbrev Inv-loop : tie.InvT-loop
+Inv-loop buffer at hit₀ k₀ hit k = (k ≤ slotCount) × (hit ≡ some k (test buffer at))
+
+abbrev μ-loop : tie.MeasureT-loop
+μ-loop buffer at hit₀ k₀ hit k = slotCount - k
+
+loop-holds : tie.Need-loop-holds Inv-loop μ-loop
+loop-holds c = (omega arith, sym (some-zero _))
+
+mul-word-at : tie.Need-mul-word-at Inv-loop μ-loop
+mul-word-at c = search needs
+
+add-word-at : tie.Need-add-word-at Inv-loop μ-loop
+add-word-at c = search needs
+
+word-at-requires : tie.Need-word-at-requires Inv-loop μ-loop
+word-at-requires c κs = search needs
+
+add-k : tie.Need-add-k Inv-loop μ-loop
+add-k c = search needs
+
+loop-less : tie.Need-loop-less Inv-loop μ-loop
+loop-less c = search needs
+
+loop-again : tie.Need-loop-again Inv-loop μ-loop
+loop-again c = (
+  omega arith,
+  ⊎-elim
+      (λ a. a .1 ∙ sym (some-hit _ _ (ap not (ne-eqb _ 0 (λ z. a .0 .taken (c .before .word-at .ensures ∙ z))))))
+      (λ a. a .1 ∙ c .before .before .before .loop .inv .1
+      ∙ sym (some-keep _ _ (ap not (eq-eqb _ 0 (sym (c .before .word-at .ensures) ∙ a .0 .left)))))
+      (c .if1 .came),
+)
+
+returns : tie.Need-returns Inv-loop μ-loop
+unfolding hasWord
+returns c =
+    let e : c .before .loop .k ≡ 16 = omega arith in
+    rw e at (c .before .loop .inv .1)
+
+pub has-word-spec : {M : Type 1} → statement M
+has-word-spec =
+    tie.close
+    (tie.spec Inv-loop μ-loop loop-holds mul-word-at add-word-at word-at-requires add-k loop-less loop-again returns)

@@ -1,0 +1,40 @@
+-- A table of numbers seen, and rows of numbers that are tested against it: `w k` is number k of the row w.
+use Prim.Native.Nat.{ℕ, _+_, _*_, _<_}
+use mathlib.Core.Path.{_≡_}
+use mathlib.Core.Bool.{Bool, true, false, not}
+use mathlib.Core.List.{List}
+use lib.Dec.{eqb, ltb}
+use lib.ListN.{length, getD}
+use Rattle.page.specs.Figures.{slotCount, wordSize, mostPages}
+use Rattle.page.specs.Word.{wordAt}
+use Rattle.machine.specs.Tests.{_and_, _or_, every, some}
+
+-- the row of the words from byte a on
+abbrev pub wordsFrom : List ℕ → ℕ → ℕ → ℕ
+wordsFrom b a k = wordAt b (a + wordSize * k)
+
+-- one of the first m numbers is x
+unfoldable pub among : (ℕ → ℕ) → ℕ → ℕ → Bool
+among w m x = some m (λ k. eqb (w k) x)
+
+-- one of the numbers of a page is not 0
+unfoldable pub hasWord : (ℕ → ℕ) → Bool
+hasWord w = some slotCount (λ k. not (eqb (w k) 0))
+
+-- number k is 0, or it is below N, was not seen, and is none of those before it
+unfoldable pub fresh : (ℕ → Bool) → (ℕ → ℕ) → ℕ → ℕ → Bool
+fresh seen w N k = eqb (w k) 0 or (ltb (w k) N and not (seen (w k)) and not (among w k (w k)))
+
+-- what a table tells
+abbrev pub told : List Bool → ℕ → Bool
+told table x = getD table x false
+
+-- a table of all page numbers but 0 tells what the test tells
+pub record Tells (table : List Bool) (seen : ℕ → Bool) : Type 0 where
+  pub size : length table ≡ mostPages
+  pub right : (x : ℕ) → 0 < x → x < mostPages → told table x ≡ seen x
+
+-- after the numbers of a page: whether all were fresh, and if so, the table tells of them too
+pub record Marked (w : ℕ → ℕ) (N : ℕ) (before after : List Bool) (r : Bool) : Type 0 where
+  pub answer : r ≡ every slotCount (fresh (told before) w N)
+  pub table : r ≡ true → Tells after (λ x. told before x or among w slotCount x)

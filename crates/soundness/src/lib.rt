@@ -1,0 +1,27 @@
+// Rule 16: is a store sound. Its words are looked at a page at a time, with a table of the numbers seen.
+pub mod seen;
+
+use page::PageNumber;
+ghost use mathlib.Core.Path.{_≡_};
+ghost use Prim.Native.Nat.{_*_, _≤_};
+ghost use lib.ListN.{length};
+ghost use Rattle.page.specs.Figures.{pageSize, mostPages};
+ghost use Rattle.machine.specs.Soundness.{sound};
+
+// Is the store of n pages sound.
+pub fn is_sound(store: &[u8], n: usize) -> bool
+    requires { ⌜ (n ≤ mostPages) × (length (now store) ≡ pageSize * n) ⌝ }
+    ensures { λ r. ⌜ r ≡ sound (now (store .entry)) n ⌝ }
+{
+    let mut seen = [false; PageNumber::MOST];
+    let mut p: usize = 0;
+    while p < n {
+        if seen::has_word(store, PageNumber::SIZE * p) {
+            if !seen::mark_page(store, PageNumber::SIZE * p, n, &mut seen) {
+                return false;
+            }
+        }
+        p += 1;
+    }
+    true
+}
