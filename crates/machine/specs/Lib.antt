@@ -3,6 +3,7 @@ pub mod Machine
 pub mod TestLaws
 pub mod Agreement
 pub mod AgreementFacts
+pub mod Parents
 pub mod Soundness
 pub mod Moves
 pub mod Sweep
