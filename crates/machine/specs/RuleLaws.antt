@@ -84,21 +84,25 @@ page-kept s q e =
     let a = parts-kept (poolRules s) (rule6 s (q .0) ∷ []) (pool-numbered s) e in
     record { kept = rules-kept s (a .0); below = ltb-true _ _ (first-kept 5 (ltb (q .0) (s .pool .pages)) [] (a .1) .0) }
 
--- ---- rules tested in two parts, xs and then ys: n is the first part's number
+-- ---- rules in two parts, xs and then ys
 
+-- n is the first part's number
 stops : (xs ys : List Rule) {n : ℕ} → numbered xs ≡ true → n ≡ firstBroken xs → (n ≡ 0 → ⊥) → n ≡ firstBroken (xs ++ ys)
 stops xs ys t e h = verdict-no (λ k. k) (firstBroken ys) e h ∙ broken-then xs ys t
 
 passes : (xs ys : List Rule) {n m : ℕ} → numbered xs ≡ true → n ≡ firstBroken xs → n ≡ 0 → m ≡ firstBroken ys → m ≡ firstBroken (xs ++ ys)
 passes xs ys t e h i = verdict-yes (λ k. k) e h i ∙ broken-then xs ys t
 
--- the rules ys after those of the pool; of a handle; of a handle and a slot; of a page number
+-- the rules ys after those of the pool; of a handle; of a handle and a slot; of a page number: where the first part refuses, where it passes, and where neither is broken
 module _ (s : State) (ys : List Rule) {n : ℕ} where
   pub pool-stops : n ≡ firstBroken (poolRules s) → (n ≡ 0 → ⊥) → n ≡ firstBroken (poolRules s ++ ys)
   pool-stops = stops (poolRules s) ys (pool-numbered s)
 
   pub pool-passes : {m : ℕ} → n ≡ firstBroken (poolRules s) → n ≡ 0 → m ≡ firstBroken ys → m ≡ firstBroken (poolRules s ++ ys)
   pool-passes = passes (poolRules s) ys (pool-numbered s)
+
+pub pool-parts : (s : State) (ys : List Rule) → firstBroken (poolRules s ++ ys) ≡ 0 → Kept s × (firstBroken ys ≡ 0)
+pool-parts s ys e = let a = parts-kept (poolRules s) ys (pool-numbered s) e in (rules-kept s (a .0), a .1)
 
 module _ (s : State) (h : Handle) (ys : List Rule) {n : ℕ} where
   pub handle-stops : n ≡ firstBroken (handleRules s h) → (n ≡ 0 → ⊥) → n ≡ firstBroken (handleRules s h ++ ys)
@@ -107,6 +111,9 @@ module _ (s : State) (h : Handle) (ys : List Rule) {n : ℕ} where
   pub handle-passes : {m : ℕ} → n ≡ firstBroken (handleRules s h) → n ≡ 0 → m ≡ firstBroken ys → m ≡ firstBroken (handleRules s h ++ ys)
   handle-passes = passes (handleRules s h) ys (handle-numbered s h)
 
+pub handle-parts : (s : State) (h : Handle) (ys : List Rule) → firstBroken (handleRules s h ++ ys) ≡ 0 → HandleKept s h × (firstBroken ys ≡ 0)
+handle-parts s h ys e = let a = parts-kept (handleRules s h) ys (handle-numbered s h) e in (handle-kept s h (a .0), a .1)
+
 module _ (s : State) (h : Handle) (k : ℕ) (ys : List Rule) {n : ℕ} where
   pub slot-stops : n ≡ firstBroken (wordRules s h k) → (n ≡ 0 → ⊥) → n ≡ firstBroken (wordRules s h k ++ ys)
   slot-stops = stops (wordRules s h k) ys (slot-numbered s h k)
@@ -114,12 +121,18 @@ module _ (s : State) (h : Handle) (k : ℕ) (ys : List Rule) {n : ℕ} where
   pub slot-passes : {m : ℕ} → n ≡ firstBroken (wordRules s h k) → n ≡ 0 → m ≡ firstBroken ys → m ≡ firstBroken (wordRules s h k ++ ys)
   slot-passes = passes (wordRules s h k) ys (slot-numbered s h k)
 
+pub slot-parts : (s : State) (h : Handle) (k : ℕ) (ys : List Rule) → firstBroken (wordRules s h k ++ ys) ≡ 0 → SlotKept s h k × (firstBroken ys ≡ 0)
+slot-parts s h k ys e = let a = parts-kept (wordRules s h k) ys (slot-numbered s h k) e in (slot-kept s h k (a .0), a .1)
+
 module _ (s : State) (q : PageNumber) (ys : List Rule) {n : ℕ} where
   pub page-stops : n ≡ firstBroken (pageRules s q) → (n ≡ 0 → ⊥) → n ≡ firstBroken (pageRules s q ++ ys)
   page-stops = stops (pageRules s q) ys (page-numbered s q)
 
   pub page-passes : {m : ℕ} → n ≡ firstBroken (pageRules s q) → n ≡ 0 → m ≡ firstBroken ys → m ≡ firstBroken (pageRules s q ++ ys)
   page-passes = passes (pageRules s q) ys (page-numbered s q)
+
+pub page-parts : (s : State) (q : PageNumber) (ys : List Rule) → firstBroken (pageRules s q ++ ys) ≡ 0 → PageKept s q × (firstBroken ys ≡ 0)
+page-parts s q ys e = let a = parts-kept (pageRules s q) ys (page-numbered s q) e in (page-kept s q (a .0), a .1)
 
 -- ---- what a call answers and leaves, where n is the refusal that the code computed
 
