@@ -24,3 +24,5 @@ pub mod Ready
 pub mod RuleLaws
 -- The proof of demand 3.
 pub mod Theorem
+pub mod SweepLaws
+pub mod MoveLaws
