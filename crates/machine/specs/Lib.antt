@@ -12,7 +12,6 @@ pub mod Calls
 pub mod History
 pub mod Demand3
 pub mod BenchCases
-
 -- Laws of the definitions, for the code and for the theorem.
 pub mod TestLaws
 pub mod PlainLaws
@@ -23,6 +22,5 @@ pub mod SweepLaws
 pub mod MoveLaws
 pub mod Ready
 pub mod RuleLaws
-
 -- The proof of demand 3.
 pub mod Theorem
