@@ -1,0 +1,103 @@
+//! A call with its arguments as a value, and its answer.
+use crate::pool::{Fixed, Machine, Place, Refusal};
+use crate::records::{Handle, Pool, State};
+
+#[derive(Clone, Debug, PartialEq, Eq)]
+pub enum Call {
+    Open,
+    Root,
+    Fix(Handle, usize),
+    Unfix(Handle),
+    Show(Handle),
+    Peek(u16),
+    Word(Handle, usize),
+    Write(Handle, usize, Vec<u8>),
+    Link(Handle, usize, u16),
+    Unlink(Handle, usize),
+    Evict(u16),
+    Settle,
+    Find(u16),
+}
+
+/// The names of the calls, in the order of `Call::index`.
+pub const NAMES: [&str; 13] = [
+    "open", "root", "fix", "unfix", "show", "peek", "word", "write", "link", "unlink", "evict", "settle",
+    "find",
+];
+
+#[derive(Clone, Copy, Debug, PartialEq, Eq)]
+pub enum Answer {
+    Refused(Refusal),
+    Done,
+    Fixed(Fixed),
+    Place(Place),
+    Number(u16),
+    Frame(Option<u8>),
+}
+
+impl Answer {
+    /// The refusal's number, 0 if accepted.
+    pub fn number(&self) -> Refusal {
+        match self {
+            Answer::Refused(number) => *number,
+            _ => 0,
+        }
+    }
+
+    pub fn accepted(&self) -> bool {
+        self.number() == 0
+    }
+}
+
+fn answer<T>(result: Result<T, Refusal>, accepted: impl FnOnce(T) -> Answer) -> Answer {
+    result.map_or_else(Answer::Refused, accepted)
+}
+
+impl Call {
+    pub fn index(&self) -> usize {
+        match self {
+            Call::Open => 0,
+            Call::Root => 1,
+            Call::Fix(..) => 2,
+            Call::Unfix(..) => 3,
+            Call::Show(..) => 4,
+            Call::Peek(..) => 5,
+            Call::Word(..) => 6,
+            Call::Write(..) => 7,
+            Call::Link(..) => 8,
+            Call::Unlink(..) => 9,
+            Call::Evict(..) => 10,
+            Call::Settle => 11,
+            Call::Find(..) => 12,
+        }
+    }
+
+    /// Makes the call. After a refused open the state keeps its old records.
+    pub fn make(&self, machine: &impl Machine, state: &mut State) -> Answer {
+        let done = |()| Answer::Done;
+        match self {
+            Call::Open => reopen(machine, state),
+            Call::Root => answer(machine.root(state), Answer::Fixed),
+            Call::Fix(handle, slot) => answer(machine.fix(state, *handle, *slot), Answer::Fixed),
+            Call::Unfix(handle) => answer(machine.unfix(state, *handle), done),
+            Call::Show(handle) => answer(machine.show(state, *handle), Answer::Place),
+            Call::Peek(page) => answer(machine.peek(state, *page), Answer::Place),
+            Call::Word(handle, slot) => answer(machine.word(state, *handle, *slot), Answer::Number),
+            Call::Write(handle, offset, bytes) => answer(machine.write(state, *handle, *offset, bytes), done),
+            Call::Link(handle, slot, page) => answer(machine.link(state, *handle, *slot, *page), done),
+            Call::Unlink(handle, slot) => answer(machine.unlink(state, *handle, *slot), done),
+            Call::Evict(page) => answer(machine.evict(state, *page), done),
+            Call::Settle => answer(machine.settle(state), done),
+            Call::Find(page) => answer(machine.find(state, *page), Answer::Frame),
+        }
+    }
+}
+
+fn reopen(machine: &impl Machine, state: &mut State) -> Answer {
+    let (opened, records) = machine.open(&mut state.frames, &mut state.store);
+    match opened {
+        Ok(()) => state.pool = records,
+        Err(_) => assert_eq!(records, Pool::ZERO, "the records of a refused open"),
+    }
+    answer(opened, |()| Answer::Done)
+}

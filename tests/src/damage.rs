@@ -1,0 +1,62 @@
+//! Alterations of records, frames and store from outside.
+mod buffers;
+mod records;
+mod shapes;
+
+use crate::random::Random;
+use crate::records::State;
+
+type Change = fn(&mut Random, &mut State);
+
+/// Changes of any part, most of which break rule 1 or 2.
+const DAMAGES: [Change; 17] = [
+    records::field,
+    records::field,
+    records::bit,
+    records::whole,
+    records::figure,
+    buffers::bit,
+    buffers::word,
+    buffers::word,
+    buffers::page,
+    buffers::lengths,
+    shapes::parent_loop,
+    shapes::number_twice,
+    shapes::moved_child,
+    shapes::slot_in_payload,
+    shapes::below_empty,
+    shapes::first_word,
+    shapes::spoilt_load,
+];
+
+/// Changes that leave records and frames in agreement, so that calls go on from there.
+const ALTERATIONS: [Change; 6] = [
+    records::counts,
+    records::most_pins,
+    buffers::payload,
+    buffers::stored_word,
+    buffers::stored_page,
+    shapes::spoilt_load,
+];
+
+/// Damages a state in one to three places.
+pub fn damage(random: &mut Random, state: &mut State) {
+    apply(random, state, &DAMAGES);
+}
+
+/// Alters a state in one to three places so that rules 1 and 2 still hold.
+pub fn alter(random: &mut Random, state: &mut State) {
+    apply(random, state, &ALTERATIONS);
+}
+
+fn apply(random: &mut Random, state: &mut State, changes: &[Change]) {
+    let times = random.pick(&[1, 1, 1, 2, 3]);
+    for _ in 0..times {
+        random.pick(changes)(random, state);
+    }
+}
+
+/// An occupied frame, if there is one.
+fn occupied(random: &mut Random, state: &State) -> Option<u8> {
+    random.choose(state.occupied().map(|(frame, _)| frame))
+}

@@ -1,0 +1,113 @@
+//! Changes of the records.
+use super::occupied;
+use crate::random::Random;
+use crate::records::{FrameRecord, State, MAX_USAGE, MOST_FRAMES};
+
+/// A frame, most of the time one of the F.
+fn any_frame(random: &mut Random, state: &State) -> usize {
+    let count = usize::from(state.pool.count).clamp(1, MOST_FRAMES);
+    let end = if random.percent(85) { count } else { MOST_FRAMES };
+    random.below(end)
+}
+
+fn any_record<'a>(random: &mut Random, state: &'a mut State) -> &'a mut FrameRecord {
+    &mut state.pool.records[any_frame(random, state)]
+}
+
+/// A figure about an edge, or any.
+fn figure_near(random: &mut Random, edge: u16) -> u16 {
+    let any = random.draw() as u16;
+    random.pick(&[0, 1, edge.wrapping_sub(1), edge, edge.wrapping_add(1), u16::MAX, any])
+}
+
+/// One field set to another value.
+pub fn field(random: &mut Random, state: &mut State) {
+    let (count, pages) = (state.pool.count, state.pool.pages);
+    let record = any_record(random, state);
+    match random.below(7) {
+        0 => record.used = !record.used,
+        1 => record.dirty = !record.dirty,
+        2 => record.usage = figure_near(random, u16::from(MAX_USAGE) + 1) as u8,
+        3 => record.slot = figure_near(random, 16) as u8,
+        4 => record.parent = figure_near(random, count) as u8,
+        5 => record.pins = figure_near(random, u16::MAX),
+        _ => record.page = figure_near(random, pages),
+    }
+}
+
+/// One bit of a field turned.
+pub fn bit(random: &mut Random, state: &mut State) {
+    let (narrow, wide) = (1u8 << random.below(8), 1u16 << random.below(16));
+    let record = any_record(random, state);
+    match random.below(7) {
+        0 => record.used = !record.used,
+        1 => record.dirty = !record.dirty,
+        2 => record.usage ^= narrow,
+        3 => record.slot ^= narrow,
+        4 => record.parent ^= narrow,
+        5 => record.pins ^= wide,
+        _ => record.page ^= wide,
+    }
+}
+
+/// A whole record emptied, made up, copied from another, or changed with another.
+pub fn whole(random: &mut Random, state: &mut State) {
+    let (frame, other) = (any_frame(random, state), any_frame(random, state));
+    match random.below(4) {
+        0 => state.pool.records[frame] = FrameRecord::EMPTY,
+        1 => state.pool.records[frame] = made_up(random, state),
+        2 => state.pool.records[frame] = state.pool.records[other],
+        _ => state.pool.records.swap(frame, other),
+    }
+}
+
+/// A record with fields in their ranges or one above.
+fn made_up(random: &mut Random, state: &State) -> FrameRecord {
+    FrameRecord {
+        used: random.percent(70),
+        dirty: random.percent(50),
+        usage: random.below(5) as u8,
+        slot: random.below(17) as u8,
+        parent: random.below(usize::from(state.pool.count) + 1) as u8,
+        pins: random.below(3) as u16,
+        page: random.below(usize::from(state.pool.pages) + 1) as u16,
+    }
+}
+
+/// F, N or the hand set to another value.
+pub fn figure(random: &mut Random, state: &mut State) {
+    let (count, pages) = (state.pool.count, state.pool.pages);
+    match random.below(3) {
+        0 => {
+            let near = figure_near(random, count);
+            state.pool.count = random.pick(&[near, 63, 64, 65]);
+        }
+        1 => {
+            let near = figure_near(random, pages);
+            state.pool.pages = random.pick(&[near, 4095, 4096, 4097]);
+        }
+        _ => state.pool.hand = figure_near(random, count) as u8,
+    }
+}
+
+/// Usage, pins, dirty mark or hand set to another value in range.
+pub fn counts(random: &mut Random, state: &mut State) {
+    let Some(frame) = occupied(random, state) else {
+        return;
+    };
+    let count = usize::from(state.pool.count).max(1);
+    let record = state.pool.record_mut(frame);
+    match random.below(4) {
+        0 => record.usage = random.below(usize::from(MAX_USAGE) + 1) as u8,
+        1 => record.pins = random.below(3) as u16,
+        2 => record.dirty = !record.dirty,
+        _ => state.pool.hand = random.below(count) as u8,
+    }
+}
+
+/// A page with all the pins that it can have, or nearly.
+pub fn most_pins(random: &mut Random, state: &mut State) {
+    if let Some(frame) = occupied(random, state) {
+        state.pool.record_mut(frame).pins = u16::MAX - random.below(2) as u16;
+    }
+}

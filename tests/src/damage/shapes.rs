@@ -1,0 +1,122 @@
+//! Changes of records and words together, each broken in one respect alone.
+use super::occupied;
+use crate::random::Random;
+use crate::records::{page_of_mut, put_word, State, PAGE_SIZE, SLOTS, SWIZZLE_BIT};
+
+fn put_frame_word(state: &mut State, frame: u8, slot: usize, word: u32) {
+    put_word(page_of_mut(&mut state.frames, frame.into()), slot, word);
+}
+
+/// Takes a frame out of its parent and hangs it below another, by record and word.
+fn hang(state: &mut State, frame: u8, parent: u8, slot: usize) {
+    let old = *state.pool.record(frame);
+    if usize::from(old.parent) < state.frame_count() && usize::from(old.slot) < SLOTS {
+        put_frame_word(state, old.parent, old.slot.into(), 0);
+    }
+    put_frame_word(state, parent, slot, SWIZZLE_BIT + u32::from(frame));
+    let record = state.pool.record_mut(frame);
+    (record.parent, record.slot) = (parent, slot as u8);
+}
+
+/// An occupied frame that isn't the root's.
+fn child(random: &mut Random, state: &State) -> Option<u8> {
+    random.choose(state.occupied().map(|(frame, _)| frame).filter(|frame| *frame != 0))
+}
+
+/// A slot of a frame with a word of 0.
+fn free_slot(random: &mut Random, state: &State, frame: u8) -> Option<usize> {
+    let words = state.words(frame).enumerate();
+    random.choose(words.filter(|(_, word)| *word == 0).map(|(slot, _)| slot))
+}
+
+/// A frame moved below another, with record and word in agreement.
+fn hang_somewhere(random: &mut Random, state: &mut State, frame: u8, parent: u8) {
+    if let Some(slot) = free_slot(random, state, parent) {
+        hang(state, frame, parent, slot);
+    }
+}
+
+/// A frame that is its own parent, or two that are each other's: each points back, and only the way to
+/// the root is broken.
+pub fn parent_loop(random: &mut Random, state: &mut State) {
+    if let (Some(first), Some(second)) = (child(random, state), child(random, state)) {
+        hang_somewhere(random, state, first, second);
+        hang_somewhere(random, state, second, first);
+    }
+}
+
+/// A frame moved below any other.
+pub fn moved_child(random: &mut Random, state: &mut State) {
+    if let (Some(frame), Some(parent)) = (child(random, state), occupied(random, state)) {
+        hang_somewhere(random, state, frame, parent);
+    }
+}
+
+/// A frame whose parent names it beyond the last slot, in the payload.
+pub fn slot_in_payload(random: &mut Random, state: &mut State) {
+    if let (Some(frame), Some(parent)) = (child(random, state), occupied(random, state)) {
+        let slot = random.pick(&[SLOTS, SLOTS + 1, 63]);
+        hang(state, frame, parent, slot);
+    }
+}
+
+/// A frame below an empty one, whose bytes name it.
+pub fn below_empty(random: &mut Random, state: &mut State) {
+    let used = |frame: &u8| state.pool.record(*frame).used;
+    let empty = random.choose((0..state.frame_count() as u8).filter(|frame| !used(frame)));
+    if let (Some(frame), Some(parent)) = (child(random, state), empty) {
+        let slot = random.below(SLOTS);
+        hang(state, frame, parent, slot);
+    }
+}
+
+/// The root's first word swizzled to a frame whose parent fields are 0: the root's own, or an empty one.
+pub fn first_word(random: &mut Random, state: &mut State) {
+    if state.frame_count() > 0 {
+        let any = random.below(state.frame_count()) as u32;
+        let frame = random.pick(&[0, any, any, state.pool.count.into(), 63, 64]);
+        put_frame_word(state, 0, 0, SWIZZLE_BIT + frame);
+    }
+}
+
+/// A word of the occupied frames that is a page number.
+fn number(random: &mut Random, state: &State) -> Option<u32> {
+    let words = state.occupied().flat_map(|(frame, _)| state.words(frame));
+    random.choose(words.filter(|word| *word != 0 && *word < SWIZZLE_BIT))
+}
+
+/// A page number that stands in two words of occupied frames.
+pub fn number_twice(random: &mut Random, state: &mut State) {
+    if let (Some(number), Some(frame)) = (number(random, state), occupied(random, state)) {
+        if let Some(slot) = free_slot(random, state, frame) {
+            put_frame_word(state, frame, slot, number);
+        }
+    }
+}
+
+/// A stored page that could be loaded next, with words that it may not have.
+pub fn spoilt_load(random: &mut Random, state: &mut State) {
+    let Some(page) = number(random, state) else {
+        return;
+    };
+    let words = unloadable(random, state, page);
+    if let Some(stored) = state.store.chunks_exact_mut(PAGE_SIZE).nth(page as usize) {
+        for word in words {
+            put_word(stored, random.below(SLOTS), word);
+        }
+    }
+}
+
+/// A swizzled word, a number not below N, the page's own, a resident page's, any, or any twice.
+fn unloadable(random: &mut Random, state: &State, page: u32) -> Vec<u32> {
+    let pages = state.pool.pages.max(1).into();
+    let any = random.below(pages) as u32;
+    match random.below(6) {
+        0 => vec![SWIZZLE_BIT | random.below(64) as u32],
+        1 => vec![(pages + random.below(3)) as u32],
+        2 => vec![page],
+        3 => occupied(random, state).map(|frame| state.pool.record(frame).page.into()).into_iter().collect(),
+        4 => vec![any],
+        _ => vec![any; 2],
+    }
+}

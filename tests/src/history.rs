@@ -1,0 +1,52 @@
+//! An unaltered list of calls from an accepted open, beside the model and the plain map.
+use crate::calls::{Answer, Call};
+use crate::coverage::Coverage;
+use crate::ensure;
+use crate::lockstep::step;
+use crate::plain::{Check, Plain};
+use crate::pool::Machine;
+use crate::records::{Pool, State};
+
+pub struct History<'a, M> {
+    machine: &'a M,
+    pub state: State,
+    plain: Plain,
+}
+
+impl<'a, M: Machine> History<'a, M> {
+    pub fn open(
+        machine: &'a M,
+        frames: Vec<u8>,
+        store: Vec<u8>,
+        coverage: &mut Coverage,
+    ) -> Result<Self, String> {
+        let plain = Plain::open(&store);
+        let pool = Pool::ZERO;
+        let mut state = State { pool, frames, store };
+        let answer = step(machine, &mut state, &Call::Open, coverage)?;
+        ensure!(answer.accepted(), "open gives {answer:?}");
+        Ok(History { machine, state, plain })
+    }
+
+    /// Makes a call, and compares its answer with the map.
+    pub fn call(&mut self, call: &Call, coverage: &mut Coverage) -> Result<Answer, String> {
+        let denied = self.plain.foretell_denial(self.machine, &self.state, call)?;
+        let answer = step(self.machine, &mut self.state, call, coverage)?;
+        ensure!((answer == Answer::Refused(15)) == (denied == Some(true)), "{call:?}: {answer:?}");
+        ensure!(denied != Some(false) || answer.accepted(), "{call:?}, with room: {answer:?}");
+        if *call == Call::Open && answer.accepted() {
+            self.plain = Plain::open(&self.state.store);
+        } else {
+            self.plain.feed(call, answer.accepted());
+            self.plain.count(call, &answer);
+        }
+        let checked = self.plain.check_answer(self.machine, &self.state, call, &answer);
+        checked.map_err(|fault| format!("{call:?}: {fault}"))?;
+        Ok(answer)
+    }
+
+    /// Everything that demand 3 says of this point.
+    pub fn check(&self) -> Check {
+        self.plain.check_point(self.machine, &self.state)
+    }
+}

@@ -1,0 +1,211 @@
+//! Document 01 as a program, naive on purpose: each rule and each call reads like its sentence.
+mod agreement;
+mod moves;
+mod rules;
+
+use crate::pool::{Buffer, Fixed, Machine, Place, Refusal};
+use crate::records::{
+    page_of, page_of_mut, put_word, word_in, FrameRecord, Handle, Pool, State, MAX_USAGE, PAGE_SIZE,
+    PAYLOAD_SIZE, PAYLOAD_START, SWIZZLE_BIT,
+};
+use rules::rule;
+
+pub struct Model;
+
+/// The two readings of a word.
+#[derive(Clone, Copy, Debug, PartialEq, Eq)]
+enum Reading {
+    Nothing,
+    Page(u32),
+    Frame(u32),
+}
+
+fn read(word: u32) -> Reading {
+    if word == 0 {
+        Reading::Nothing
+    } else if word < SWIZZLE_BIT {
+        Reading::Page(word)
+    } else {
+        Reading::Frame(word - SWIZZLE_BIT)
+    }
+}
+
+fn swizzled_to(frame: u8) -> u32 {
+    SWIZZLE_BIT + u32::from(frame)
+}
+
+/// The word in a slot of a frame.
+fn frame_word(frames: &[u8], frame: u8, slot: usize) -> u32 {
+    word_in(page_of(frames, usize::from(frame)), slot)
+}
+
+/// The frames that hold a page.
+fn occupied(pool: &Pool) -> impl Iterator<Item = u8> + Clone + '_ {
+    (0..pool.count as u8).filter(|frame| pool.record(*frame).used)
+}
+
+/// The frame that holds a page.
+fn frame_of(pool: &Pool, page: u16) -> Option<u8> {
+    occupied(pool).find(|frame| pool.record(*frame).page == page)
+}
+
+/// The word with a frame replaced by the number of the page in it.
+fn unswizzled(pool: &Pool, word: u32) -> u32 {
+    match read(word) {
+        Reading::Frame(frame) => u32::from(pool.records[frame as usize].page),
+        Reading::Nothing | Reading::Page(_) => word,
+    }
+}
+
+fn payload_in(buffer: Buffer, index: usize) -> Place {
+    Place { buffer, start: PAGE_SIZE * index + PAYLOAD_START, size: PAYLOAD_SIZE }
+}
+
+/// One pin and one usage more for the page in a frame.
+fn pin(state: &mut State, frame: u8) -> Result<Fixed, Refusal> {
+    let record = state.pool.record_mut(frame);
+    rule(13, record.pins < u16::MAX)?;
+    record.pins += 1;
+    record.usage = MAX_USAGE.min(record.usage + 1);
+    let page = record.page;
+    Ok(Fixed { handle: Handle { frame, page }, looks: 0 })
+}
+
+/// Puts a word into a slot of the handle's page, which is then dirty.
+fn put_link(state: &mut State, handle: Handle, slot: usize, word: u32) {
+    put_word(page_of_mut(&mut state.frames, handle.frame.into()), slot, word);
+    state.pool.record_mut(handle.frame).dirty = true;
+}
+
+fn opened(frames: &mut [u8], store: &[u8]) -> Result<Pool, Refusal> {
+    rules::lengths_in_range(frames, store)?;
+    rules::sound(store)?;
+    page_of_mut(frames, 0).copy_from_slice(page_of(store, 0));
+    let mut pool = Pool::ZERO;
+    pool.count = (frames.len() / PAGE_SIZE) as u16;
+    pool.pages = (store.len() / PAGE_SIZE) as u16;
+    pool.records[0] = FrameRecord { used: true, ..FrameRecord::EMPTY };
+    Ok(pool)
+}
+
+impl Machine for Model {
+    fn open(&self, frames: &mut [u8], store: &mut [u8]) -> (Result<(), Refusal>, Pool) {
+        match opened(frames, store) {
+            Ok(pool) => (Ok(()), pool),
+            Err(refusal) => (Err(refusal), Pool::ZERO),
+        }
+    }
+
+    fn root(&self, state: &mut State) -> Result<Fixed, Refusal> {
+        rules::state(state)?;
+        pin(state, 0)
+    }
+
+    fn fix(&self, state: &mut State, handle: Handle, slot: usize) -> Result<Fixed, Refusal> {
+        rules::state(state)?;
+        rules::handle(&state.pool, handle)?;
+        rules::slot(slot)?;
+        match read(frame_word(&state.frames, handle.frame, slot)) {
+            Reading::Nothing => Err(7),
+            Reading::Frame(frame) => pin(state, frame as u8),
+            Reading::Page(number) => {
+                let page = number as u16;
+                rules::loadable(state, page)?;
+                let (frame, looks) = moves::make_room(state)?;
+                moves::load(state, page, frame, handle.frame, slot);
+                Ok(Fixed { handle: Handle { frame, page }, looks })
+            }
+        }
+    }
+
+    fn unfix(&self, state: &mut State, handle: Handle) -> Result<(), Refusal> {
+        rules::state(state)?;
+        rules::handle(&state.pool, handle)?;
+        state.pool.record_mut(handle.frame).pins -= 1;
+        Ok(())
+    }
+
+    fn show(&self, state: &State, handle: Handle) -> Result<Place, Refusal> {
+        rules::state(state)?;
+        rules::handle(&state.pool, handle)?;
+        Ok(payload_in(Buffer::Frames, handle.frame.into()))
+    }
+
+    fn peek(&self, state: &State, page: u16) -> Result<Place, Refusal> {
+        rules::state(state)?;
+        rules::page(&state.pool, page)?;
+        Ok(match frame_of(&state.pool, page) {
+            Some(frame) => payload_in(Buffer::Frames, frame.into()),
+            None => payload_in(Buffer::Store, page.into()),
+        })
+    }
+
+    fn word(&self, state: &State, handle: Handle, slot: usize) -> Result<u16, Refusal> {
+        rules::state(state)?;
+        rules::handle(&state.pool, handle)?;
+        rules::slot(slot)?;
+        let word = frame_word(&state.frames, handle.frame, slot);
+        Ok(unswizzled(&state.pool, word) as u16)
+    }
+
+    fn write(&self, state: &mut State, handle: Handle, offset: usize, bytes: &[u8]) -> Result<(), Refusal> {
+        rules::state(state)?;
+        rules::handle(&state.pool, handle)?;
+        rules::range(offset, bytes.len())?;
+        let start = PAYLOAD_START + offset;
+        page_of_mut(&mut state.frames, handle.frame.into())[start..start + bytes.len()]
+            .copy_from_slice(bytes);
+        if !bytes.is_empty() {
+            state.pool.record_mut(handle.frame).dirty = true;
+        }
+        Ok(())
+    }
+
+    fn link(&self, state: &mut State, handle: Handle, slot: usize, page: u16) -> Result<(), Refusal> {
+        rules::state(state)?;
+        rules::handle(&state.pool, handle)?;
+        rules::slot(slot)?;
+        rule(6, page != 0)?;
+        rules::page(&state.pool, page)?;
+        rule(8, frame_word(&state.frames, handle.frame, slot) == 0)?;
+        rules::unnamed(state, page)?;
+        put_link(state, handle, slot, page.into());
+        Ok(())
+    }
+
+    fn unlink(&self, state: &mut State, handle: Handle, slot: usize) -> Result<(), Refusal> {
+        rules::state(state)?;
+        rules::handle(&state.pool, handle)?;
+        rules::slot(slot)?;
+        let word = frame_word(&state.frames, handle.frame, slot);
+        rule(7, word != 0)?;
+        let page = unswizzled(&state.pool, word) as u16;
+        rule(10, frame_of(&state.pool, page).is_none())?;
+        put_link(state, handle, slot, 0);
+        Ok(())
+    }
+
+    fn evict(&self, state: &mut State, page: u16) -> Result<(), Refusal> {
+        rules::state(state)?;
+        rules::page(&state.pool, page)?;
+        let frame = frame_of(&state.pool, page).ok_or(11)?;
+        rule(12, moves::evictable(state, frame))?;
+        moves::evict(state, frame);
+        Ok(())
+    }
+
+    fn settle(&self, state: &mut State) -> Result<(), Refusal> {
+        rules::state(state)?;
+        for frame in 0..state.pool.count as u8 {
+            moves::write_out(state, frame);
+            state.pool.record_mut(frame).dirty = false;
+        }
+        Ok(())
+    }
+
+    fn find(&self, state: &State, page: u16) -> Result<Option<u8>, Refusal> {
+        rules::state(state)?;
+        rules::page(&state.pool, page)?;
+        Ok(frame_of(&state.pool, page))
+    }
+}

@@ -1,0 +1,108 @@
+//! Document 01, "Numbered denials": what each rule tests. A rule broken is its number.
+use super::agreement::{agree, all_distinct};
+use super::{frame_of, occupied, read, unswizzled, Reading};
+use crate::pool::Refusal;
+use crate::records::{
+    page_of, word_in, Handle, Pool, State, LEAST_FRAMES, MOST_FRAMES, MOST_PAGES, PAGE_SIZE, PAYLOAD_SIZE,
+    SLOTS,
+};
+
+pub fn rule(number: Refusal, kept: bool) -> Result<(), Refusal> {
+    if kept {
+        Ok(())
+    } else {
+        Err(number)
+    }
+}
+
+/// 1, for open: "Frames or store have a length other than those above."
+pub fn lengths_in_range(frames: &[u8], store: &[u8]) -> Result<(), Refusal> {
+    let is = |bytes: &[u8], count: usize| bytes.len() == PAGE_SIZE * count;
+    rule(1, (LEAST_FRAMES..=MOST_FRAMES).any(|count| is(frames, count)))?;
+    rule(1, (1..=MOST_PAGES).any(|pages| is(store, pages)))
+}
+
+/// 1: "or other than at opening."
+fn lengths(state: &State) -> Result<(), Refusal> {
+    lengths_in_range(&state.frames, &state.store)?;
+    rule(1, state.frames.len() == PAGE_SIZE * usize::from(state.pool.count))?;
+    rule(1, state.store.len() == PAGE_SIZE * usize::from(state.pool.pages))
+}
+
+/// 1, and 2: "Records and frames don't agree (every call but open)."
+pub fn state(state: &State) -> Result<(), Refusal> {
+    lengths(state)?;
+    rule(2, agree(&state.pool, &state.frames))
+}
+
+/// 3: "The handle's frame index isn't below F, that frame doesn't hold its page, or its pins are 0."
+pub fn handle(pool: &Pool, handle: Handle) -> Result<(), Refusal> {
+    rule(3, u16::from(handle.frame) < pool.count)?;
+    let record = pool.record(handle.frame);
+    rule(3, record.used && record.page == handle.page && record.pins != 0)
+}
+
+/// 4: "The slot is above 15."
+pub fn slot(slot: usize) -> Result<(), Refusal> {
+    rule(4, slot < SLOTS)
+}
+
+/// 5: "The offset is above 192 or the length above 192 − offset."
+pub fn range(offset: usize, length: usize) -> Result<(), Refusal> {
+    rule(5, offset <= PAYLOAD_SIZE && length <= PAYLOAD_SIZE - offset)
+}
+
+/// 6: "The page number isn't below N."
+pub fn page(pool: &Pool, page: u16) -> Result<(), Refusal> {
+    rule(6, page < pool.pages)
+}
+
+/// 9: "Link's page is already named by a word of any page, resident pages taken by their images and the
+/// others from the store."
+pub fn unnamed(state: &State, page: u16) -> Result<(), Refusal> {
+    let named = (0..state.pool.pages).any(|other| match frame_of(&state.pool, other) {
+        Some(frame) => image_names(state, frame, page.into()),
+        None => names(page_of(&state.store, other.into()), page.into()),
+    });
+    rule(9, !named)
+}
+
+/// A page names another with one of its words.
+fn names(page: &[u8], number: u32) -> bool {
+    (0..SLOTS).any(|slot| word_in(page, slot) == number)
+}
+
+/// The image of the page in a frame names a page.
+fn image_names(state: &State, frame: u8, number: u32) -> bool {
+    let page = page_of(&state.frames, frame.into());
+    (0..SLOTS).any(|slot| unswizzled(&state.pool, word_in(page, slot)) == number)
+}
+
+/// 14: "The stored page to be loaded has a word with bit 31 set, not below N, repeated within it, or
+/// naming a page that a resident page already names."
+pub fn loadable(state: &State, page: u16) -> Result<(), Refusal> {
+    let stored = page_of(&state.store, page.into());
+    let mut numbers = Vec::new();
+    for slot in 0..SLOTS {
+        match read(word_in(stored, slot)) {
+            Reading::Nothing => {}
+            Reading::Frame(_) => return Err(14),
+            Reading::Page(number) => numbers.push(number),
+        }
+    }
+    rule(14, numbers.iter().all(|number| *number < state.pool.pages.into()))?;
+    rule(14, all_distinct(&numbers))?;
+    let named = |number: &u32| occupied(&state.pool).any(|frame| image_names(state, frame, *number));
+    rule(14, !numbers.iter().any(named))
+}
+
+/// 16: "every word is 0 or a page number from 1 to N − 1 and no number stands in two words."
+pub fn sound(store: &[u8]) -> Result<(), Refusal> {
+    let pages = store.len() / PAGE_SIZE;
+    let numbers: Vec<u32> = (0..pages)
+        .flat_map(|page| (0..SLOTS).map(move |slot| word_in(page_of(store, page), slot)))
+        .filter(|word| *word != 0)
+        .collect();
+    rule(16, numbers.iter().all(|number| (*number as usize) < pages))?;
+    rule(16, all_distinct(&numbers))
+}

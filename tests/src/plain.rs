@@ -1,0 +1,181 @@
+//! Document 01, "The plain map and the words of demand 3": what holds along an unaltered list of calls.
+mod point;
+mod residency;
+
+use crate::calls::{Answer, Call};
+use crate::ensure;
+use crate::pool::{Machine, Place};
+use crate::records::{
+    page_of, page_of_mut, put_word, word_in, Handle, State, PAGE_SIZE, PAYLOAD_START, SLOTS,
+};
+use residency::Residency;
+
+/// Up to this N, a load asks find for every page.
+const FEW_PAGES: usize = 64;
+
+/// What was found wrong, in words.
+pub type Check = Result<(), String>;
+
+/// How often a page was pinned and unpinned since the open, and the frame in the answer that pinned it.
+#[derive(Clone, Copy, Default)]
+struct Balance {
+    fixes: u64,
+    unfixes: u64,
+    frame: u8,
+}
+
+/// The plain map with no frames, and the balance of pins.
+pub struct Plain {
+    map: Vec<u8>,
+    balance: Vec<Balance>,
+}
+
+impl Plain {
+    /// "At the accepted open it is the store, byte for byte", and no page is pinned.
+    pub fn open(store: &[u8]) -> Plain {
+        Plain { map: store.to_vec(), balance: vec![Balance::default(); store.len() / PAGE_SIZE] }
+    }
+
+    fn pages(&self) -> usize {
+        self.balance.len()
+    }
+
+    /// Feeds the map a call's name, its arguments and whether it was accepted.
+    pub fn feed(&mut self, call: &Call, accepted: bool) {
+        if !accepted {
+            return;
+        }
+        match call {
+            Call::Write(handle, offset, bytes) => {
+                let start = PAYLOAD_START + offset;
+                self.page_mut(handle.page)[start..start + bytes.len()].copy_from_slice(bytes);
+            }
+            Call::Link(handle, slot, page) => {
+                put_word(self.page_mut(handle.page), *slot, (*page).into());
+            }
+            Call::Unlink(handle, slot) => put_word(self.page_mut(handle.page), *slot, 0),
+            _ => {}
+        }
+    }
+
+    /// Counts the pin that an answer gives or an accepted unfix takes.
+    pub fn count(&mut self, call: &Call, answer: &Answer) {
+        match (call, answer) {
+            (_, Answer::Fixed(fixed)) => {
+                let pinned = self.pinned(fixed.handle.page);
+                let balance = &mut self.balance[usize::from(fixed.handle.page)];
+                balance.fixes += 1;
+                if !pinned {
+                    balance.frame = fixed.handle.frame;
+                }
+            }
+            (Call::Unfix(handle), Answer::Done) => {
+                self.balance[usize::from(handle.page)].unfixes += 1;
+            }
+            _ => {}
+        }
+    }
+
+    fn page(&self, page: u16) -> &[u8] {
+        page_of(&self.map, page.into())
+    }
+
+    fn page_mut(&mut self, page: u16) -> &mut [u8] {
+        page_of_mut(&mut self.map, page.into())
+    }
+
+    /// The page that a slot of a page names, 0 for none.
+    fn named(&self, page: u16, slot: usize) -> u16 {
+        word_in(self.page(page), slot) as u16
+    }
+
+    /// "the accepted roots and fixes that answered its number outnumber the accepted unfixes of it"
+    fn pinned(&self, page: u16) -> bool {
+        let balance = self.balance[usize::from(page)];
+        balance.fixes > balance.unfixes
+    }
+
+    /// A call's answer is the map's. The state is the one that the call left.
+    pub fn check_answer(&self, machine: &impl Machine, state: &State, call: &Call, answer: &Answer) -> Check {
+        match (call, answer) {
+            (_, Answer::Refused(number)) => {
+                ensure!(![1, 2, 14].contains(number), "{number} in an unaltered list");
+            }
+            (Call::Show(handle), Answer::Place(place)) => {
+                self.check_payload(state, handle.page, place)?;
+            }
+            (Call::Peek(page), Answer::Place(place)) => self.check_payload(state, *page, place)?,
+            (Call::Word(handle, slot), Answer::Number(page)) => {
+                ensure!(*page == self.named(handle.page, *slot), "word gives {page}");
+            }
+            (Call::Root, Answer::Fixed(fixed)) => {
+                self.check_handle(machine, state, 0, fixed.handle)?;
+            }
+            (Call::Fix(handle, slot), Answer::Fixed(fixed)) => {
+                let page = self.named(handle.page, *slot);
+                self.check_handle(machine, state, page, fixed.handle)?;
+            }
+            (Call::Settle, Answer::Done) => {
+                ensure!(state.store == self.map, "the settled store isn't the map");
+            }
+            _ => {}
+        }
+        Ok(())
+    }
+
+    fn check_payload(&self, state: &State, page: u16, place: &Place) -> Check {
+        let payload = &self.page(page)[PAYLOAD_START..];
+        ensure!(place.bytes(state) == Some(payload), "page {page} shown at {place:?}");
+        Ok(())
+    }
+
+    fn check_handle(&self, machine: &impl Machine, state: &State, page: u16, handle: Handle) -> Check {
+        ensure!(handle.page == page, "{handle:?} for page {page}");
+        let found = machine.find(state, page);
+        ensure!(found == Ok(Some(handle.frame)), "{handle:?} found at {found:?}");
+        Ok(())
+    }
+
+    /// Whether a call asks for a load, and if so whether that must be denied a frame.
+    pub fn foretell_denial(
+        &self,
+        machine: &impl Machine,
+        state: &State,
+        call: &Call,
+    ) -> Result<Option<bool>, String> {
+        if !self.asks_load(machine, state, call) {
+            return Ok(None);
+        }
+        let resident = if self.pages() <= FEW_PAGES {
+            Residency::of_all(machine, state)?
+        } else {
+            Residency::of_recorded(machine, state)?
+        };
+        Ok(Some(self.no_room(&resident)))
+    }
+
+    /// "a page that isn't resident is to come in and no rule tested before 15 is broken"
+    fn asks_load(&self, machine: &impl Machine, state: &State, call: &Call) -> bool {
+        let Call::Fix(handle, slot) = *call else {
+            return false;
+        };
+        let held = usize::from(handle.page) < self.pages()
+            && self.pinned(handle.page)
+            && machine.find(state, handle.page) == Ok(Some(handle.frame));
+        if !held || slot >= SLOTS {
+            return false;
+        }
+        let page = self.named(handle.page, slot);
+        page != 0 && machine.find(state, page) == Ok(None)
+    }
+
+    /// "none is empty and every resident page but the root is pinned or has a resident child"
+    fn no_room(&self, resident: &Residency) -> bool {
+        let has_child = |page| {
+            (0..SLOTS)
+                .map(|slot| self.named(page, slot))
+                .any(|child| child != 0 && resident.frame(child).is_some())
+        };
+        resident.is_full() && resident.pages().all(|page| page == 0 || self.pinned(page) || has_child(page))
+    }
+}

@@ -1,0 +1,60 @@
+//! The machine under test: document 01's thirteen calls, behind one trait.
+use crate::records::{Handle, Pool, State};
+
+/// The number of the first broken rule.
+pub type Refusal = u8;
+
+/// The answer of root and fix.
+#[derive(Clone, Copy, Debug, PartialEq, Eq)]
+pub struct Fixed {
+    pub handle: Handle,
+    pub looks: u16,
+}
+
+#[derive(Clone, Copy, Debug, PartialEq, Eq)]
+pub enum Buffer {
+    Frames,
+    Store,
+}
+
+/// The answer of show and peek: where the payload lies.
+#[derive(Clone, Copy, Debug, PartialEq, Eq)]
+pub struct Place {
+    pub buffer: Buffer,
+    pub start: usize,
+    pub size: usize,
+}
+
+impl Place {
+    /// The bytes there, if it is a place in its buffer.
+    pub fn bytes<'a>(&self, state: &'a State) -> Option<&'a [u8]> {
+        let buffer = match self.buffer {
+            Buffer::Frames => &state.frames,
+            Buffer::Store => &state.store,
+        };
+        buffer.get(self.start..)?.get(..self.size)
+    }
+}
+
+pub trait Machine {
+    /// The records handed back too: all zero with a refusal.
+    fn open(&self, frames: &mut [u8], store: &mut [u8]) -> (Result<(), Refusal>, Pool);
+    fn root(&self, state: &mut State) -> Result<Fixed, Refusal>;
+    fn fix(&self, state: &mut State, handle: Handle, slot: usize) -> Result<Fixed, Refusal>;
+    fn unfix(&self, state: &mut State, handle: Handle) -> Result<(), Refusal>;
+    fn show(&self, state: &State, handle: Handle) -> Result<Place, Refusal>;
+    fn peek(&self, state: &State, page: u16) -> Result<Place, Refusal>;
+    fn word(&self, state: &State, handle: Handle, slot: usize) -> Result<u16, Refusal>;
+    fn write(&self, state: &mut State, handle: Handle, offset: usize, bytes: &[u8]) -> Result<(), Refusal>;
+    fn link(&self, state: &mut State, handle: Handle, slot: usize, page: u16) -> Result<(), Refusal>;
+    fn unlink(&self, state: &mut State, handle: Handle, slot: usize) -> Result<(), Refusal>;
+    fn evict(&self, state: &mut State, page: u16) -> Result<(), Refusal>;
+    fn settle(&self, state: &mut State) -> Result<(), Refusal>;
+    /// The frame, or none for 'absent'.
+    fn find(&self, state: &State, page: u16) -> Result<Option<u8>, Refusal>;
+}
+
+#[cfg(feature = "host")]
+pub use crate::host::Library as UnderTest;
+#[cfg(not(feature = "host"))]
+pub use crate::model::Model as UnderTest;

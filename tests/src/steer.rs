@@ -1,0 +1,248 @@
+//! Chooses random calls that reach deep into the rules: most arguments fit the state, some break a rule.
+use crate::calls::Call;
+use crate::random::Random;
+use crate::records::{
+    word_in, FrameRecord, Handle, State, PAGE_SIZE, PAYLOAD_SIZE, PAYLOAD_START, SLOTS, SWIZZLE_BIT,
+};
+
+/// How often each call is made, by `Call::index`.
+type Weights = [usize; 13];
+
+/// Pools fill, empty, or turn over. Open stands apart, since it begins anew.
+const MOODS: [Weights; 4] = [
+    [0, 8, 60, 12, 6, 6, 8, 16, 24, 6, 6, 4, 6],
+    [0, 2, 16, 60, 6, 6, 8, 12, 8, 10, 30, 6, 6],
+    [0, 6, 60, 56, 6, 6, 8, 20, 16, 10, 4, 2, 6],
+    [0, 10, 20, 20, 10, 10, 10, 20, 20, 20, 20, 10, 10],
+];
+
+pub struct Steer {
+    weights: Weights,
+    left: usize,
+}
+
+impl Steer {
+    /// Begins with filling the frames.
+    pub fn new(state: &State) -> Steer {
+        Steer { weights: MOODS[0], left: 8 * state.frame_count() }
+    }
+
+    /// The next call of a list.
+    pub fn next(&mut self, random: &mut Random, state: &State) -> Call {
+        if self.left == 0 {
+            self.weights = random.pick(&MOODS);
+            self.left = random.between(10, 50 + 4 * state.frame_count());
+        }
+        self.left -= 1;
+        if random.below(300) == 0 {
+            return Call::Open;
+        }
+        if random.percent(50) && state.occupied().all(|(_, record)| record.pins == 0) {
+            return Call::Root;
+        }
+        let index = self.weighted(random);
+        call(random, state, index)
+    }
+
+    fn weighted(&self, random: &mut Random) -> usize {
+        let mut at = random.below(self.weights.iter().sum());
+        let mut index = 0;
+        while at >= self.weights[index] {
+            at -= self.weights[index];
+            index += 1;
+        }
+        index
+    }
+}
+
+/// The call of an index, with arguments for a state, which may be damaged.
+pub fn call(random: &mut Random, state: &State, index: usize) -> Call {
+    let handle = handle(random, state);
+    match index {
+        0 => Call::Open,
+        1 => Call::Root,
+        2 => fix(random, state, handle),
+        3 => Call::Unfix(handle),
+        4 => Call::Show(handle),
+        5 => Call::Peek(page(random, state)),
+        6 => Call::Word(handle, named_slot(random, state, handle)),
+        7 => write(random, state, handle),
+        8 => {
+            let slot = free_slot(random, state, handle);
+            Call::Link(handle, slot, link_page(random, state))
+        }
+        9 => Call::Unlink(handle, named_slot(random, state, handle)),
+        10 => Call::Evict(evict_page(random, state)),
+        11 => Call::Settle,
+        _ => Call::Find(page(random, state)),
+    }
+}
+
+/// A handle of the page in one of the frames that pass a test.
+fn handle_where(random: &mut Random, state: &State, test: fn(&FrameRecord) -> bool) -> Option<Handle> {
+    let frames = state.occupied().filter(|(_, record)| test(record));
+    random.choose(frames.map(|(frame, record)| Handle { frame, page: record.page }))
+}
+
+/// A handle, most of the time of a pinned page.
+fn handle(random: &mut Random, state: &State) -> Handle {
+    match handle_where(random, state, |record| record.pins > 0) {
+        Some(handle) if random.percent(92) => handle,
+        Some(handle) => spoilt_handle(random, state, handle),
+        None => unpinned_handle(random, state),
+    }
+}
+
+fn unpinned_handle(random: &mut Random, state: &State) -> Handle {
+    let handle = handle_where(random, state, |record| record.pins == 0);
+    handle.unwrap_or(Handle { frame: 0, page: 0 })
+}
+
+/// A stale or malformed handle: another frame or page, or no pins.
+fn spoilt_handle(random: &mut Random, state: &State, good: Handle) -> Handle {
+    let (count, pages) = (state.pool.count, state.pool.pages);
+    let frame = random.below(state.frame_count().max(1)) as u8;
+    match random.below(6) {
+        0 => unpinned_handle(random, state),
+        1 => Handle { frame, ..good },
+        2 => Handle { frame: random.pick(&[count as u8, 63, 64, 128, 255]), ..good },
+        3 => Handle { page: random.pick(&[pages, pages ^ 1, 4096, 65535]), ..good },
+        4 => Handle { page: random.below(usize::from(pages).max(1)) as u16, ..good },
+        _ => Handle { frame, page: 0 },
+    }
+}
+
+/// Whether a word is a page number.
+fn is_number(word: u32) -> bool {
+    word != 0 && word < SWIZZLE_BIT
+}
+
+/// The slots of a frame whose words pass a test.
+fn slots_where(state: &State, frame: u8, test: fn(u32) -> bool) -> impl Iterator<Item = usize> + '_ {
+    state.words(frame).enumerate().filter(move |(_, word)| test(*word)).map(|(slot, _)| slot)
+}
+
+/// A fix: most of the time of a page that isn't resident.
+fn fix(random: &mut Random, state: &State, handle: Handle) -> Call {
+    let pinned = state.occupied().filter(|(_, record)| record.pins > 0);
+    let loads = pinned.flat_map(|(frame, record)| {
+        let handle = Handle { frame, page: record.page };
+        slots_where(state, frame, is_number).map(move |slot| Call::Fix(handle, slot))
+    });
+    match random.choose(loads) {
+        Some(load) if random.percent(60) => load,
+        _ => Call::Fix(handle, named_slot(random, state, handle)),
+    }
+}
+
+/// A slot, at times above 15.
+fn any_slot(random: &mut Random) -> usize {
+    if random.percent(90) {
+        random.below(SLOTS)
+    } else {
+        random.pick(&[SLOTS, SLOTS + 1, 255, 256, usize::MAX])
+    }
+}
+
+/// A slot of the handle's frame whose word passes a test, most of the time.
+fn slot_where(random: &mut Random, state: &State, handle: Handle, test: fn(u32) -> bool) -> usize {
+    if usize::from(handle.frame) >= state.frame_count() || random.percent(10) {
+        return any_slot(random);
+    }
+    let slot = random.choose(slots_where(state, handle.frame, test));
+    slot.unwrap_or_else(|| any_slot(random))
+}
+
+/// A slot that names a page, swizzled or not.
+fn named_slot(random: &mut Random, state: &State, handle: Handle) -> usize {
+    let test = if random.percent(60) { is_number } else { |word| word != 0 };
+    slot_where(random, state, handle, test)
+}
+
+fn free_slot(random: &mut Random, state: &State, handle: Handle) -> usize {
+    slot_where(random, state, handle, |word| word == 0)
+}
+
+/// A page number, at times not below N.
+fn any_page(random: &mut Random, state: &State) -> u16 {
+    let pages = state.pool.pages;
+    if random.percent(93) {
+        random.below(usize::from(pages).max(1)) as u16
+    } else {
+        random.pick(&[pages, pages.wrapping_add(1), pages ^ 0x100, 4096, 65535])
+    }
+}
+
+/// A page number, as often as not of a resident page.
+fn page(random: &mut Random, state: &State) -> u16 {
+    match handle_where(random, state, |_| true) {
+        Some(handle) if random.percent(50) => handle.page,
+        _ => any_page(random, state),
+    }
+}
+
+/// A page that can be evicted, most of the time.
+fn evict_page(random: &mut Random, state: &State) -> u16 {
+    let open = state.occupied().filter(|(frame, record)| {
+        *frame != 0 && record.pins == 0 && state.words(*frame).all(|word| word < SWIZZLE_BIT)
+    });
+    match random.choose(open.map(|(_, record)| record.page)) {
+        Some(page) if random.percent(60) => page,
+        _ => page(random, state),
+    }
+}
+
+/// A page to link: one that no word seems to name, one that the store alone still names, or any.
+fn link_page(random: &mut Random, state: &State) -> u16 {
+    let tries: Vec<u16> = (0..4).map(|_| any_page(random, state)).collect();
+    let page = match random.below(4) {
+        0 | 1 => tries.iter().copied().find(|page| !seems_named(state, *page)),
+        2 => random.choose(unlinked(state)),
+        _ => None,
+    };
+    page.unwrap_or(tries[0])
+}
+
+/// The pages that were unlinked from a resident page since it was written out.
+fn unlinked(state: &State) -> Vec<u16> {
+    let stored = |page: u16| state.store.chunks_exact(PAGE_SIZE).nth(page.into());
+    let mut pages = Vec::new();
+    for (frame, record) in state.occupied() {
+        if let Some(page) = stored(record.page) {
+            let cleared = slots_where(state, frame, |word| word == 0);
+            pages.extend(cleared.map(|slot| word_in(page, slot) as u16).filter(|page| *page != 0));
+        }
+    }
+    pages
+}
+
+/// A word of the store as it stands gives the page, or it is resident.
+fn seems_named(state: &State, page: u16) -> bool {
+    let mut stored = state.store.chunks_exact(PAGE_SIZE);
+    stored.any(|other| (0..SLOTS).any(|slot| word_in(other, slot) == page.into()))
+        || state.occupied().any(|(_, record)| record.page == page)
+}
+
+/// A write at or about the edges of the payload, at times of the bytes that stand there.
+fn write(random: &mut Random, state: &State, handle: Handle) -> Call {
+    let offset = match random.below(8) {
+        0 => random.pick(&[0, 1, 191, 192]),
+        1 => random.pick(&[193, 256, usize::MAX - 191, usize::MAX]),
+        _ => random.below(PAYLOAD_SIZE),
+    };
+    let room = PAYLOAD_SIZE.saturating_sub(offset);
+    let length = match random.below(8) {
+        0 => 0,
+        1 => room,
+        2 => random.pick(&[room + 1, 193, 256, 300]),
+        _ => random.below(room.min(12) + 1),
+    };
+    let standing = written(state, handle, offset, length).filter(|_| random.percent(10));
+    Call::Write(handle, offset, standing.unwrap_or_else(|| random.bytes(length)))
+}
+
+/// The bytes that stand where a write goes, if that is in a payload.
+fn written(state: &State, handle: Handle, offset: usize, length: usize) -> Option<Vec<u8>> {
+    let payload = state.frames.chunks_exact(PAGE_SIZE).nth(handle.frame.into())?.get(PAYLOAD_START..)?;
+    Some(payload.get(offset..offset.checked_add(length)?)?.to_vec())
+}

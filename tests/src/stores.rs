@@ -1,0 +1,35 @@
+//! Random sound stores.
+use crate::random::Random;
+use crate::records::{page_of_mut, put_word, word_in, PAGE_SIZE, PAYLOAD_START, SLOTS};
+
+/// N pages with random payloads. So many in a hundred are named by a word, most of them in a tree below the root.
+pub fn sound_store(random: &mut Random, pages: usize, named: usize) -> Vec<u8> {
+    let mut store = vec![0; PAGE_SIZE * pages];
+    for page in 0..pages {
+        random.fill(&mut page_of_mut(&mut store, page)[PAYLOAD_START..]);
+    }
+    for page in 1..pages {
+        if random.percent(named) {
+            let parent = parent_for(random, page, pages);
+            name_in(random, page_of_mut(&mut store, parent), page);
+        }
+    }
+    store
+}
+
+/// A page with a lower number, and at times any: itself, or one of a ring out of the root's reach.
+fn parent_for(random: &mut Random, page: usize, pages: usize) -> usize {
+    match random.below(10) {
+        0 => random.below(pages),
+        1..=3 => page - 1,
+        _ => random.below(page),
+    }
+}
+
+/// Puts a page's number into an empty slot, if the one tried is.
+fn name_in(random: &mut Random, parent: &mut [u8], page: usize) {
+    let slot = random.below(SLOTS);
+    if word_in(parent, slot) == 0 {
+        put_word(parent, slot, page as u32);
+    }
+}

@@ -1,0 +1,83 @@
+//! A pool for a single case: each call is made on the machine under test and compared with the model.
+use crate::calls::{Answer, Call};
+use crate::coverage::Coverage;
+use crate::lockstep::step;
+use crate::pool::UnderTest;
+use crate::records::{page_of, page_of_mut, put_word, word_in, FrameRecord, Handle, Pool, State, PAGE_SIZE};
+
+/// A word of a stored page: the page, the slot, and the page that it names.
+pub type Link = (usize, usize, u32);
+
+pub struct Trial {
+    pub state: State,
+}
+
+impl Trial {
+    /// A pool just opened over zero pages with some words.
+    pub fn open(frames: usize, pages: usize, links: &[Link]) -> Trial {
+        let mut trial = Trial::closed(frames, pages, links);
+        assert_eq!(trial.call(Call::Open), Answer::Done);
+        trial
+    }
+
+    /// The buffers before an open, with no records.
+    pub fn closed(frames: usize, pages: usize, links: &[Link]) -> Trial {
+        let mut store = vec![0; PAGE_SIZE * pages];
+        for (page, slot, word) in links {
+            put_word(page_of_mut(&mut store, *page), *slot, *word);
+        }
+        Trial { state: State { pool: Pool::ZERO, frames: vec![0; PAGE_SIZE * frames], store } }
+    }
+
+    pub fn call(&mut self, call: Call) -> Answer {
+        step(&UnderTest, &mut self.state, &call, &mut Coverage::default()).unwrap()
+    }
+
+    /// The refusal's number of a call, 0 if accepted.
+    pub fn number(&mut self, call: Call) -> u8 {
+        self.call(call).number()
+    }
+
+    /// A call that must be accepted.
+    pub fn accept(&mut self, call: Call) {
+        let answer = self.call(call.clone());
+        assert!(answer.accepted(), "{call:?}: {answer:?}");
+    }
+
+    /// Pins the root.
+    pub fn root(&mut self) -> Handle {
+        self.handle(Call::Root)
+    }
+
+    /// Pins the page in a slot.
+    pub fn fix(&mut self, parent: Handle, slot: usize) -> Handle {
+        self.handle(Call::Fix(parent, slot))
+    }
+
+    fn handle(&mut self, call: Call) -> Handle {
+        match self.call(call.clone()) {
+            Answer::Fixed(fixed) => fixed.handle,
+            other => panic!("{call:?}: {other:?}"),
+        }
+    }
+
+    pub fn record(&mut self, frame: u8) -> &mut FrameRecord {
+        self.state.pool.record_mut(frame)
+    }
+
+    pub fn frame_word(&self, frame: usize, slot: usize) -> u32 {
+        word_in(page_of(&self.state.frames, frame), slot)
+    }
+
+    pub fn stored_word(&self, page: usize, slot: usize) -> u32 {
+        word_in(page_of(&self.state.store, page), slot)
+    }
+
+    pub fn put_frame_word(&mut self, frame: usize, slot: usize, word: u32) {
+        put_word(page_of_mut(&mut self.state.frames, frame), slot, word);
+    }
+
+    pub fn put_stored_word(&mut self, page: usize, slot: usize, word: u32) {
+        put_word(page_of_mut(&mut self.state.store, page), slot, word);
+    }
+}

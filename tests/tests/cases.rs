@@ -1,0 +1,164 @@
+//! Document 01's bench cases, executed.
+use pool_tests::calls::{Answer, Call};
+use pool_tests::coverage::Coverage;
+use pool_tests::history::History;
+use pool_tests::pool::{Fixed, UnderTest};
+use pool_tests::records::{page_of, Handle, State};
+use pool_tests::trial::Trial;
+
+/// F 4 and N 16 with pages 5, 6 and 7 in frames 1, 2 and 3, under slots 1, 2 and 3 of the root; the root alone is pinned.
+fn full_pool() -> (Trial, Handle) {
+    let mut trial = Trial::open(4, 16, &[(0, 1, 5), (0, 2, 6), (0, 3, 7), (0, 4, 8)]);
+    let root = trial.root();
+    for slot in 1..4 {
+        let child = trial.fix(root, slot);
+        trial.accept(Call::Unfix(child));
+    }
+    (trial, root)
+}
+
+fn word_bytes(trial: &Trial, slot: usize) -> [u8; 4] {
+    let page = page_of(&trial.state.frames, 0);
+    page[4 * slot..4 * slot + 4].try_into().unwrap()
+}
+
+#[test]
+fn a_word_names_a_frame() {
+    let (mut trial, root) = full_pool();
+    assert_eq!(word_bytes(&trial, 3), [0x03, 0x00, 0x00, 0x80]);
+    assert_eq!(trial.call(Call::Find(7)), Answer::Frame(Some(3)));
+    assert_eq!(trial.call(Call::Word(root, 3)), Answer::Number(7));
+    assert_eq!(trial.fix(root, 3), Handle { frame: 3, page: 7 });
+}
+
+#[test]
+fn a_word_names_a_page() {
+    let mut trial = Trial::open(4, 16, &[]);
+    let root = trial.root();
+    trial.accept(Call::Link(root, 3, 7));
+    assert_eq!(word_bytes(&trial, 3), [0x07, 0x00, 0x00, 0x00]);
+    assert_eq!(trial.call(Call::Word(root, 3)), Answer::Number(7));
+    assert_eq!(trial.fix(root, 3).page, 7);
+}
+
+#[test]
+fn an_image_names_pages() {
+    let mut trial = Trial::open(4, 16, &[]);
+    let root = trial.root();
+    trial.accept(Call::Link(root, 0, 7));
+    assert_eq!(trial.fix(root, 0).frame, 1);
+    assert_eq!(trial.frame_word(0, 0), 0x8000_0001);
+    trial.accept(Call::Settle);
+    assert_eq!(trial.stored_word(0, 0), 0x0000_0007);
+    assert_eq!(trial.frame_word(0, 0), 0x8000_0001);
+}
+
+#[test]
+fn writes_at_the_end_of_the_payload() {
+    let mut trial = Trial::open(2, 1, &[]);
+    let root = trial.root();
+    assert_eq!(trial.number(Call::Write(root, 192, vec![])), 0);
+    assert!(!trial.record(0).dirty);
+    assert_eq!(trial.number(Call::Write(root, 191, vec![9])), 0);
+    assert!(trial.record(0).dirty);
+    assert_eq!(trial.state.frames[255], 9);
+    assert_eq!(trial.number(Call::Write(root, 192, vec![9])), 5);
+}
+
+#[test]
+fn slots_end_at_15() {
+    let mut trial = Trial::open(2, 4, &[(0, 15, 3)]);
+    let root = trial.root();
+    assert_eq!(trial.number(Call::Word(root, 15)), 0);
+    assert_eq!(trial.number(Call::Fix(root, 15)), 0);
+    let slot_16 =
+        [Call::Word(root, 16), Call::Fix(root, 16), Call::Link(root, 16, 2), Call::Unlink(root, 16)];
+    for call in slot_16 {
+        assert_eq!(trial.number(call), 4);
+    }
+}
+
+#[test]
+fn pins_end_at_65535() {
+    let (mut trial, root) = full_pool();
+    for (call, frame) in [(Call::Root, 0), (Call::Fix(root, 3), 3)] {
+        trial.record(frame).pins = 65_534;
+        assert_eq!(trial.number(call.clone()), 0);
+        assert_eq!(trial.record(frame).pins, 65_535);
+        assert_eq!(trial.number(call), 13);
+    }
+}
+
+/// Pins rise to the limit by calls alone, beside the plain map.
+#[test]
+fn pins_rise_to_65535_by_calls() -> Result<(), String> {
+    let coverage = &mut Coverage::default();
+    let State { frames, store, .. } = Trial::closed(2, 4, &[(0, 1, 3)]).state;
+    let mut history = History::open(&UnderTest, frames, store, coverage)?;
+    for call in [Call::Root, Call::Fix(Handle { frame: 0, page: 0 }, 1)] {
+        for _ in 0..65_535 {
+            assert!(history.call(&call, coverage)?.accepted());
+        }
+        assert_eq!(history.call(&call, coverage)?, Answer::Refused(13));
+    }
+    history.check()
+}
+
+/// Fixes page 8 into the full pool, with frames 1 to 3 of these usages.
+fn sweep(hand: u8, usages: [u8; 3], pinned: &[u8]) -> (Trial, Fixed) {
+    let (mut trial, root) = full_pool();
+    trial.state.pool.hand = hand;
+    for (frame, usage) in (1..).zip(usages) {
+        trial.record(frame).usage = usage;
+    }
+    for frame in pinned {
+        trial.record(*frame).pins = 1;
+    }
+    match trial.call(Call::Fix(root, 4)) {
+        Answer::Fixed(fixed) => (trial, fixed),
+        other => panic!("{other:?}"),
+    }
+}
+
+#[test]
+fn a_sweep_from_hand_0() {
+    let (trial, fixed) = sweep(0, [1, 0, 2], &[]);
+    assert_eq!(fixed, Fixed { handle: Handle { frame: 2, page: 8 }, looks: 3 });
+    assert_eq!(trial.state.pool.hand, 3);
+}
+
+#[test]
+fn a_sweep_from_hand_3() {
+    let (trial, fixed) = sweep(3, [1, 0, 2], &[]);
+    assert_eq!(fixed, Fixed { handle: Handle { frame: 2, page: 8 }, looks: 4 });
+    assert_eq!(trial.state.pool.hand, 3);
+}
+
+#[test]
+fn a_sweep_of_16_looks() {
+    let (trial, fixed) = sweep(0, [0, 0, 3], &[1, 2]);
+    assert_eq!(fixed, Fixed { handle: Handle { frame: 3, page: 8 }, looks: 16 });
+    assert_eq!(trial.state.pool.hand, 0);
+}
+
+#[test]
+fn the_last_page_of_4096() {
+    let mut trial = Trial::open(4, 4096, &[]);
+    let root = trial.root();
+    assert_eq!(trial.number(Call::Link(root, 0, 4095)), 0);
+    assert_eq!(trial.number(Call::Link(root, 1, 4096)), 6);
+    assert_eq!(trial.fix(root, 0), Handle { frame: 1, page: 4095 });
+}
+
+#[test]
+fn the_calls_of_the_listing() {
+    let mut trial = Trial::open(4, 16, &[]);
+    let root = trial.root();
+    assert_eq!(root, Handle { frame: 0, page: 0 });
+    assert_eq!(trial.number(Call::Link(root, 3, 7)), 0);
+    let child = trial.fix(root, 3);
+    assert_eq!(child, Handle { frame: 1, page: 7 });
+    assert_eq!(trial.number(Call::Evict(7)), 12);
+    assert_eq!(trial.number(Call::Unfix(child)), 0);
+    assert_eq!(trial.number(Call::Evict(7)), 0);
+}

@@ -1,0 +1,281 @@
+//! Single consequences of document 01, each with the figures that show it.
+use pool_tests::calls::{Answer, Call};
+use pool_tests::pool::{Buffer, Machine, Place, UnderTest};
+use pool_tests::records::{FrameRecord, Handle, Pool, PAGE_SIZE, SWIZZLE_BIT};
+use pool_tests::trial::Trial;
+
+/// The store lags behind the map: a page that moved can stand in two stored words.
+#[test]
+fn an_open_in_between_can_be_refused() {
+    let mut trial = Trial::open(4, 16, &[]);
+    let root = trial.root();
+    trial.accept(Call::Link(root, 0, 5));
+    trial.accept(Call::Link(root, 1, 7));
+    trial.accept(Call::Settle);
+    let five = trial.fix(root, 0);
+    trial.accept(Call::Unlink(root, 1));
+    trial.accept(Call::Link(five, 0, 7));
+    trial.accept(Call::Unfix(five));
+    trial.accept(Call::Evict(5));
+    assert_eq!(trial.number(Call::Open), 16);
+    trial.accept(Call::Settle);
+    assert_eq!(trial.number(Call::Open), 0);
+}
+
+#[test]
+fn open_refuses_lengths_out_of_range() {
+    for (frames, pages, number) in
+        [(1, 1, 1), (2, 1, 0), (64, 4096, 0), (65, 1, 1), (2, 4097, 1), (2, 0, 1), (0, 0, 1)]
+    {
+        let mut trial = Trial::closed(frames, pages, &[]);
+        assert_eq!(trial.number(Call::Open), number, "F {frames} N {pages}");
+    }
+}
+
+#[test]
+fn a_refused_open_gives_zero_records() {
+    let Trial { mut state } = Trial::closed(2, 4, &[(0, 0, 2), (3, 5, 2)]);
+    state.frames.fill(7);
+    let (opened, records) = UnderTest.open(&mut state.frames, &mut state.store);
+    assert_eq!((opened, records), (Err(16), Pool::ZERO));
+    assert!(state.frames.iter().all(|byte| *byte == 7));
+}
+
+#[test]
+fn open_keeps_the_other_frames() {
+    let mut trial = Trial::closed(3, 2, &[(0, 2, 1)]);
+    trial.state.frames.fill(0xff);
+    trial.accept(Call::Open);
+    assert_eq!(trial.frame_word(0, 2), 1);
+    assert!(trial.state.frames[PAGE_SIZE..].iter().all(|byte| *byte == 0xff));
+    trial.root();
+}
+
+#[test]
+fn lengths_come_before_agreement() {
+    let by = [(-1, 0), (1, 0), (0, -1), (0, 1), (256, 0), (0, 256), (-256, 0), (0, -256)];
+    for (frames, store) in by {
+        let mut trial = Trial::open(4, 8, &[]);
+        trial.record(0).used = false;
+        assert_eq!(trial.number(Call::Settle), 2);
+        trial.state.frames.resize((4 * PAGE_SIZE).strict_add_signed(frames), 0);
+        trial.state.store.resize((8 * PAGE_SIZE).strict_add_signed(store), 0);
+        assert_eq!(trial.number(Call::Settle), 1);
+    }
+}
+
+#[test]
+fn counts_out_of_range_are_lengths_refused() {
+    for (frames, pages) in [(0, 4), (1, 4), (65, 4), (4, 0), (4, 4097)] {
+        let mut trial = Trial::closed(frames, pages, &[]);
+        trial.record(0).used = true;
+        (trial.state.pool.count, trial.state.pool.pages) = (frames as u16, pages as u16);
+        assert_eq!(trial.number(Call::Root), 1, "F {frames} N {pages}");
+    }
+}
+
+/// Pages 5 and 6 in frames 1 and 2, under slots 1 and 2 of the root, all three pinned.
+fn two_children() -> (Trial, [Handle; 3]) {
+    let mut trial = Trial::open(4, 16, &[(0, 1, 5), (0, 2, 6), (0, 3, 7)]);
+    let root = trial.root();
+    let handles = [root, trial.fix(root, 1), trial.fix(root, 2)];
+    (trial, handles)
+}
+
+/// Hangs a frame below a slot of another, by record and word.
+fn hang(trial: &mut Trial, frame: u8, parent: u8, slot: u8) {
+    let record = trial.record(frame);
+    (record.parent, record.slot) = (parent, slot);
+    trial.put_frame_word(parent.into(), slot.into(), SWIZZLE_BIT + u32::from(frame));
+}
+
+#[test]
+fn parents_must_lead_to_the_root() {
+    let (mut trial, _) = two_children();
+    trial.put_frame_word(0, 1, 0);
+    hang(&mut trial, 1, 2, 9);
+    assert_eq!(trial.number(Call::Settle), 0);
+    trial.put_frame_word(0, 2, 0);
+    hang(&mut trial, 2, 1, 3);
+    assert_eq!(trial.number(Call::Settle), 2, "each other's parents");
+
+    let (mut trial, _) = two_children();
+    trial.put_frame_word(0, 1, 0);
+    hang(&mut trial, 1, 1, 0);
+    assert_eq!(trial.number(Call::Settle), 2, "its own parent");
+}
+
+#[test]
+fn words_and_records_must_agree() {
+    let cases =
+        [(4, SWIZZLE_BIT), (4, SWIZZLE_BIT + 1), (4, SWIZZLE_BIT + 3), (4, 5), (4, 7), (4, 16), (1, 5)];
+    for (slot, word) in cases {
+        let (mut trial, _) = two_children();
+        trial.put_frame_word(0, slot, word);
+        assert_eq!(trial.number(Call::Settle), 2, "word {word:#x} in slot {slot}");
+    }
+}
+
+#[test]
+fn records_are_tested_up_to_the_last() {
+    for frame in [3, 4, 63] {
+        let (mut trial, _) = two_children();
+        *trial.record(frame) = FrameRecord { usage: 1, ..FrameRecord::EMPTY };
+        assert_eq!(trial.number(Call::Settle), 2, "frame {frame}");
+    }
+}
+
+#[test]
+fn an_empty_frame_is_free() {
+    let (mut trial, _) = two_children();
+    trial.state.frames[3 * PAGE_SIZE..].fill(0xff);
+    trial.put_frame_word(3, 0, SWIZZLE_BIT + 1);
+    trial.put_frame_word(3, 1, 5);
+    assert_eq!(trial.number(Call::Settle), 0);
+}
+
+#[test]
+fn a_handle_is_tested_with_its_page() {
+    let (mut trial, [_, five, six]) = two_children();
+    for (frame, page) in [(1, 6), (1, 16), (1, 65535), (3, 0), (4, 0), (64, 5), (255, 5)] {
+        assert_eq!(trial.number(Call::Show(Handle { frame, page })), 3, "frame {frame} page {page}");
+    }
+    trial.accept(Call::Unfix(five));
+    assert_eq!(trial.number(Call::Unfix(five)), 3);
+    trial.accept(Call::Show(six));
+}
+
+#[test]
+fn a_stale_handle_is_good_again() {
+    let (mut trial, [root, five, _]) = two_children();
+    trial.accept(Call::Unfix(five));
+    trial.accept(Call::Evict(5));
+    assert_eq!(trial.number(Call::Show(five)), 3);
+    trial.state.pool.hand = 1;
+    assert_eq!(trial.fix(root, 1), five);
+    trial.accept(Call::Show(five));
+}
+
+#[test]
+fn page_0_is_refused_in_link_alone() {
+    let (mut trial, [root, ..]) = two_children();
+    assert_eq!(trial.number(Call::Link(root, 5, 0)), 6);
+    assert_eq!(trial.number(Call::Evict(0)), 12);
+    assert_eq!(trial.call(Call::Find(0)), Answer::Frame(Some(0)));
+    for call in [Call::Peek(16), Call::Find(16), Call::Evict(16), Call::Link(root, 5, 16)] {
+        assert_eq!(trial.number(call), 6);
+    }
+}
+
+#[test]
+fn payloads_lie_in_frames_or_store() {
+    let (mut trial, [_, five, _]) = two_children();
+    let at = |buffer, start| Answer::Place(Place { buffer, start, size: 192 });
+    assert_eq!(trial.call(Call::Show(five)), at(Buffer::Frames, 256 + 64));
+    assert_eq!(trial.call(Call::Peek(5)), at(Buffer::Frames, 256 + 64));
+    assert_eq!(trial.call(Call::Peek(7)), at(Buffer::Store, 7 * 256 + 64));
+}
+
+/// The first empty frame is taken from the hand on, and the hand stays.
+#[test]
+fn an_empty_frame_at_or_after_the_hand() {
+    for (hand, frame) in [(0, 1), (1, 1), (2, 2), (3, 3)] {
+        let mut trial = Trial::open(4, 16, &[(0, 1, 5)]);
+        trial.state.pool.hand = hand;
+        let root = trial.root();
+        assert_eq!(trial.fix(root, 1).frame, frame, "hand {hand}");
+        assert_eq!(trial.state.pool.hand, hand);
+    }
+}
+
+#[test]
+fn no_room_leaves_usage_and_hand() {
+    let mut trial = Trial::open(2, 8, &[(0, 0, 1), (0, 1, 2)]);
+    let root = trial.root();
+    trial.fix(root, 0);
+    trial.state.pool.hand = 1;
+    assert_eq!(trial.number(Call::Fix(root, 1)), 15);
+}
+
+#[test]
+fn a_page_with_a_resident_child_stays() {
+    let mut trial = Trial::open(3, 8, &[(0, 0, 1), (1, 0, 2), (0, 1, 3)]);
+    let root = trial.root();
+    let one = trial.fix(root, 0);
+    let two = trial.fix(one, 0);
+    trial.accept(Call::Unfix(one));
+    assert_eq!(trial.number(Call::Evict(1)), 12);
+    assert_eq!(trial.number(Call::Fix(root, 1)), 15);
+    trial.accept(Call::Unfix(two));
+    assert_eq!(trial.fix(root, 1).frame, two.frame);
+}
+
+/// Neither loading nor evicting a page dirties its parent, and a clean page isn't written.
+#[test]
+fn a_clean_page_is_not_written() {
+    let (mut trial, [_, five, _]) = two_children();
+    assert!(!trial.record(0).dirty);
+    trial.accept(Call::Unfix(five));
+    trial.put_stored_word(5, 3, 9);
+    trial.accept(Call::Evict(5));
+    assert!(!trial.record(0).dirty);
+    assert_eq!(trial.frame_word(0, 1), 5);
+    assert_eq!(trial.stored_word(5, 3), 9);
+}
+
+#[test]
+fn equal_bytes_are_dirty_and_none_are_not() {
+    let (mut trial, [_, five, six]) = two_children();
+    trial.accept(Call::Write(five, 0, vec![0; 192]));
+    trial.accept(Call::Write(six, 0, vec![]));
+    assert!(trial.record(1).dirty && !trial.record(2).dirty);
+}
+
+/// Rule 9 takes resident pages by their images: what the store alone still says of them doesn't count.
+#[test]
+fn link_asks_images_and_the_rest_of_the_store() {
+    let (mut trial, [root, five, _]) = two_children();
+    assert_eq!(trial.number(Call::Link(five, 0, 6)), 9, "a swizzled word names it");
+    assert_eq!(trial.number(Call::Link(five, 0, 7)), 9, "a number names it");
+    trial.accept(Call::Unlink(root, 3));
+    trial.accept(Call::Link(five, 0, 7));
+    trial.put_stored_word(12, 15, 8);
+    assert_eq!(trial.number(Call::Link(five, 1, 8)), 9, "a page out of reach names it");
+    trial.put_stored_word(5, 15, 9);
+    trial.accept(Call::Link(five, 1, 9));
+}
+
+/// Rule 14 on each of its grounds.
+#[test]
+fn a_stored_page_that_may_not_come_in() {
+    let grounds: [&[(usize, u32)]; 7] = [
+        &[(0, SWIZZLE_BIT)],
+        &[(15, 16)],
+        &[(2, 9), (3, 9)],
+        &[(0, 5)],
+        &[(0, 7)],
+        &[(0, 8)],
+        &[(0, u32::MAX)],
+    ];
+    for words in grounds {
+        let (mut trial, [root, ..]) = two_children();
+        trial.accept(Call::Link(root, 4, 8));
+        for (slot, word) in words {
+            trial.put_stored_word(7, *slot, *word);
+        }
+        assert_eq!(trial.number(Call::Fix(root, 3)), 14, "{words:?}");
+    }
+}
+
+/// Rule 14 comes before the sweep: the page that names the same one is still resident.
+#[test]
+fn a_coming_victim_still_names_its_pages() {
+    let mut trial = Trial::open(2, 8, &[(0, 0, 1), (1, 0, 3), (0, 1, 2)]);
+    let root = trial.root();
+    let one = trial.fix(root, 0);
+    trial.accept(Call::Unfix(one));
+    trial.put_stored_word(2, 9, 3);
+    assert_eq!(trial.number(Call::Fix(root, 1)), 14);
+    trial.accept(Call::Evict(1));
+    assert_eq!(trial.number(Call::Fix(root, 1)), 0);
+}
