@@ -17,7 +17,8 @@ use Rattle.machine.specs.Machine.{State, state, cleaned, loadedRecord, recordAt
 use Rattle.machine.specs.Moves.{imageTo, writtenOutBy, writtenOut, writtenOutTo, cleanedTo, settled, vacate, evicted, loaded}
 use Rattle.machine.specs.MoveLaws.{image-length, writtenOutBy-ext, writtenOutTo-zero, writtenOutTo-suc, cleanedTo-zero, cleanedTo-suc, cleanedTo-above}
 use Rattle.machine.specs.Ready.{Sized, Ready}
-use Rattle.moves.specs.WriteOut.{pageBy, Table, Named, Writable}
+use Rattle.residents.specs.Table.{pageBy, Table}
+use Rattle.moves.specs.WriteOut.{Named, Writable}
 
 -- ---- a page's bytes lent as a part of the frames, and the store's part that comes back as an image
 
@@ -47,7 +48,7 @@ written-dirty page r fs st ts f d e = pick-yes _ d e
 -- the pages by the table are those by the records
 pub written-by-table : (rs : List FrameRecord) (t : List ℕ) (r : FrameRecord) (fs st : List ℕ) (f : ℕ) → Table rs t → (r .dirty ≡ true → Named fs f)
     → writtenOutBy (pageBy t) r fs st f ≡ writtenOutBy (pageIn rs) r fs st f
-written-by-table rs t r fs st f h n = writtenOutBy-ext (pageBy t) (pageIn rs) r fs st f n (h .entry)
+written-by-table rs t r fs st f h n = writtenOutBy-ext (pageBy t) (pageIn rs) r fs st f n (h .right)
 
 pub writable : (s : State) (f : ℕ) → Ready s → f < s .pool .count → Writable (recordAt (s .pool .records) f) (s .frames) (s .store) f
 writable s f h l =

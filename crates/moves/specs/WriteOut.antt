@@ -1,21 +1,12 @@
--- What writing out asks of frames, store and records, and a table of which page each frame holds.
+-- What writing out asks of frames, store and records.
 use Prim.Native.Nat.{ℕ, _+_, _*_, _<_, _≤_}
 use mathlib.Core.Bool.{true}
 use mathlib.Core.List.{List}
 use mathlib.Core.Path.{_≡_}
-use lib.ListN.{length, getD}
+use lib.ListN.{length}
 use Rattle.page.specs.Figures.{pageSize, slotCount, mostFrames, swizzleBit}
 use Rattle.page.specs.Page.{slot}
 use Rattle.machine.specs.declared.FrameRecord.{FrameRecord}
-use Rattle.machine.specs.Machine.{pageIn}
-
--- the page of each frame, by a table
-abbrev pub pageBy : List ℕ → ℕ → ℕ
-pageBy t f = getD t f 0
-
--- the table gives the page of each of 64 frames
-pub record Table (rs : List FrameRecord) (t : List ℕ) : Type 0 where
-  pub entry : (f : ℕ) → f < mostFrames → pageBy t f ≡ pageIn rs f
 
 -- every swizzled word of frame f names one of 64 frames
 abbrev pub Named : List ℕ → ℕ → Type 0

@@ -8,21 +8,8 @@ ghost use Rattle.page.specs.Figures.{pageSize, slotCount};
 ghost use Rattle.page.specs.Word.{isNumber};
 ghost use Rattle.machine.specs.Tests.{pick};
 ghost use Rattle.machine.specs.Moves.{imageTo};
-ghost use Rattle.moves.specs.WriteOut.{Table, pageBy, Named};
-
-// The page that each frame holds.
-pub fn page_table(records: [FrameRecord; 64]) -> [u16; 64]
-    ensures { λ r. ⌜ Table records r ⌝ }
-{
-    let mut table: [u16; 64] = [0; 64];
-    let mut f = 0;
-    while f < FrameIndex::MOST {
-        let record = records[f];
-        table[f] = record.page.0;
-        f += 1;
-    }
-    table
-}
+ghost use Rattle.residents.specs.Table.{Table, pageBy};
+ghost use Rattle.moves.specs.WriteOut.{Named};
 
 // The page number that a word stands for, where `held` is what the frame that it may name holds.
 fn plain_word(w: u32, held: PageNumber) -> u32
@@ -35,7 +22,7 @@ fn plain_word(w: u32, held: PageNumber) -> u32
 }
 
 // Makes `dst` the image of the page `src`.
-pub fn put_image(dst: &mut [u8], src: &[u8], table: &[u16; 64])
+pub fn put_image(dst: &mut [u8], src: &[u8], table: &[u16; FrameIndex::MOST])
     requires { ⌜ (length (now dst) ≡ pageSize) × (length (now src) ≡ pageSize) × Named (now src) 0 ⌝ }
     ensures { λ _. ⌜ now (dst .exit) ≡ imageTo (pageBy (now (table .entry))) (now (src .entry)) slotCount ⌝ }
 {

@@ -89,7 +89,7 @@ pub fn settle_pages(pool: Pool, frames: &[u8], store: &mut [u8]) -> Pool
     ensures { λ r. ⌜ state r (now (frames .entry)) (now (store .exit)) ≡ settled (state pool (now (frames .entry)) (now (store .entry))) ⌝ }
 {
     let records = pool.records;
-    let table = image::page_table(records);
+    let table = residents::page_table(records);
     let count = pool.count as usize;
     let mut next = pool;
     let mut f = 0;

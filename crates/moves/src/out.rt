@@ -8,12 +8,13 @@ ghost use Rattle.page.specs.Figures.{slotCount};
 ghost use Rattle.page.specs.Page.{pageOf, putPage};
 ghost use Rattle.machine.specs.Machine.{pageIn};
 ghost use Rattle.machine.specs.Moves.{imageTo, writtenOutBy};
-ghost use Rattle.moves.specs.WriteOut.{pageBy, Named, Placed, Writable};
+ghost use Rattle.residents.specs.Table.{pageBy};
+ghost use Rattle.moves.specs.WriteOut.{Named, Placed, Writable};
 
 // Writes the image of the page in a frame to its place in the store.
 fn store_image(
     page: PageNumber,
-    table: &[u16; 64],
+    table: &[u16; FrameIndex::MOST],
     frames: &[u8],
     store: &mut [u8],
     frame: FrameIndex,
@@ -33,7 +34,7 @@ fn store_image(
 // Writes the image of the page in a frame to the store, if its record is dirty. The table gives each frame's page.
 pub fn write_out_by_table(
     rec: FrameRecord,
-    table: &[u16; 64],
+    table: &[u16; FrameIndex::MOST],
     frames: &[u8],
     store: &mut [u8],
     frame: FrameIndex,
@@ -64,7 +65,7 @@ pub fn write_out(
     if !dirty {
         return;
     }
-    let table = image::page_table(records);
+    let table = residents::page_table(records);
     let page = rec.page;
     store_image(page, &table, frames, store, frame);
 }

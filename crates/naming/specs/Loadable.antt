@@ -19,7 +19,8 @@ use Rattle.machine.specs.Ready.{Kept}
 use Rattle.soundness.specs.Seen.{hasWord, fresh, told, Adds, Marked}
 use Rattle.soundness.specs.SeenLaws.{Fresh, fresh-zero, fresh-new, fresh-is, fresh-ext, not-among, none-among, no-word, tells-none}
 use Rattle.soundness.specs.Pages.{pageWords}
-use Rattle.naming.specs.Table.{Table, inTable, inFrames}
+use Rattle.residents.specs.Table.{Table}
+use Rattle.naming.specs.Table.{inTable, inFrames}
 use Rattle.naming.specs.Resident.{by-table}
 
 module _ (s : State) (q : ℕ) where

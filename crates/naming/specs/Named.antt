@@ -20,7 +20,8 @@ use Rattle.machine.specs.Ready.{Kept}
 use Rattle.soundness.specs.Seen.{among}
 use Rattle.soundness.specs.SeenLaws.{is-among, among-is}
 use Rattle.soundness.specs.Pages.{pageWords}
-use Rattle.naming.specs.Table.{Table, inTable, inFrames, inStore}
+use Rattle.residents.specs.Table.{Table}
+use Rattle.naming.specs.Table.{inTable, inFrames, inStore}
 use Rattle.naming.specs.Resident.{Names, names-of, of-names, table-in, not-in-table, by-table}
 
 module _ (s : State) where

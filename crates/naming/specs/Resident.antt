@@ -24,7 +24,8 @@ use Rattle.machine.specs.PlainLaws.{plain-low, plain-high, reading, low, high}
 use Rattle.soundness.specs.Seen.{among}
 use Rattle.soundness.specs.SeenLaws.{is-among, among-is}
 use Rattle.soundness.specs.Pages.{pageWords}
-use Rattle.naming.specs.Table.{pageBy, Table, inTable, holdsPage, inFrames, Small}
+use Rattle.residents.specs.Table.{pageBy, Table}
+use Rattle.naming.specs.Table.{inTable, holdsPage, inFrames, Small}
 
 pub slot-word : (b : List ℕ) (p k : ℕ) → slot b p k ≡ pageWords b p k
 unfolding slot

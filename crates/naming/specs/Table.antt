@@ -1,24 +1,13 @@
--- A table of the page in each frame, 0 for an empty one, and what is asked of it.
+-- What is asked of the table of the page in each frame.
 use Prim.Native.Nat.{ℕ, _<_}
-use mathlib.Core.Path.{_≡_}
 use mathlib.Core.Bool.{Bool, not}
 use mathlib.Core.List.{List}
 use lib.Dec.{eqb}
-use lib.ListN.{length, getD}
 use Rattle.page.specs.Figures.{slotCount, mostFrames, mostPages}
-use Rattle.machine.specs.declared.FrameRecord.{FrameRecord}
-use Rattle.machine.specs.Machine.{pageIn}
 use Rattle.machine.specs.Tests.{_and_, _or_, some}
+use Rattle.residents.specs.Table.{pageBy}
 use Rattle.soundness.specs.Seen.{among}
 use Rattle.soundness.specs.Pages.{pageWords}
-
-abbrev pub pageBy : List ℕ → ℕ → ℕ
-pageBy table g = getD table g 0
-
--- the table has the page of each record
-pub record Table (rs : List FrameRecord) (table : List ℕ) : Type 0 where
-  pub size : length table ≡ mostFrames
-  pub right : (g : ℕ) → g < mostFrames → pageBy table g ≡ pageIn rs g
 
 -- a frame has page q
 unfoldable pub inTable : List ℕ → ℕ → Bool

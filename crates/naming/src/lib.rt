@@ -18,7 +18,7 @@ pub fn is_named(pool: Pool, frames: &[u8], store: &[u8], page: PageNumber) -> bo
     ensures { λ r. ⌜ r ≡ named (state pool (now (frames .entry)) (now (store .entry))) (page .0) ⌝ }
 {
     let records = pool.records;
-    let table = table::page_table(records);
+    let table = residents::page_table(records);
     if table::is_resident(&table, page) {
         return true;
     }
@@ -39,7 +39,7 @@ pub fn is_loadable(pool: Pool, frames: &[u8], store: &[u8], page: PageNumber) ->
         return true;
     }
     let records = pool.records;
-    let table = table::page_table(records);
+    let table = residents::page_table(records);
     let mut seen = [false; PageNumber::MOST];
     mark::mark_residents(&table, &mut seen);
     mark::mark_frames(frames, &table, pool.count as usize, &mut seen);

@@ -1,25 +1,10 @@
-// A table of the page in each frame, 0 for an empty one.
-use machine::FrameRecord;
+// What is asked of the table of pages: is a page in a frame, and does a frame hold one.
 use page::FrameIndex;
 use page::PageNumber;
 ghost use mathlib.Core.Path.{_≡_};
 ghost use Prim.Native.Nat.{_<_};
 ghost use Rattle.page.specs.Figures.{mostFrames};
-ghost use Rattle.naming.specs.Table.{Table, inTable, holdsPage};
-
-// The page of each record.
-pub fn page_table(records: [FrameRecord; FrameIndex::MOST]) -> [u16; FrameIndex::MOST]
-    ensures { λ r. ⌜ Table records r ⌝ }
-{
-    let mut table: [u16; FrameIndex::MOST] = [0; FrameIndex::MOST];
-    let mut g: usize = 0;
-    while g < FrameIndex::MOST {
-        let held = records[g];
-        table[g] = held.page.0;
-        g += 1;
-    }
-    table
-}
+ghost use Rattle.naming.specs.Table.{inTable, holdsPage};
 
 // Is the page in a frame. All entries are looked at, so that they are compared side by side.
 pub fn is_resident(table: &[u16; FrameIndex::MOST], page: PageNumber) -> bool

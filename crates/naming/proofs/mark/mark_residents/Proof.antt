@@ -6,7 +6,8 @@ use native.Mathlib.Omega.{arith}
 use Rattle.page.specs.Figures.{mostFrames}
 use Rattle.soundness.specs.Seen.{among, Adds}
 use Rattle.soundness.specs.SeenLaws.{among-zero, adds-start, adds-set}
-use Rattle.naming.specs.Table.{pageBy, inTable}
+use Rattle.residents.specs.Table.{pageBy}
+use Rattle.naming.specs.Table.{inTable}
 use Rattle.naming.proofs.mark.mark_residents.Statement.{statement}
 use Rattle.naming.proofs.mark.mark_residents.Tie as tie
 

@@ -7,7 +7,8 @@ use native.Mathlib.Omega.{arith}
 use Rattle.page.specs.Figures.{mostFrames}
 use Rattle.soundness.specs.Seen.{among}
 use Rattle.soundness.specs.SeenLaws.{among-zero, among-hit, among-none}
-use Rattle.naming.specs.Table.{pageBy, inTable}
+use Rattle.residents.specs.Table.{pageBy}
+use Rattle.naming.specs.Table.{inTable}
 use Rattle.naming.proofs.table.is_resident.Statement.{statement}
 use Rattle.naming.proofs.table.is_resident.Tie as tie
 

@@ -1,4 +1,4 @@
--- `naming::table::page_table` meets its contract: the entries of the frames passed are right. Assumes nothing.
+-- `residents::page_table` meets its contract: the entries of the frames passed are right. Assumes nothing.
 use borrow.Author.Needs.{needs}
 use Prim.Native.Nat.{ℕ, _≤_, _<_, _-_, _+_}
 use mathlib.Core.Path.{_≡_, refl, _∙_}
@@ -10,9 +10,9 @@ use lib.Seq.{getD-set-same, getD-set-other}
 use Rattle.page.specs.Figures.{mostFrames}
 use Rattle.machine.specs.declared.FrameRecord.{FrameRecord}
 use Rattle.machine.specs.Machine.{pageIn}
-use Rattle.naming.specs.Table.{pageBy}
-use Rattle.naming.proofs.table.page_table.Statement.{statement}
-use Rattle.naming.proofs.table.page_table.Tie as tie
+use Rattle.residents.specs.Table.{pageBy}
+use Rattle.residents.proofs.page_table.Statement.{statement}
+use Rattle.residents.proofs.page_table.Tie as tie
 
 abbrev Inv-loop : tie.InvT-loop
 Inv-loop records table₀ g₀ table g = (g ≤ mostFrames) × (length table ≡ mostFrames) × ((f : ℕ) → f < g → pageBy table f ≡ pageIn records f)
@@ -43,8 +43,8 @@ mul-table c = search needs
 array-write-table : tie.Need-array-write-table Inv-loop μ-loop
 array-write-table c = search needs
 
-add-g : tie.Need-add-g Inv-loop μ-loop
-add-g c = search needs
+add-f : tie.Need-add-f Inv-loop μ-loop
+add-f c = search needs
 
 loop-less : tie.Need-loop-less Inv-loop μ-loop
 loop-less c = search needs
@@ -52,7 +52,7 @@ loop-less c = search needs
 loop-again : tie.Need-loop-again Inv-loop μ-loop
 loop-again c =
     let l = c .before .before .loop in
-    (omega arith, simp length-set (l .inv .1), step (c .before .before .before .args .t1) (l .table) (l .g) (omega arith) (l .inv .2))
+    (omega arith, simp length-set (l .inv .1), step (c .before .before .before .args .t1) (l .table) (l .f) (omega arith) (l .inv .2))
 
 returns : tie.Need-returns Inv-loop μ-loop
 returns c = record { size = c .before .loop .inv .1; right = λ f l. c .before .loop .inv .2 f (omega arith) }
@@ -68,7 +68,7 @@ page-table-spec =
     array-copy-out-held
     mul-table
     array-write-table
-    add-g
+    add-f
     loop-less
     loop-again
     returns)
