@@ -10,15 +10,15 @@ ghost use mathlib.Core.Path.{_≡_};
 ghost use Prim.Native.Nat.{_+_, _*_, _≤_, _<_};
 ghost use lib.ListN.{length};
 ghost use Rattle.page.specs.Figures.{pageSize, slotCount, recordCount};
-ghost use Rattle.page.specs.Page.{putSlot};
-ghost use Rattle.machine.specs.Machine.{state, recordAt, withRecord, dirtied};
+ghost use Rattle.machine.specs.Machine.{state};
 ghost use Rattle.machine.specs.Answers.{out, doneAnswer};
 ghost use Rattle.machine.specs.Calls.{writeCall, linkCall, unlinkCall};
+ghost use Rattle.changes.specs.Changed.{madeDirty, SlotPut};
 
 // The records with the page in a frame marked dirty.
 fn mark_dirty(pool: Pool, frame: FrameIndex) -> Pool
     requires { ⌜ frame .0 < recordCount ⌝ }
-    ensures { λ r. ⌜ r ≡ withRecord pool (frame .0) (dirtied (recordAt (pool .records) (frame .0))) ⌝ }
+    ensures { λ r. ⌜ r ≡ madeDirty pool (frame .0) ⌝ }
 {
     let f = frame.0 as usize;
     let mut rec = pool.records[f];
@@ -60,7 +60,7 @@ pub fn write(
 // Puts a word into a slot of a frame, and gives the records with its page marked dirty.
 fn put_in_slot(pool: Pool, frames: &mut [u8], frame: FrameIndex, slot: usize, w: u32) -> Pool
     requires { ⌜ (frame .0 < recordCount) × (pageSize * frame .0 + pageSize ≤ length (now frames)) × (slot < slotCount) ⌝ }
-    ensures { λ r. ⌜ (r ≡ withRecord pool (frame .0) (dirtied (recordAt (pool .records) (frame .0)))) × (now (frames .exit) ≡ putSlot (now (frames .entry)) (frame .0) slot w) ⌝ }
+    ensures { λ r. ⌜ SlotPut pool (now (frames .entry)) (frame .0) slot w r (now (frames .exit)) ⌝ }
 {
     let f = frame.0 as usize;
     page::word::put_word(frames, PageNumber::SIZE * f + page::word::SIZE * slot, w);

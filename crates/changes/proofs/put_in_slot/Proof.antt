@@ -27,7 +27,7 @@ same-length c = search needs
 
 returns : tie.Need-returns
 unfolding putSlot
-returns c = (c .mark-dirty .ensures, c .before .before .before .put-word .ensures)
+returns c = record { dirty = c .mark-dirty .ensures; word = c .before .before .before .put-word .ensures }
 
 pub put-in-slot-spec : {M : Type 1} → statement M
 put-in-slot-spec =

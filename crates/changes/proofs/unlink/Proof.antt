@@ -1,12 +1,9 @@
 -- `changes::unlink` meets its contract. Assumes nothing.
-use mathlib.Core.Path.{sym, _∙_}
-use mathlib.Core.List.{[], _∷_}
 use native.Mathlib.Omega.{arith}
 use Rattle.machine.specs.Machine.{State, state}
-use Rattle.machine.specs.Rules.{wordOf, rule7, rule10}
 use Rattle.machine.specs.Calls.{unlinkCall}
-use Rattle.machine.specs.RuleLaws.{SlotKept, slot-parts, done-no, done-yes}
-use Rattle.changes.specs.Changed.{slot-changed}
+use Rattle.machine.specs.RuleLaws.{SlotKept, done-no}
+use Rattle.changes.specs.Changed.{unlinkable, unlink-done}
 use borrow.Author.Needs.{needs}
 use Rattle.changes.proofs.unlink.Statement.{statement}
 use Rattle.changes.proofs.unlink.Tie as tie
@@ -16,10 +13,7 @@ given c = let a = c .args in state (a .pool) (a .frames .now) (a .store .now)
 
 -- past the refusals
 kept : (c : tie.Else1) → SlotKept (given (c .before .before .before .before .before)) (c .before .before .before .before .before .args .handle) (c .before .before .before .before .before .args .slot)
-kept c =
-    let a = c .before .before .before .before .before .args in
-    let s = given (c .before .before .before .before .before) in
-    slot-parts s (a .handle) (a .slot) (rule7 (wordOf s (a .handle) (a .slot)) ∷ rule10 (wordOf s (a .handle) (a .slot)) ∷ []) (sym (c .before .unlink-refusal .ensures) ∙ c .if1 .left) .0
+kept c = let a = c .before .before .before .before .before .args in unlinkable (given (c .before .before .before .before .before)) (a .handle) (a .slot) (c .before .unlink-refusal .ensures) (c .if1 .left)
 
 unlink-refusal-requires : tie.Need-unlink-refusal-requires
 unlink-refusal-requires c κs = search needs
@@ -38,10 +32,9 @@ same-length-2 : tie.Need-same-length-2
 same-length-2 c = search needs
 
 returns-2 : tie.Need-returns-2
-unfolding unlinkCall
 returns-2 c =
     let a = c .before .before .before .before .before .before .before .before .before .args in
-    done-yes _ _ (c .before .before .before .before .before .unlink-refusal .ensures) (c .before .before .before .before .if1 .left) (slot-changed (given (c .before .before .before .before .before .before .before .before .before)) (a .handle .frame .0) (a .slot) 0 (c .before .before .put-in-slot .ensures .0) (c .before .before .put-in-slot .ensures .1))
+    unlink-done (given (c .before .before .before .before .before .before .before .before .before)) (a .handle) (a .slot) (c .before .before .before .before .before .unlink-refusal .ensures) (c .before .before .before .before .if1 .left) (c .before .before .put-in-slot .ensures)
 
 pub unlink-spec : {M : Type 1} → statement M
 unlink-spec =

@@ -1,11 +1,10 @@
 -- `changes::write` meets its contract: refused, no bytes, bytes put back into the middle of the frames. Assumes nothing.
-use mathlib.Core.Path.{sym, _∙_}
 use native.Mathlib.Omega.{arith}
 use lib.ListN.{length}
 use Rattle.machine.specs.Machine.{State, state}
 use Rattle.machine.specs.Calls.{writeCall}
-use Rattle.machine.specs.RuleLaws.{done-no, done-yes}
-use Rattle.changes.specs.Changed.{Writable, writable, put-back, nothing-written, bytes-written}
+use Rattle.machine.specs.RuleLaws.{done-no}
+use Rattle.changes.specs.Changed.{Writable, writable, put-back, write-nothing, write-bytes}
 use borrow.Author.Needs.{needs}
 use Rattle.changes.proofs.write.Statement.{statement}
 use Rattle.changes.proofs.write.Tie as tie
@@ -15,7 +14,7 @@ given c = let a = c .args in state (a .pool) (a .frames .now) (a .store .now)
 
 -- past the refusals
 ok : (c : tie.Else1) → let a = c .before .before .before .before .before .before .args in Writable (given (c .before .before .before .before .before .before)) (a .handle) (a .offset) (length (a .bytes .now))
-ok c = let a = c .before .before .before .before .before .before .args in writable (given (c .before .before .before .before .before .before)) (a .handle) (a .offset) (length (a .bytes .now)) (sym (c .before .write-refusal .ensures) ∙ c .if1 .left)
+ok c = let a = c .before .before .before .before .before .before .args in writable (given (c .before .before .before .before .before .before)) (a .handle) (a .offset) (length (a .bytes .now)) (c .before .write-refusal .ensures) (c .if1 .left)
 
 write-refusal-requires : tie.Need-write-refusal-requires
 write-refusal-requires c κs = search needs
@@ -31,10 +30,7 @@ same-length-2 : tie.Need-same-length-2
 same-length-2 c = search needs
 
 returns-2 : tie.Need-returns-2
-unfolding writeCall
-returns-2 c =
-    let a = c .before .before .before .before .before .before .before .args in
-    done-yes _ _ (c .before .before .write-refusal .ensures) (c .before .if1 .left) (nothing-written (given (c .before .before .before .before .before .before .before)) (a .handle .frame .0) (a .offset) (a .bytes .now) (c .if2 .taken))
+returns-2 c = let a = c .before .before .before .before .before .before .before .args in write-nothing (given (c .before .before .before .before .before .before .before)) (a .handle) (a .offset) (a .bytes .now) (c .before .before .write-refusal .ensures) (c .before .if1 .left) (c .if2 .taken)
 
 cast-f : tie.Need-cast-f
 cast-f c = search needs
@@ -70,11 +66,10 @@ same-length-3 : tie.Need-same-length-3
 same-length-3 c = search needs
 
 returns-3 : tie.Need-returns-3
-unfolding writeCall
 returns-3 c =
     let a = c .before .before .before .before .before .before .before .before .before .before .before .before .before .args in
-    done-yes _ _ (c .before .before .before .before .before .before .before .before .write-refusal .ensures) (c .before .before .before .before .before .before .before .if1 .left)
-    (bytes-written (given (c .before .before .before .before .before .before .before .before .before .before .before .before .before)) (a .handle .frame .0) (a .offset) (a .bytes .now) (c .before .before .before .before .before .before .if2 .left) (c .mark-dirty .ensures) (put-back _ (a .handle .frame .0) (a .offset) _ (a .bytes .now) (c .before .before .before .copy-into .ensures)))
+    write-bytes (given (c .before .before .before .before .before .before .before .before .before .before .before .before .before)) (a .handle) (a .offset) (a .bytes .now) (c .before .before .before .before .before .before .before .before .write-refusal .ensures) (c .before .before .before .before .before .before .before .if1 .left) (c .before .before .before .before .before .before .if2 .left) (c .mark-dirty .ensures)
+    (put-back (a .frames .now) (a .handle .frame .0) (a .offset) _ (a .bytes .now) (c .before .before .before .copy-into .ensures))
 
 pub write-spec : {M : Type 1} → statement M
 write-spec =

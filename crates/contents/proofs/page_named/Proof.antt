@@ -20,8 +20,8 @@ high c = ltb-false _ swizzleBit (sym (c .before .is-number .ensures) ∙ c .if1 
 is-number-requires : tie.Need-is-number-requires
 is-number-requires c κs = search needs
 
-cast-t7 : tie.Need-cast-t7
-cast-t7 c = let l = c .before .before .pre .number (low c) in omega arith
+cast-number : tie.Need-cast-number
+cast-number c = let l = c .before .before .pre .number (low c) in omega arith
 
 returns : tie.Need-returns
 unfolding plain
@@ -45,7 +45,7 @@ page-named-spec =
     tie.close
     (tie.spec
     is-number-requires
-    cast-t7
+    cast-number
     returns
     frame-in-requires
     mul-rec
