@@ -33,6 +33,17 @@ fn open_refuses_lengths_out_of_range() {
 }
 
 #[test]
+fn open_takes_whole_pages_alone() {
+    for (frames, store) in [(-1, 0), (1, 0), (0, -1), (0, 1)] {
+        let mut trial = Trial::closed(4, 8, &[(0, 0, 8)]);
+        assert_eq!(trial.number(Call::Open), 16);
+        trial.state.frames.resize((4 * PAGE_SIZE).strict_add_signed(frames), 0);
+        trial.state.store.resize((8 * PAGE_SIZE).strict_add_signed(store), 0);
+        assert_eq!(trial.number(Call::Open), 1);
+    }
+}
+
+#[test]
 fn a_refused_open_gives_zero_records() {
     let Trial { mut state } = Trial::closed(2, 4, &[(0, 0, 2), (3, 5, 2)]);
     state.frames.fill(7);
@@ -71,6 +82,33 @@ fn counts_out_of_range_are_lengths_refused() {
         trial.record(0).used = true;
         (trial.state.pool.count, trial.state.pool.pages) = (frames as u16, pages as u16);
         assert_eq!(trial.number(Call::Root), 1, "F {frames} N {pages}");
+    }
+}
+
+/// Calls that break two rules or more are refused by the first.
+#[test]
+fn the_first_broken_rule_answers() {
+    let (mut trial, [root, five, _]) = two_children();
+    let stale = Handle { frame: 3, page: 7 };
+    for (call, number) in [
+        (Call::Fix(stale, 16), 3),
+        (Call::Word(stale, 16), 3),
+        (Call::Write(stale, 193, vec![]), 3),
+        (Call::Link(stale, 16, 0), 3),
+        (Call::Unlink(stale, 16), 3),
+        (Call::Link(root, 16, 0), 4),
+        (Call::Link(root, 1, 16), 6),
+        (Call::Link(root, 1, 6), 8),
+        (Call::Link(five, 1, 6), 9),
+        (Call::Unlink(five, 1), 7),
+        (Call::Evict(16), 6),
+        (Call::Evict(8), 11),
+    ] {
+        assert_eq!(trial.number(call.clone()), number, "{call:?}");
+    }
+    trial.state.pool.hand = 4;
+    for call in [Call::Fix(stale, 16), Call::Show(stale), Call::Peek(16), Call::Evict(16)] {
+        assert_eq!(trial.number(call.clone()), 2, "{call:?}");
     }
 }
 
@@ -265,6 +303,16 @@ fn a_stored_page_that_may_not_come_in() {
         }
         assert_eq!(trial.number(Call::Fix(root, 3)), 14, "{words:?}");
     }
+}
+
+#[test]
+fn a_page_that_may_not_come_in_is_refused_before_room_is_sought() {
+    let mut trial = Trial::open(2, 8, &[(0, 0, 1), (0, 1, 2)]);
+    let root = trial.root();
+    trial.fix(root, 0);
+    assert_eq!(trial.number(Call::Fix(root, 1)), 15);
+    trial.put_stored_word(2, 0, SWIZZLE_BIT);
+    assert_eq!(trial.number(Call::Fix(root, 1)), 14);
 }
 
 /// Rule 14 comes before the sweep: the page that names the same one is still resident.
