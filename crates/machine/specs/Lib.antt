@@ -13,6 +13,7 @@ pub mod Answers
 pub mod Rules
 pub mod Calls
 pub mod Ready
+pub mod RuleLaws
 pub mod History
 pub mod Demand3
 pub mod View

@@ -154,7 +154,7 @@ module _ (st : List ℕ) (N : ℕ) where
     pub pass-page : (next : List Bool) → Marked (pageWords st p) N table next true → Passed (p + 1) next
     pass-page next M = record {
       fine = every-step p (freshPage st N) (P .fine) (sym (M .answer ∙ by-table));
-      tells = tells-ext next _ _ (M .table refl) (λ x a b. ap (λ (t : Bool). t or among (pageWords st p) slotCount x) (P .tells .right x a b) ∙ sym (earlier-next x));
+      tells = tells-ext next _ _ (M .table refl .tells) (λ x a b. ap (λ (t : Bool). t or among (pageWords st p) slotCount x) (P .tells .right x a b) ∙ sym (earlier-next x));
     }
 
     pub fail-page : (next : List Bool) → p < N → Marked (pageWords st p) N table next false → false ≡ sound st N

@@ -34,7 +34,11 @@ pub record Tells (table : List Bool) (seen : ℕ → Bool) : Type 0 where
   pub size : length table ≡ mostPages
   pub right : (x : ℕ) → 0 < x → x < mostPages → told table x ≡ seen x
 
+-- the table after tells what the one before tells, and of the numbers of which the test holds
+pub record Adds (before after : List Bool) (t : ℕ → Bool) : Type 0 where
+  pub tells : Tells after (λ x. told before x or t x)
+
 -- after the numbers of a page: whether all were fresh, and if so, the table tells of them too
 pub record Marked (w : ℕ → ℕ) (N : ℕ) (before after : List Bool) (r : Bool) : Type 0 where
   pub answer : r ≡ every slotCount (fresh (told before) w N)
-  pub table : r ≡ true → Tells after (λ x. told before x or among w slotCount x)
+  pub table : r ≡ true → Adds before after (among w slotCount)

@@ -14,7 +14,7 @@ use lib.Seq.{getD-set-same, getD-set-other}
 use Rattle.page.specs.Figures.{slotCount, mostPages}
 use Rattle.machine.specs.Tests.{_or_, every, some}
 use Rattle.machine.specs.TestLaws.{clash, same, is-off, both, and-true, or-left, or-right, or-second, or-none, or-off, or-skip, every-zero, every-step, every-false, some-zero, some-suc, true-some, some-true, some-false}
-use Rattle.soundness.specs.Seen.{among, hasWord, fresh, told, Tells, Marked}
+use Rattle.soundness.specs.Seen.{among, hasWord, fresh, told, Tells, Adds, Marked}
 
 -- ---- how `some` goes on by one number
 
@@ -122,17 +122,33 @@ tells-set table s x h T t a b = record {
   ];
 }
 
+-- ---- numbers added to a table
+
+pub adds-start : (before : List Bool) (t : ℕ → Bool) → length before ≡ mostPages → ((x : ℕ) → t x ≡ false) → Adds before before t
+adds-start before t e h = record { tells = record { size = e; right = λ x p l. sym (or-same (told before x) (h x)) } }
+
+pub adds-ext : (before after : List Bool) (s t : ℕ → Bool) → Adds before after s → ((x : ℕ) → 0 < x → x < mostPages → s x ≡ t x) → Adds before after t
+adds-ext before after s t T h = record { tells = tells-ext after _ _ (T .tells) (λ x p l. ap (λ (b : Bool). told before x or b) (h x p l)) }
+
+-- number k is v
+module _ (before after : List Bool) (w : ℕ → ℕ) (k v : ℕ) (e : w k ≡ v) (T : Adds before after (among w k)) where
+  pub adds-skip : (next : List Bool) → ((x : ℕ) → 0 < x → x < mostPages → v ≢ x) → next ≡ after → Adds before next (among w (k + 1))
+  adds-skip next h q = rw q (adds-ext before after _ _ T (λ x p l. sym (among-none w k x (λ z. h x p l (sym e ∙ z)))))
+
+  pub adds-set : (next : List Bool) → v < mostPages → next ≡ set after v true → Adds before next (among w (k + 1))
+  adds-set next l q = record { tells = rw q (tells-set after _ v l (T .tells) _ (or-right (told before v) (among-hit w k v e)) (λ y n. ap (λ (b : Bool). told before y or b) (sym (among-none w k y (λ z. n (sym e ∙ z)))))) }
+
 -- ---- the first k numbers of a page are fresh, and the table tells of them too
 
 pub record Going (w : ℕ → ℕ) (N : ℕ) (before after : List Bool) (k : ℕ) : Type 0 where
   pub fine : every k (fresh (told before) w N) ≡ true
-  pub table : Tells after (λ x. told before x or among w k x)
+  pub table : Adds before after (among w k)
 
 module _ (w : ℕ → ℕ) (N : ℕ) (before : List Bool) where
   pub going-start : length before ≡ mostPages → Going w N before before 0
   going-start e = record {
     fine = every-zero (fresh (told before) w N);
-    table = record { size = e; right = λ x p l. sym (or-same (told before x) (among-zero w x)) };
+    table = adds-start before (among w 0) e (among-zero w);
   }
 
   pub going-done : (after : List Bool) → Going w N before after slotCount → Marked w N before after true
@@ -146,7 +162,7 @@ module _ (w : ℕ → ℕ) (N : ℕ) (before : List Bool) where
     pub going-zero : (next : List Bool) → v ≡ 0 → next ≡ after → Going w N before next (k + 1)
     going-zero next z q = record {
       fine = every-step k (fresh (told before) w N) (G .fine) (fresh-zero (told before) w N k (e ∙ z));
-      table = rw q (tells-ext after _ _ (G .table) (λ x p l. ap (λ (b : Bool). told before x or b) (sym (among-none w k x (omega arith)))));
+      table = adds-skip before after w k v e (G .table) next (λ x p l. omega arith) q;
     }
 
     module _ (nz : v ≢ 0) (in-page : k < slotCount) where
@@ -155,7 +171,7 @@ module _ (w : ℕ → ℕ) (N : ℕ) (before : List Bool) where
 
       module _ (small : v < N) (few : N ≤ mostPages) where
         known : told after v ≡ (told before v or among w k v)
-        known = G .table .right v (omega arith) (omega arith)
+        known = G .table .tells .right v (omega arith) (omega arith)
 
         pub stop-seen : (last : List Bool) → told after v ≡ true → Marked w N before last false
         stop-seen last u = stop last k in-page (not-fresh (told before) w N k (rw e nz) (λ h.
@@ -166,5 +182,5 @@ module _ (w : ℕ → ℕ) (N : ℕ) (before : List Bool) where
             let o = or-none (told before v) (among w k v) (sym known ∙ u) in
             record {
               fine = every-step k (fresh (told before) w N) (G .fine) (fresh-new (told before) w N k (record { below = rw e small; unseen = rw e (o .0); first = rw e (o .1) }));
-              table = rw q (tells-set after _ v (omega arith) (G .table) _ (or-right (told before v) (among-hit w k v e)) (λ y n. ap (λ (b : Bool). told before y or b) (sym (among-none w k y (λ z. n (sym e ∙ z))))));
+              table = adds-set before after w k v e (G .table) next (omega arith) q;
             }

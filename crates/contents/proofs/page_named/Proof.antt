@@ -1,0 +1,53 @@
+-- `contents::page_named` meets its contract: a page number, or the page in the frame that a swizzled word names. Assumes nothing.
+use Prim.Native.Nat.{_<_, _≤_}
+use mathlib.Core.Path.{refl, sym, ap, _∙_}
+use native.Mathlib.Omega.{arith}
+use borrow.Author.Tests.{ltb-true, ltb-false}
+use Rattle.page.specs.Figures.{swizzleBit}
+use Rattle.machine.specs.TestLaws.{pick-yes, pick-no}
+use Rattle.machine.specs.Machine.{pageNumber}
+use Rattle.machine.specs.Moves.{plain}
+use borrow.Author.Needs.{needs}
+use Rattle.contents.proofs.page_named.Statement.{statement}
+use Rattle.contents.proofs.page_named.Tie as tie
+
+low : (c : tie.Then1) → c .before .before .args .w < swizzleBit
+low c = ltb-true _ swizzleBit (sym (c .before .is-number .ensures) ∙ c .if1 .taken)
+
+high : (c : tie.Else1) → swizzleBit ≤ c .before .before .args .w
+high c = ltb-false _ swizzleBit (sym (c .before .is-number .ensures) ∙ c .if1 .left)
+
+is-number-requires : tie.Need-is-number-requires
+is-number-requires c κs = search needs
+
+cast-t7 : tie.Need-cast-t7
+cast-t7 c = let l = c .before .before .pre .number (low c) in omega arith
+
+returns : tie.Need-returns
+unfolding plain
+returns c = ap pageNumber (pick-yes _ (sym (c .before .is-number .ensures) ∙ c .if1 .taken) refl)
+
+frame-in-requires : tie.Need-frame-in-requires
+frame-in-requires c κs = search needs
+
+mul-rec : tie.Need-mul-rec
+mul-rec c = search needs
+
+element-copy-out-rec : tie.Need-element-copy-out-rec
+element-copy-out-rec c = let l = c .before .before .before .pre .frame (high (c .before)) in let e = c .frame-in .ensures in omega arith
+
+returns-2 : tie.Need-returns-2
+unfolding plain
+returns-2 c = rw (c .before .before .frame-in .ensures) (ap pageNumber (pick-no _ (sym (c .before .before .before .before .is-number .ensures) ∙ c .before .before .before .if1 .left) refl))
+
+pub page-named-spec : {M : Type 1} → statement M
+page-named-spec =
+    tie.close
+    (tie.spec
+    is-number-requires
+    cast-t7
+    returns
+    frame-in-requires
+    mul-rec
+    element-copy-out-rec
+    returns-2)

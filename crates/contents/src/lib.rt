@@ -1,0 +1,110 @@
+// The calls that only read: show, peek, word and find.
+mod part;
+
+use machine::FindAnswer;
+use machine::Handle;
+use machine::Place;
+use machine::Pool;
+use machine::WordAnswer;
+use page::FrameIndex;
+use page::PageNumber;
+ghost use mathlib.Core.Path.{_≡_};
+ghost use Rattle.machine.specs.Machine.{state, pageIn, pageNumber};
+ghost use Rattle.machine.specs.Moves.{plain};
+ghost use Rattle.machine.specs.Answers.{lent, handedBack, placeAnswer, wordAnswer, findAnswer};
+ghost use Rattle.machine.specs.Calls.{showCall, peekCall, wordCall, findCall};
+ghost use Rattle.contents.specs.Words.{Resolvable};
+
+// Where the payload of the handle's page lies.
+pub fn show_place(pool: Pool, frames: &[u8], store: &[u8], handle: Handle) -> Place
+    ensures { λ r. ⌜ placeAnswer r ≡ showCall (state pool (now (frames .entry)) (now (store .entry))) handle .answer ⌝ }
+{
+    let refusal = guard::handle_refusal(pool, frames, store, handle);
+    if refusal != 0 {
+        return part::refused(refusal);
+    }
+    part::in_frame(handle.frame)
+}
+
+// Where the payload of a page lies: in its frame if it is resident, otherwise in the store.
+pub fn peek_place(pool: Pool, frames: &[u8], store: &[u8], page: PageNumber) -> Place
+    ensures { λ r. ⌜ placeAnswer r ≡ peekCall (state pool (now (frames .entry)) (now (store .entry))) page .answer ⌝ }
+{
+    let refusal = guard::page_refusal(pool, frames, store, page);
+    if refusal != 0 {
+        return part::refused(refusal);
+    }
+    let f = scan::find_frame(pool, page);
+    if f < pool.count as usize {
+        return part::in_frame(FrameIndex(f as u8));
+    }
+    part::in_store(page)
+}
+
+// The payload of the handle's page.
+pub fn show<'a>(
+    pool: Pool,
+    frames: &'a [u8],
+    store: &'a [u8],
+    handle: Handle,
+    number: &mut u8,
+) -> &'a [u8]
+    ensures { λ r. ⌜ record { part = lent r; number = now (number .exit) } ≡ handedBack (lent (frames .entry)) (lent (store .entry)) (showCall (state pool (now (frames .entry)) (now (store .entry))) handle .answer) ⌝ }
+{
+    let place = show_place(pool, frames, store, handle);
+    part::part_at(place, frames, store, number)
+}
+
+// The payload of a page, of the frames if it is resident, otherwise of the store.
+pub fn peek<'a>(
+    pool: Pool,
+    frames: &'a [u8],
+    store: &'a [u8],
+    page: PageNumber,
+    number: &mut u8,
+) -> &'a [u8]
+    ensures { λ r. ⌜ record { part = lent r; number = now (number .exit) } ≡ handedBack (lent (frames .entry)) (lent (store .entry)) (peekCall (state pool (now (frames .entry)) (now (store .entry))) page .answer) ⌝ }
+{
+    let place = peek_place(pool, frames, store, page);
+    part::part_at(place, frames, store, number)
+}
+
+// The page number that a word of a resident page stands for, swizzled or not.
+fn page_named(pool: Pool, w: u32) -> PageNumber
+    requires { ⌜ Resolvable w ⌝ }
+    ensures { λ r. ⌜ r ≡ pageNumber (plain (pageIn (pool .records)) w) ⌝ }
+{
+    if page::word::is_number(w) {
+        return PageNumber(w as u16);
+    }
+    let g = page::word::frame_in(w);
+    let rec = pool.records[g];
+    rec.page
+}
+
+// The page number in a slot of the handle's page, 0 for none.
+pub fn word(pool: Pool, frames: &[u8], store: &[u8], handle: Handle, slot: usize) -> WordAnswer
+    ensures { λ r. ⌜ wordAnswer r ≡ wordCall (state pool (now (frames .entry)) (now (store .entry))) handle slot .answer ⌝ }
+{
+    let refusal = guard::slot_refusal(pool, frames, store, handle, slot);
+    if refusal != 0 {
+        return WordAnswer::Refused(refusal);
+    }
+    let w = guard::slot_word(frames, handle.frame, slot);
+    WordAnswer::Names(page_named(pool, w))
+}
+
+// The frame that holds a page.
+pub fn find(pool: Pool, frames: &[u8], store: &[u8], page: PageNumber) -> FindAnswer
+    ensures { λ r. ⌜ findAnswer r ≡ findCall (state pool (now (frames .entry)) (now (store .entry))) page .answer ⌝ }
+{
+    let refusal = guard::page_refusal(pool, frames, store, page);
+    if refusal != 0 {
+        return FindAnswer::Refused(refusal);
+    }
+    let f = scan::find_frame(pool, page);
+    if f < pool.count as usize {
+        return FindAnswer::At(FrameIndex(f as u8));
+    }
+    FindAnswer::Absent
+}

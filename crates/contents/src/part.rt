@@ -1,0 +1,62 @@
+// The place of a payload, and the part of a lent buffer there.
+use machine::Place;
+use page::FrameIndex;
+use page::PageNumber;
+ghost use mathlib.Core.Path.{_≡_};
+ghost use mathlib.Core.Bool.{true, false};
+ghost use Rattle.machine.specs.Answers.{lent, handedBack, placeAnswer};
+ghost use Rattle.contents.specs.Places.{Within, refusedPlace, payloadIn};
+
+// No place, with a refusal's number.
+pub fn refused(refusal: u8) -> Place
+    ensures { λ r. ⌜ r ≡ refusedPlace refusal ⌝ }
+{
+    Place {
+        refusal,
+        in_store: false,
+        start: 0,
+        size: 0,
+    }
+}
+
+// The place of a frame's payload.
+pub fn in_frame(frame: FrameIndex) -> Place
+    ensures { λ r. ⌜ r ≡ payloadIn false (frame .0) ⌝ }
+{
+    Place {
+        refusal: 0,
+        in_store: false,
+        start: PageNumber::SIZE * frame.0 as usize + PageNumber::PAYLOAD_START,
+        size: PageNumber::PAYLOAD_SIZE,
+    }
+}
+
+// The place of a page's payload in the store.
+pub fn in_store(page: PageNumber) -> Place
+    ensures { λ r. ⌜ r ≡ payloadIn true (page .0) ⌝ }
+{
+    Place {
+        refusal: 0,
+        in_store: true,
+        start: PageNumber::SIZE * page.0 as usize + PageNumber::PAYLOAD_START,
+        size: PageNumber::PAYLOAD_SIZE,
+    }
+}
+
+// The part of frames or store at a place, and its number for the caller; refused, the empty part at the start of the frames.
+pub fn part_at<'a>(place: Place, frames: &'a [u8], store: &'a [u8], number: &mut u8) -> &'a [u8]
+    requires { ⌜ Within place (now frames) (now store) ⌝ }
+    ensures { λ r. ⌜ record { part = lent r; number = now (number .exit) } ≡ handedBack (lent (frames .entry)) (lent (store .entry)) (placeAnswer place) ⌝ }
+{
+    let refusal = place.refusal;
+    *number = refusal;
+    if refusal != 0 {
+        return &frames[0..0];
+    }
+    let start = place.start;
+    let end = start + place.size;
+    if place.in_store {
+        return &store[start..end];
+    }
+    &frames[start..end]
+}

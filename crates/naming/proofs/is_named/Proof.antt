@@ -1,0 +1,58 @@
+-- `naming::is_named` meets its contract. Assumes nothing.
+use borrow.Author.Needs.{needs}
+use mathlib.Core.Path.{sym, _∙_}
+use native.Mathlib.Omega.{arith}
+use Rattle.naming.specs.Named.{named-resident, named-in-frames, named-in-store}
+use Rattle.naming.proofs.is_named.Statement.{statement}
+use Rattle.naming.proofs.is_named.Tie as tie
+
+page-table-requires : tie.Need-page-table-requires
+page-table-requires c κs = search needs
+
+is-resident-requires : tie.Need-is-resident-requires
+is-resident-requires c κs = search needs
+
+returns : tie.Need-returns
+returns c =
+    named-resident _ (c .before .before .before .before .before .before .before .pre .0) _ (c .before .before .before .page-table .ensures) _ (c .before .before .before .before .before .before .before .pre .1) (omega arith)
+    (sym (c .before .is-resident .ensures) ∙ c .if1 .taken)
+
+word-requires : tie.Need-word-requires
+word-requires c κs = search needs
+
+cast-in-frames : tie.Need-cast-in-frames
+cast-in-frames c = search needs
+
+in-frames-requires : tie.Need-in-frames-requires
+in-frames-requires c κs = (c .before .before .before .before .before .before .before .before .before .before .pre .0 .sized .most, c .before .before .before .before .before .before .before .before .before .before .pre .0 .sized .frames)
+
+returns-2 : tie.Need-returns-2
+returns-2 c =
+    named-in-frames _ (c .before .before .before .before .before .before .before .before .before .before .before .before .pre .0) _ (c .before .before .before .before .before .before .before .before .page-table .ensures) _ (c .before .before .before .before .before .before .before .before .before .before .before .before .pre .1) (omega arith) _ (c .before .before .before .before .word .ensures)
+    (sym (c .before .in-frames .ensures) ∙ c .if2 .taken)
+
+cast-in-store : tie.Need-cast-in-store
+cast-in-store c = search needs
+
+in-store-requires : tie.Need-in-store-requires
+in-store-requires c κs = (c .before .before .before .before .before .before .before .before .before .before .before .before .before .before .pre .0 .sized .pages, c .before .before .before .before .before .before .before .before .before .before .before .before .before .before .pre .0 .sized .store)
+
+returns-3 : tie.Need-returns-3
+returns-3 c =
+    c .in-store .ensures ∙ named-in-store _ (c .before .before .before .before .before .before .before .before .before .before .before .before .before .before .before .pre .0) _ (c .before .before .before .before .before .before .before .before .before .before .before .page-table .ensures) _ (c .before .before .before .before .before .before .before .before .before .before .before .before .before .before .before .pre .1) (omega arith) _ (c .before .before .before .before .before .before .before .word .ensures)
+    (sym (c .before .before .before .before .before .before .before .before .before .is-resident .ensures) ∙ c .before .before .before .before .before .before .before .before .if1 .left) (sym (c .before .before .before .before .in-frames .ensures) ∙ c .before .before .before .if2 .left)
+
+pub is-named-spec : {M : Type 1} → statement M
+is-named-spec =
+    tie.close
+    (tie.spec
+    page-table-requires
+    is-resident-requires
+    returns
+    word-requires
+    cast-in-frames
+    in-frames-requires
+    returns-2
+    cast-in-store
+    in-store-requires
+    returns-3)

@@ -1,0 +1,61 @@
+// A word looked for in pages, whole pages at a time; the table is asked only of a page that has it.
+use crate::table;
+use page::FrameIndex;
+use page::PageNumber;
+use page::word;
+ghost use mathlib.Core.Path.{_≡_};
+ghost use Prim.Native.Nat.{_+_, _*_, _≤_};
+ghost use lib.ListN.{length};
+ghost use Rattle.page.specs.Figures.{pageSize, slotCount, payloadStart, mostFrames, mostPages};
+ghost use Rattle.soundness.specs.Seen.{wordsFrom, among};
+ghost use Rattle.naming.specs.Table.{inFrames, inStore};
+
+// Is w one of the 16 words from byte `at` on. All of them are looked at, so that they are compared side by side.
+fn page_has(buffer: &[u8], at: usize, w: u32) -> bool
+    requires { ⌜ at + payloadStart ≤ length (now buffer) ⌝ }
+    ensures { λ r. ⌜ r ≡ among (wordsFrom (now (buffer .entry)) at) slotCount w ⌝ }
+{
+    let mut hit = false;
+    let mut k: usize = 0;
+    while k < PageNumber::SLOTS {
+        if word::word_at(buffer, at + word::SIZE * k) == w {
+            hit = true;
+        }
+        k += 1;
+    }
+    hit
+}
+
+// Is w a word in one of the first n frames that hold a page.
+pub fn in_frames(frames: &[u8], table: &[u16; FrameIndex::MOST], n: usize, w: u32) -> bool
+    requires { ⌜ (n ≤ mostFrames) × (length (now frames) ≡ pageSize * n) ⌝ }
+    ensures { λ r. ⌜ r ≡ inFrames (now (table .entry)) (now (frames .entry)) n w ⌝ }
+{
+    let mut f: usize = 0;
+    while f < n {
+        if page_has(frames, PageNumber::SIZE * f, w) {
+            if table::holds_page(table, FrameIndex(f as u8)) {
+                return true;
+            }
+        }
+        f += 1;
+    }
+    false
+}
+
+// Is w a word in one of the first n stored pages that are in no frame.
+pub fn in_store(store: &[u8], table: &[u16; FrameIndex::MOST], n: usize, w: u32) -> bool
+    requires { ⌜ (n ≤ mostPages) × (length (now store) ≡ pageSize * n) ⌝ }
+    ensures { λ r. ⌜ r ≡ inStore (now (table .entry)) (now (store .entry)) n w ⌝ }
+{
+    let mut p: usize = 0;
+    while p < n {
+        if page_has(store, PageNumber::SIZE * p, w) {
+            if !table::is_resident(table, PageNumber(p as u16)) {
+                return true;
+            }
+        }
+        p += 1;
+    }
+    false
+}

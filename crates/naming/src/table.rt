@@ -1,0 +1,49 @@
+// A table of the page in each frame, 0 for an empty one.
+use machine::FrameRecord;
+use page::FrameIndex;
+use page::PageNumber;
+ghost use mathlib.Core.Path.{_≡_};
+ghost use Prim.Native.Nat.{_<_};
+ghost use Rattle.page.specs.Figures.{mostFrames};
+ghost use Rattle.naming.specs.Table.{Table, inTable, holdsPage};
+
+// The page of each record.
+pub fn page_table(records: [FrameRecord; FrameIndex::MOST]) -> [u16; FrameIndex::MOST]
+    ensures { λ r. ⌜ Table records r ⌝ }
+{
+    let mut table: [u16; FrameIndex::MOST] = [0; FrameIndex::MOST];
+    let mut g: usize = 0;
+    while g < FrameIndex::MOST {
+        let held = records[g];
+        table[g] = held.page.0;
+        g += 1;
+    }
+    table
+}
+
+// Is the page in a frame. All entries are looked at, so that they are compared side by side.
+pub fn is_resident(table: &[u16; FrameIndex::MOST], page: PageNumber) -> bool
+    ensures { λ r. ⌜ r ≡ inTable (now (table .entry)) (page .0) ⌝ }
+{
+    let mut hit = false;
+    let mut g: usize = 0;
+    while g < FrameIndex::MOST {
+        if table[g] == page.0 {
+            hit = true;
+        }
+        g += 1;
+    }
+    hit
+}
+
+// Does the frame hold a page.
+pub fn holds_page(table: &[u16; FrameIndex::MOST], frame: FrameIndex) -> bool
+    requires { ⌜ frame .0 < mostFrames ⌝ }
+    ensures { λ r. ⌜ r ≡ holdsPage (now (table .entry)) (frame .0) ⌝ }
+{
+    let f = frame.0 as usize;
+    if f == 0 {
+        return true;
+    }
+    table[f] != 0
+}
