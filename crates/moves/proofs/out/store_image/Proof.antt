@@ -1,0 +1,70 @@
+-- `store_image` meets its contract: the part of the store that was lent comes back as the image. Assumes nothing.
+use borrow.Author.Needs.{needs}
+use Rattle.moves.specs.Steps.{part-named, image-back}
+use Rattle.moves.proofs.out.store_image.Statement.{statement}
+use Rattle.moves.proofs.out.store_image.Tie as tie
+
+cast-to : tie.Need-cast-to
+cast-to c = search needs
+
+mul-to : tie.Need-mul-to
+mul-to c = search needs
+
+cast-from : tie.Need-cast-from
+cast-from c = search needs
+
+mul-from : tie.Need-mul-from
+mul-from c = search needs
+
+add-put-image : tie.Need-add-put-image
+add-put-image c = search needs
+
+sub-put-image : tie.Need-sub-put-image
+sub-put-image c = search needs
+
+part-put-image-start : tie.Need-part-put-image-start
+part-put-image-start c = search needs
+
+part-put-image-end : tie.Need-part-put-image-end
+part-put-image-end c = search needs
+
+add-put-image-2 : tie.Need-add-put-image-2
+add-put-image-2 c = search needs
+
+sub-put-image-2 : tie.Need-sub-put-image-2
+sub-put-image-2 c = search needs
+
+part-put-image-start-2 : tie.Need-part-put-image-start-2
+part-put-image-start-2 c = search needs
+
+part-put-image-end-2 : tie.Need-part-put-image-end-2
+part-put-image-end-2 c = search needs
+
+put-image-requires : tie.Need-put-image-requires
+put-image-requires c κs = (search needs, search needs, part-named _ _ (c .before .before .before .before .before .before .pre .1))
+
+same-length : tie.Need-same-length
+same-length c = search needs
+
+returns : tie.Need-returns
+returns c = image-back _ _ _ _ _ _ (c .before .before .before .before .before .before .before .before .before .pre .0 .bytes) (c .before .before .put-image .ensures)
+
+pub store-image-spec : {M : Type 1} → statement M
+store-image-spec =
+    tie.close
+    (tie.spec
+    cast-to
+    mul-to
+    cast-from
+    mul-from
+    add-put-image
+    sub-put-image
+    part-put-image-start
+    part-put-image-end
+    add-put-image-2
+    sub-put-image-2
+    part-put-image-start-2
+    part-put-image-end-2
+    put-image-requires
+    same-length
+    returns)

@@ -1,0 +1,51 @@
+// The image of a page: its bytes with each swizzled word replaced by the number of the page in that frame.
+use machine::FrameRecord;
+use page::FrameIndex;
+use page::PageNumber;
+ghost use mathlib.Core.Path.{_≡_};
+ghost use lib.ListN.{length};
+ghost use Rattle.page.specs.Figures.{pageSize, slotCount};
+ghost use Rattle.page.specs.Word.{isNumber};
+ghost use Rattle.machine.specs.Tests.{pick};
+ghost use Rattle.machine.specs.Moves.{imageTo};
+ghost use Rattle.moves.specs.Tables.{Table, pageBy, Named};
+
+// The page that each frame holds.
+pub fn page_table(records: [FrameRecord; 64]) -> [u16; 64]
+    ensures { λ r. ⌜ Table records r ⌝ }
+{
+    let mut table: [u16; 64] = [0; 64];
+    let mut f = 0;
+    while f < FrameIndex::MOST {
+        let record = records[f];
+        table[f] = record.page.0;
+        f += 1;
+    }
+    table
+}
+
+// The page number that a word stands for, where `held` is what the frame that it may name holds.
+fn plain_word(w: u32, held: PageNumber) -> u32
+    ensures { λ r. ⌜ r ≡ pick (isNumber w) w (held .0) ⌝ }
+{
+    if page::word::is_number(w) {
+        return w;
+    }
+    PageNumber::word(held)
+}
+
+// Makes `dst` the image of the page `src`.
+pub fn put_image(dst: &mut [u8], src: &[u8], table: &[u16; 64])
+    requires { ⌜ (length (now dst) ≡ pageSize) × (length (now src) ≡ pageSize) × Named (now src) 0 ⌝ }
+    ensures { λ _. ⌜ now (dst .exit) ≡ imageTo (pageBy (now (table .entry))) (now (src .entry)) slotCount ⌝ }
+{
+    page::copy::copy_into(dst, src);
+    let mut k = 0;
+    while k < PageNumber::SLOTS {
+        let w = page::word::word_at(src, page::word::SIZE * k);
+        let held = PageNumber(table[page::word::frame_in(w)]);
+        let number = plain_word(w, held);
+        page::word::put_word(dst, page::word::SIZE * k, number);
+        k += 1;
+    }
+}
