@@ -1,0 +1,57 @@
+-- `listing::main` meets its contract: the turns left fall with each turn. Assumes nothing.
+use borrow.Author.Needs.{needs}
+use Rattle.listing.proofs.main.Statement.{statement}
+use Rattle.listing.proofs.main.Tie as tie
+
+abbrev Inv-loop : tie.InvT-loop
+Inv-loop frames₀ store₀ pool₀ turns₀ frames store pool turns = Unit {0}
+
+abbrev μ-loop : tie.MeasureT-loop
+μ-loop frames₀ store₀ pool₀ turns₀ frames store pool turns = turns
+
+slice-aggregate-open : tie.Need-slice-aggregate-open Inv-loop μ-loop
+slice-aggregate-open c = search needs
+
+slice-aggregate-open-2 : tie.Need-slice-aggregate-open-2 Inv-loop μ-loop
+slice-aggregate-open-2 c = search needs
+
+open-requires : tie.Need-open-requires Inv-loop μ-loop
+open-requires c κs = search needs
+
+loop-holds : tie.Need-loop-holds Inv-loop μ-loop
+loop-holds c = search needs
+
+list-next-requires : tie.Need-list-next-requires Inv-loop μ-loop
+list-next-requires c κs = search needs
+
+returns : tie.Need-returns Inv-loop μ-loop
+returns c = search needs
+
+sub-turns : tie.Need-sub-turns Inv-loop μ-loop
+sub-turns c = search needs
+
+loop-less : tie.Need-loop-less Inv-loop μ-loop
+loop-less c = search needs
+
+loop-again : tie.Need-loop-again Inv-loop μ-loop
+loop-again c = search needs
+
+returns-2 : tie.Need-returns-2 Inv-loop μ-loop
+returns-2 c = search needs
+
+pub main-spec : {M : Type 1} → statement M
+main-spec =
+    tie.close
+    (tie.spec
+    Inv-loop
+    μ-loop
+    slice-aggregate-open
+    slice-aggregate-open-2
+    open-requires
+    loop-holds
+    list-next-requires
+    returns
+    sub-turns
+    loop-less
+    loop-again
+    returns-2)

@@ -1,0 +1,22 @@
+// The page pool under one name: its thirteen calls, its records, and what the calls answer.
+pub use changes::link;
+pub use changes::unlink;
+pub use changes::write;
+pub use contents::find;
+pub use contents::peek;
+pub use contents::show;
+pub use contents::word;
+pub use fixing::fix;
+pub use fixing::root;
+pub use machine::Done;
+pub use machine::FindAnswer;
+pub use machine::Fix;
+pub use machine::FixAnswer;
+pub use machine::FrameRecord;
+pub use machine::Handle;
+pub use machine::Pool;
+pub use machine::WordAnswer;
+pub use residency::evict;
+pub use residency::open;
+pub use residency::settle;
+pub use residency::unfix;

@@ -1,0 +1,24 @@
+-- `recording::calls::find` meets its contract: the answer is find's, and all is left as it was. Assumes nothing.
+use Rattle.machine.specs.Machine.{State, state}
+use Rattle.recording.specs.ListingLaws.{line-listed, find-leaves}
+use borrow.Author.Needs.{needs}
+use Rattle.recording.proofs.calls.find.Statement.{statement}
+use Rattle.recording.proofs.calls.find.Tie as tie
+
+page-requires : tie.Need-page-requires
+page-requires c κs = search needs
+
+find-requires : tie.Need-find-requires
+find-requires c κs = search needs
+
+of-find-requires : tie.Need-of-find-requires
+of-find-requires c κs = search needs
+
+returns : tie.Need-returns
+returns c =
+    let a = c .before .before .before .before .before .args in
+    let s : State = state (a .pool) (a .frames .now) (a .store .now) in
+    line-listed _ _ _ (c .of-find .ensures) (rw (c .before .before .page .ensures) at (find-leaves s (c .before .before .page .result) (c .before .find .ensures)))
+
+pub find-spec : {M : Type 1} → statement M
+find-spec = tie.close (tie.spec page-requires find-requires of-find-requires returns)
