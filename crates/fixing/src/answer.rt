@@ -1,0 +1,30 @@
+// The two answers of root and fix.
+use machine::Fix;
+use machine::FixAnswer;
+use machine::Handle;
+use machine::Pool;
+use page::FrameIndex;
+use page::PageNumber;
+ghost use mathlib.Core.Path.{_≡_};
+ghost use Rattle.fixing.specs.Steps.{refusedFix, givenFix};
+
+// A refusal's number, with the records as they are.
+pub fn refused(pool: Pool, number: u8) -> Fix
+    ensures { λ r. ⌜ r ≡ refusedFix pool number ⌝ }
+{
+    Fix {
+        answer: FixAnswer::Refused(number),
+        pool,
+    }
+}
+
+// The handle of a page that is now pinned, and the looks of the sweep.
+pub fn given(pool: Pool, frame: FrameIndex, page: PageNumber, looks: u16) -> Fix
+    ensures { λ r. ⌜ r ≡ givenFix pool (frame .0) (page .0) looks ⌝ }
+{
+    let handle = Handle { frame, page };
+    Fix {
+        answer: FixAnswer::Fixed(handle, looks),
+        pool,
+    }
+}

@@ -1,0 +1,45 @@
+// Root and fix: the calls that pin a page. A resident page is pinned where it is, another one is loaded first.
+mod answer;
+mod load;
+mod pin;
+
+use machine::Fix;
+use machine::Handle;
+use machine::Pool;
+use page::FrameIndex;
+use page::PageNumber;
+use page::word;
+ghost use mathlib.Core.Path.{_≡_};
+ghost use Rattle.machine.specs.Machine.{state};
+ghost use Rattle.machine.specs.Answers.{out, fixAnswer};
+ghost use Rattle.machine.specs.Calls.{rootCall, fixCall};
+
+// Pins page 0.
+pub fn root(pool: Pool, frames: &[u8], store: &[u8]) -> Fix
+    ensures { λ r. ⌜ out (fixAnswer (r .answer)) (state (r .pool) (now (frames .entry)) (now (store .entry))) ≡ rootCall (state pool (now (frames .entry)) (now (store .entry))) ⌝ }
+{
+    let refusal = guard::pool_refusal(pool, frames, store);
+    if refusal != 0 {
+        return answer::refused(pool, refusal);
+    }
+    pin::pin_frame(pool, FrameIndex(0))
+}
+
+// Pins the page that a slot of a handle's page names.
+pub fn fix(pool: Pool, frames: &mut [u8], store: &mut [u8], handle: Handle, slot: usize) -> Fix
+    ensures { λ r. ⌜ out (fixAnswer (r .answer)) (state (r .pool) (now (frames .exit)) (now (store .exit))) ≡ fixCall (state pool (now (frames .entry)) (now (store .entry))) handle slot ⌝ }
+{
+    let refusal = guard::slot_refusal(pool, frames, store, handle, slot);
+    if refusal != 0 {
+        return answer::refused(pool, refusal);
+    }
+    let parent = handle.frame;
+    let w = guard::slot_word(frames, parent, slot);
+    if w == 0 {
+        return answer::refused(pool, 7);
+    }
+    if word::is_number(w) {
+        return load::bring_in(pool, frames, store, parent, slot, PageNumber(w as u16));
+    }
+    pin::pin_frame(pool, FrameIndex(word::frame_in(w) as u8))
+}
