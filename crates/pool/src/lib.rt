@@ -1,10 +1,12 @@
-// The page pool under one name: its thirteen calls, its records, and what the calls answer.
+// The page pool: its thirteen calls, and the kinds that they take and give.
 pub use changes::link;
 pub use changes::unlink;
 pub use changes::write;
 pub use contents::find;
 pub use contents::peek;
+pub use contents::peek_place;
 pub use contents::show;
+pub use contents::show_place;
 pub use contents::word;
 pub use fixing::fix;
 pub use fixing::root;
@@ -14,8 +16,11 @@ pub use machine::Fix;
 pub use machine::FixAnswer;
 pub use machine::FrameRecord;
 pub use machine::Handle;
+pub use machine::Place;
 pub use machine::Pool;
 pub use machine::WordAnswer;
+pub use page::FrameIndex;
+pub use page::PageNumber;
 pub use residency::evict;
 pub use residency::open;
 pub use residency::settle;

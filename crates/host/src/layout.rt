@@ -1,0 +1,98 @@
+// Structs with a value of its own in every field, by which a host tests that its declarations have the layout used here.
+use crate::answers::Fixed;
+use crate::answers::Found;
+use crate::answers::Named;
+use pool::Done;
+use pool::FrameIndex;
+use pool::FrameRecord;
+use pool::Handle;
+use pool::PageNumber;
+use pool::Place;
+use pool::Pool;
+
+// Records in which no number stands twice, and the two flags go their own ways.
+fn marked_pool() -> Pool {
+    let blank = FrameRecord {
+        used: false,
+        dirty: false,
+        usage: 0,
+        slot: 0,
+        parent: FrameIndex(0),
+        pins: 0,
+        page: PageNumber(0),
+    };
+    let mut records = [blank; FrameIndex::MOST];
+    let mut i = 0;
+    while i < FrameIndex::MOST {
+        records[i] = FrameRecord {
+            used: i % 2 == 1,
+            dirty: i % 3 == 1,
+            usage: i as u8,
+            slot: 64 + i as u8,
+            parent: FrameIndex(128 + i as u8),
+            pins: 1000 + i as u16,
+            page: PageNumber(2000 + i as u16),
+        };
+        i += 1;
+    }
+    Pool {
+        records,
+        count: 3001,
+        pages: 3002,
+        hand: FrameIndex(200),
+    }
+}
+
+// The answer of a call without an answer of its own, marked.
+#[no_mangle]
+pub extern "C" fn pool_layout_done() -> Done {
+    Done {
+        refusal: 201,
+        pool: marked_pool(),
+    }
+}
+
+// The answer of root and fix, marked.
+#[no_mangle]
+pub extern "C" fn pool_layout_fixed() -> Fixed {
+    let handle = Handle {
+        frame: FrameIndex(203),
+        page: PageNumber(4001),
+    };
+    Fixed {
+        refusal: 202,
+        handle,
+        looks: 4002,
+        pool: marked_pool(),
+    }
+}
+
+// The answer of word, marked.
+#[no_mangle]
+pub extern "C" fn pool_layout_named() -> Named {
+    Named {
+        refusal: 204,
+        page: PageNumber(4003),
+    }
+}
+
+// The answer of find, marked.
+#[no_mangle]
+pub extern "C" fn pool_layout_found() -> Found {
+    Found {
+        refusal: 205,
+        present: true,
+        frame: FrameIndex(206),
+    }
+}
+
+// The answer of show and peek, marked.
+#[no_mangle]
+pub extern "C" fn pool_layout_place() -> Place {
+    Place {
+        refusal: 207,
+        in_store: true,
+        start: 5001,
+        size: 5002,
+    }
+}
