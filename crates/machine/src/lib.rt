@@ -18,7 +18,7 @@ pub struct FrameRecord {
 // The pool's records: one for each of up to 64 frames, F, N and the clock hand.
 #[repr(C)]
 pub struct Pool {
-    pub records: [FrameRecord; 64],
+    pub records: [FrameRecord; FrameIndex::MOST],
     // F.
     pub count: u16,
     // N.
@@ -76,6 +76,6 @@ pub struct Swept {
     pub taken: bool,
     pub frame: FrameIndex,
     pub looks: u16,
-    pub records: [FrameRecord; 64],
+    pub records: [FrameRecord; FrameIndex::MOST],
     pub hand: FrameIndex,
 }

@@ -53,7 +53,7 @@ pub fn write_out_by_table(
 // The same for a single page: the table is made of the records, and only for a dirty page.
 pub fn write_out(
     rec: FrameRecord,
-    records: [FrameRecord; 64],
+    records: [FrameRecord; FrameIndex::MOST],
     frames: &[u8],
     store: &mut [u8],
     frame: FrameIndex,
