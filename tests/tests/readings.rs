@@ -53,6 +53,14 @@ fn a_refused_open_gives_zero_records() {
 }
 
 #[test]
+fn open_holds_the_root_alone() {
+    let pool = Trial::open(3, 5, &[]).state.pool;
+    let mut expected = Pool { count: 3, pages: 5, ..Pool::ZERO };
+    expected.records[0].used = true;
+    assert_eq!(pool, expected);
+}
+
+#[test]
 fn open_keeps_the_other_frames() {
     let mut trial = Trial::closed(3, 2, &[(0, 2, 1)]);
     trial.state.frames.fill(0xff);
@@ -212,6 +220,39 @@ fn payloads_lie_in_frames_or_store() {
     assert_eq!(trial.call(Call::Show(five)), at(Buffer::Frames, 256 + 64));
     assert_eq!(trial.call(Call::Peek(5)), at(Buffer::Frames, 256 + 64));
     assert_eq!(trial.call(Call::Peek(7)), at(Buffer::Store, 7 * 256 + 64));
+}
+
+#[test]
+fn a_loaded_page_has_one_pin_and_one_usage() {
+    let (mut trial, [root, ..]) = two_children();
+    trial.fix(root, 3);
+    let loaded = FrameRecord { used: true, dirty: false, usage: 1, slot: 3, parent: 0, pins: 1, page: 7 };
+    assert_eq!(*trial.record(3), loaded);
+    assert!(!trial.record(0).dirty);
+}
+
+#[test]
+fn pins_count_on_where_usage_stops() {
+    let (mut trial, [root, five, _]) = two_children();
+    for (usage, pins) in [(2, 2), (3, 3), (3, 4)] {
+        trial.fix(root, 1);
+        assert_eq!((trial.record(1).usage, trial.record(1).pins), (usage, pins));
+    }
+    trial.accept(Call::Unfix(five));
+    assert_eq!((trial.record(1).usage, trial.record(1).pins), (3, 3));
+}
+
+#[test]
+fn settle_marks_clean() {
+    let (mut trial, [_, five, six]) = two_children();
+    trial.accept(Call::Write(five, 7, vec![1, 2, 3]));
+    trial.accept(Call::Link(six, 0, 8));
+    assert_eq!([1, 2].map(|frame| trial.record(frame).dirty), [true, true]);
+    trial.accept(Call::Settle);
+    assert_eq!([1, 2].map(|frame| trial.record(frame).dirty), [false, false]);
+    let start = 5 * PAGE_SIZE + 64 + 7;
+    assert_eq!(trial.state.store[start..start + 3], [1, 2, 3]);
+    assert_eq!(trial.stored_word(6, 0), 8);
 }
 
 /// The first empty frame is taken from the hand on, and the hand stays.
