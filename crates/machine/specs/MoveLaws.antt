@@ -8,7 +8,7 @@ use native.Mathlib.Omega.{arith}
 use native.Mathlib.Decide.{decLt, ℕ-discrete}
 use borrow.Author.Tests.{ltb-true}
 use lib.ListN.{length, set}
-use lib.Seq.{ext-getD}
+use lib.Seq.{ext-getD, getD-set-other}
 use Rattle.page.specs.Figures.{pageSize, slotCount, payloadStart, mostFrames, wordRadix, swizzleBit}
 use Rattle.page.specs.Word.{isNumber, frameIn, frameWord, putWord-before, putWord-after}
 use Rattle.page.specs.Page.{slot, byte, pageOf, putSlot, putPage, putSlot-length, slot-putSlot-same, slot-putSlot-slot, byte-putSlot, pageOf-length, putPage-length, byte-first, byte-pageOf, slot-pageOf, pageOf-putPage}
@@ -16,7 +16,7 @@ use Rattle.page.specs.Octets.{Octets, octets-putSlot, octets-pageOf, buffer-ext
 use Rattle.machine.specs.declared.FrameRecord.{FrameRecord}
 use Rattle.machine.specs.Tests.{pick}
 use Rattle.machine.specs.TestLaws.{every-true, pick-yes, pick-either}
-use Rattle.machine.specs.Machine.{State, cleaned, recordAt, pageIn}
+use Rattle.machine.specs.Machine.{State, blank, cleaned, recordAt, pageIn}
 use Rattle.machine.specs.Moves.{plain, imageTo, imageOf, writtenOutBy, writtenOut, writtenOutTo, cleanedTo, settled, evicted, loaded}
 use Rattle.machine.specs.Sweep.{childless}
 use Rattle.machine.specs.Ready.{Sized, Ready}
@@ -121,6 +121,12 @@ cleanedTo-zero rs = refl
 pub cleanedTo-suc : (rs : List FrameRecord) (n : ℕ) → cleanedTo rs (suc n) ≡ set (cleanedTo rs n) n (cleaned (recordAt (cleanedTo rs n) n))
 unfolding cleanedTo
 cleanedTo-suc rs n = refl
+
+-- the records from n on stay as they were
+pub cleanedTo-above : (rs : List FrameRecord) (n m : ℕ) → n ≤ m → recordAt (cleanedTo rs n) m ≡ recordAt rs m
+unfolding cleanedTo
+cleanedTo-above rs zero m h = refl
+cleanedTo-above rs (suc n) m h = getD-set-other (cleanedTo rs n) n m _ blank (omega arith) ∙ cleanedTo-above rs n m (omega arith)
 
 -- ---- the moves keep F, N and the lengths
 

@@ -1,9 +1,10 @@
 -- From what the code did, step by step, to the definitions of the moves. Assumes nothing.
 use Prim.Native.Nat.{ℕ, _+_, _*_, _-_, _<_, _≤_}
-use mathlib.Core.Path.{_≡_, refl, ap, _∙_}
+use mathlib.Core.Path.{_≡_, refl, sym, ap, _∙_}
 use mathlib.Core.Bool.{true, false}
 use mathlib.Core.List.{List}
 use native.Mathlib.Omega.{arith}
+use native.Mathlib.Numerals.{add-one}
 use lib.ListN.{length, take, drop, length-take, length-drop}
 use borrow.Rule.Slice.PartMut.{putMid}
 use Rattle.page.specs.Figures.{pageSize, slotCount, wordSize}
@@ -12,11 +13,11 @@ use Rattle.page.specs.Page.{pageOf, putSlot, putPage, pageOf-length, slot-pageO
 use Rattle.machine.specs.declared.FrameRecord.{FrameRecord}
 use Rattle.machine.specs.declared.Pool.{Pool}
 use Rattle.machine.specs.TestLaws.{pick-yes, pick-no}
-use Rattle.machine.specs.Machine.{State, state, loadedRecord, recordAt, pageIn, withRecord, withRecords}
+use Rattle.machine.specs.Machine.{State, state, cleaned, loadedRecord, recordAt, pageIn, withRecord, withRecords}
 use Rattle.machine.specs.Moves.{imageTo, writtenOutBy, writtenOut, writtenOutTo, cleanedTo, settled, vacate, evicted, loaded}
-use Rattle.machine.specs.MoveLaws.{image-length, writtenOutBy-ext}
+use Rattle.machine.specs.MoveLaws.{image-length, writtenOutBy-ext, writtenOutTo-zero, writtenOutTo-suc, cleanedTo-zero, cleanedTo-suc, cleanedTo-above}
 use Rattle.machine.specs.Ready.{Sized, Ready}
-use Rattle.moves.specs.Tables.{pageBy, Table, Named, Writable}
+use Rattle.moves.specs.WriteOut.{pageBy, Table, Named, Writable}
 
 -- ---- a page's bytes lent as a part of the frames, and the store's part that comes back as an image
 
@@ -46,8 +47,7 @@ written-dirty page r fs st ts f d e = pick-yes _ d e
 -- the pages by the table are those by the records
 pub written-by-table : (rs : List FrameRecord) (t : List ℕ) (r : FrameRecord) (fs st : List ℕ) (f : ℕ) → Table rs t → (r .dirty ≡ true → Named fs f)
     → writtenOutBy (pageBy t) r fs st f ≡ writtenOutBy (pageIn rs) r fs st f
-unfolding Table
-written-by-table rs t r fs st f h n = writtenOutBy-ext (pageBy t) (pageIn rs) r fs st f n h
+written-by-table rs t r fs st f h n = writtenOutBy-ext (pageBy t) (pageIn rs) r fs st f n (h .entry)
 
 pub writable : (s : State) (f : ℕ) → Ready s → f < s .pool .count → Writable (recordAt (s .pool .records) f) (s .frames) (s .store) f
 writable s f h l =
@@ -78,7 +78,35 @@ is-loaded p fs st gs hs ys f k e q w z h hy hg hw hh =
     let g : gs ≡ putPage fs e (pageOf st q) = hg ∙ put-part fs e ys l ∙ ap (putPage fs e) y in
     rw (hh, hw, g)
 
-pub is-settled : (p : Pool) (fs st ts : List ℕ) (rs : List FrameRecord) → ts ≡ writtenOutTo (p .records) fs st (p .count) → rs ≡ cleanedTo (p .records) (p .count)
-    → state (withRecords p rs) fs ts ≡ settled (state p fs st)
-unfolding settled
-is-settled p fs st ts rs ht hr = rw (ht, hr)
+-- ---- settling, frame by frame
+
+-- of the pool p and the store st, the first f frames were settled, which made n and ts of them
+pub record Settling (p n : Pool) (fs st ts : List ℕ) (f : ℕ) : Type 0 where
+  pub clean : n ≡ withRecords p (cleanedTo (p .records) f)
+  pub written : ts ≡ writtenOutTo (p .records) fs st f
+
+pub settling-none : (p : Pool) (fs st : List ℕ) → Settling p p fs st st 0
+settling-none p fs st = record { clean = ap (withRecords p) (sym (cleanedTo-zero (p .records))); written = sym (writtenOutTo-zero (p .records) fs st) }
+
+module _ {p n : Pool} {fs st ss : List ℕ} {f : ℕ} (S : Settling p n fs st ss f) where
+  -- the next frame's record is as it was
+  same-record : recordAt (n .records) f ≡ recordAt (p .records) f
+  same-record = ap (λ (m : Pool). recordAt (m .records) f) (S .clean) ∙ cleanedTo-above (p .records) f f (omega arith)
+
+  pub settling-writable : Ready (state p fs st) → f < p .count → length ss ≡ length st → Writable (recordAt (n .records) f) fs ss f
+  settling-writable h l k =
+      let w = writable (state p fs st) f h l in
+      rw same-record (record { placed = record { frame = w .placed .frame; bytes = w .placed .bytes; place = rw k (w .placed .place) }; words = w .words })
+
+  pub settling-more : {t ts : List ℕ} → Ready (state p fs st) → f < p .count → Table (p .records) t → ts ≡ writtenOutBy (pageBy t) (recordAt (n .records) f) fs ss f
+      → Settling p (withRecord n f (cleaned (recordAt (n .records) f))) fs st ts (f + 1)
+  settling-more {t} {ts} h l table e =
+      let by = written-by-table (p .records) t (recordAt (p .records) f) fs ss f table (writable (state p fs st) f h l .words) in
+      record {
+        clean = rw (S .clean, add-one f, cleanedTo-suc (p .records) f);
+        written = rw (e, same-record, by, S .written, add-one f, writtenOutTo-suc (p .records) fs st f);
+      }
+
+  pub is-settled : f ≡ p .count → state n fs ss ≡ settled (state p fs st)
+  unfolding settled
+  is-settled e = rw (S .clean, S .written, e)

@@ -8,7 +8,7 @@ ghost use Rattle.page.specs.Figures.{pageSize, slotCount};
 ghost use Rattle.page.specs.Word.{isNumber};
 ghost use Rattle.machine.specs.Tests.{pick};
 ghost use Rattle.machine.specs.Moves.{imageTo};
-ghost use Rattle.moves.specs.Tables.{Table, pageBy, Named};
+ghost use Rattle.moves.specs.WriteOut.{Table, pageBy, Named};
 
 // The page that each frame holds.
 pub fn page_table(records: [FrameRecord; 64]) -> [u16; 64]

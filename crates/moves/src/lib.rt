@@ -18,9 +18,9 @@ fn vacated(pool: Pool, frame: FrameIndex) -> Pool
     requires { ⌜ frame .0 < recordCount ⌝ }
     ensures { λ r. ⌜ r ≡ vacate pool (frame .0) ⌝ }
 {
-    let mut next = pool;
+    let mut left = pool;
     let f = frame.0 as usize;
-    next.records[f] = FrameRecord {
+    left.records[f] = FrameRecord {
         used: false,
         dirty: false,
         usage: 0,
@@ -29,7 +29,7 @@ fn vacated(pool: Pool, frame: FrameIndex) -> Pool
         pins: 0,
         page: PageNumber(0),
     };
-    next
+    left
 }
 
 // Takes the page out of a frame: its image to the store if dirty, its number to its parent's word.
@@ -38,13 +38,14 @@ pub fn evict_page(pool: Pool, frames: &mut [u8], store: &mut [u8], frame: FrameI
     ensures { λ r. ⌜ state r (now (frames .exit)) (now (store .exit)) ≡ evicted (state pool (now (frames .entry)) (now (store .entry))) (frame .0) ⌝ }
 {
     let records = pool.records;
+    let next = pool;
     let f = frame.0 as usize;
-    let record = records[f];
-    out::write_out_frame(records, frames, store, frame);
+    let record = next.records[f];
+    out::write_out(record, records, frames, store, frame);
     let at = PageNumber::SIZE * record.parent.0 as usize + page::word::SIZE * record.slot as usize;
     let page = record.page;
     page::word::put_word(frames, at, PageNumber::word(page));
-    vacated(pool, frame)
+    vacated(next, frame)
 }
 
 // Loads a page into a frame, for a slot of its parent's frame.
@@ -88,10 +89,16 @@ pub fn settle_pages(pool: Pool, frames: &[u8], store: &mut [u8]) -> Pool
     ensures { λ r. ⌜ state r (now (frames .entry)) (now (store .exit)) ≡ settled (state pool (now (frames .entry)) (now (store .entry))) ⌝ }
 {
     let records = pool.records;
+    let table = image::page_table(records);
     let count = pool.count as usize;
-    out::write_out_all(records, frames, store, count);
-    let clean = out::marked_clean(records, count);
     let mut next = pool;
-    next.records = clean;
+    let mut f = 0;
+    while f < count {
+        let mut record = next.records[f];
+        out::write_out_by_table(record, &table, frames, store, FrameIndex(f as u8));
+        record.dirty = false;
+        next.records[f] = record;
+        f += 1;
+    }
     next
 }

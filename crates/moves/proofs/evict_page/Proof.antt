@@ -10,11 +10,11 @@ cast-f c = search needs
 mul-record : tie.Need-mul-record
 mul-record c = search needs
 
-array-copy-out-record : tie.Need-array-copy-out-record
-array-copy-out-record c = search needs
+element-copy-out-record : tie.Need-element-copy-out-record
+element-copy-out-record c = search needs
 
-write-out-frame-requires : tie.Need-write-out-frame-requires
-write-out-frame-requires c κs = let a = c .before .before .before .before .before .before .before in writable _ _ (a .pre .0) (a .pre .1)
+write-out-requires : tie.Need-write-out-requires
+write-out-requires c κs = let a = c .before .before .before .before .before .before .before in writable _ _ (a .pre .0) (a .pre .1)
 
 cast-at : tie.Need-cast-at
 cast-at c = search needs
@@ -47,7 +47,7 @@ same-length-2 : tie.Need-same-length-2
 same-length-2 c = search needs
 
 returns : tie.Need-returns
-returns c = is-evicted _ _ _ _ _ _ _ _ (c .before .before .before .before .word .ensures) (c .before .before .before .put-word .ensures) (c .before .before .before .before .before .before .before .before .before .before .before .write-out-frame .ensures) (c .vacated .ensures)
+returns c = is-evicted _ _ _ _ _ _ _ _ (c .before .before .before .before .word .ensures) (c .before .before .before .put-word .ensures) (c .before .before .before .before .before .before .before .before .before .before .before .write-out .ensures) (c .vacated .ensures)
 
 pub evict-page-spec : {M : Type 1} → statement M
 evict-page-spec =
@@ -55,8 +55,8 @@ evict-page-spec =
     (tie.spec
     cast-f
     mul-record
-    array-copy-out-record
-    write-out-frame-requires
+    element-copy-out-record
+    write-out-requires
     cast-at
     mul-at
     cast-at-2

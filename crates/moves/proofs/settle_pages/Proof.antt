@@ -1,25 +1,78 @@
--- `settle_pages` meets its contract. Assumes nothing.
+-- `settle_pages` meets its contract: the first f frames are written out and their records clean. Assumes nothing.
 use borrow.Author.Needs.{needs}
-use Rattle.moves.specs.Steps.{writable, is-settled}
+use Prim.Native.Nat.{_≤_, _-_}
+use mathlib.Core.Path.{_≡_, refl}
+use native.Mathlib.Omega.{arith}
+use lib.ListN.{length}
+use Rattle.moves.specs.Steps.{Settling, settling-none, settling-writable, settling-more, is-settled}
 use Rattle.moves.proofs.settle_pages.Statement.{statement}
 use Rattle.moves.proofs.settle_pages.Tie as tie
 
-cast-count : tie.Need-cast-count
+abbrev Inv-loop : tie.InvT-loop
+Inv-loop frames store₀ table count next₀ f₀ store next f = (f ≤ count) × (length store ≡ length store₀) × Settling next₀ next frames store₀ store f
+
+abbrev μ-loop : tie.MeasureT-loop
+μ-loop frames store₀ table count next₀ f₀ store next f = count - f
+
+page-table-requires : tie.Need-page-table-requires Inv-loop μ-loop
+page-table-requires c κs = search needs
+
+cast-count : tie.Need-cast-count Inv-loop μ-loop
 cast-count c = search needs
 
-write-out-all-requires : tie.Need-write-out-all-requires
-write-out-all-requires c κs = λ f l. writable _ f (c .before .before .before .before .before .pre) l
+loop-holds : tie.Need-loop-holds Inv-loop μ-loop
+loop-holds c = (omega arith, refl, settling-none _ _ _)
 
-marked-clean-requires : tie.Need-marked-clean-requires
-marked-clean-requires c κs = search needs
+mul-record : tie.Need-mul-record Inv-loop μ-loop
+mul-record c = search needs
 
-same-length : tie.Need-same-length
-same-length c = search needs
+element-copy-out-record : tie.Need-element-copy-out-record Inv-loop μ-loop
+element-copy-out-record c = search needs
 
-returns : tie.Need-returns
-returns c = is-settled _ _ _ _ _ (c .before .before .before .write-out-all .ensures) (c .marked-clean .ensures)
+cast-t20 : tie.Need-cast-t20 Inv-loop μ-loop
+cast-t20 c = search needs
+
+write-out-by-table-requires : tie.Need-write-out-by-table-requires Inv-loop μ-loop
+write-out-by-table-requires c κs = let l = c .before .before .before .before .loop in settling-writable (l .inv .2) (c .before .before .before .before .before .before .before .before .before .before .pre) (c .before .before .before .loop-test .taken) (l .inv .1)
+
+mul-record-2 : tie.Need-mul-record-2 Inv-loop μ-loop
+mul-record-2 c = search needs
+
+element-set-from-record : tie.Need-element-set-from-record Inv-loop μ-loop
+element-set-from-record c = search needs
+
+add-f : tie.Need-add-f Inv-loop μ-loop
+add-f c = search needs
+
+loop-less : tie.Need-loop-less Inv-loop μ-loop
+loop-less c = search needs
+
+loop-again : tie.Need-loop-again Inv-loop μ-loop
+loop-again c = (omega arith, omega arith, settling-more (c .before .before .before .before .before .before .before .loop .inv .2) (c .before .before .before .before .before .before .before .before .before .before .before .before .before .pre) (c .before .before .before .before .before .before .loop-test .taken) (c .before .before .before .before .before .before .before .before .before .page-table .ensures) (c .before .before .write-out-by-table .ensures))
+
+same-length : tie.Need-same-length Inv-loop μ-loop
+same-length c = c .before .loop .inv .1
+
+returns : tie.Need-returns Inv-loop μ-loop
+returns c = is-settled (c .before .loop .inv .2) (omega arith)
 
 pub settle-pages-spec : {M : Type 1} → statement M
 settle-pages-spec =
     tie.close
-    (tie.spec cast-count write-out-all-requires marked-clean-requires same-length returns)
+    (tie.spec
+    Inv-loop
+    μ-loop
+    page-table-requires
+    cast-count
+    loop-holds
+    mul-record
+    element-copy-out-record
+    cast-t20
+    write-out-by-table-requires
+    mul-record-2
+    element-set-from-record
+    add-f
+    loop-less
+    loop-again
+    same-length
+    returns)

@@ -10,7 +10,6 @@ use lib.Seq.{getD-set-same, getD-set-other}
 use Rattle.page.specs.Figures.{mostFrames}
 use Rattle.machine.specs.Machine.{pageIn}
 use Rattle.machine.specs.declared.FrameRecord.{FrameRecord}
-use Rattle.moves.specs.Tables.{Table}
 use Rattle.moves.proofs.image.page_table.Statement.{statement}
 use Rattle.moves.proofs.image.page_table.Tie as tie
 
@@ -52,8 +51,7 @@ loop-again : tie.Need-loop-again Inv-loop μ-loop
 loop-again c = let l = c .before .before .loop in (omega arith, simp length-set (l .inv .1), step (c .before .before .before .args .t1) (l .table) (l .f) (omega arith) (l .inv .2))
 
 returns : tie.Need-returns Inv-loop μ-loop
-unfolding Table
-returns c = λ g l. c .before .loop .inv .2 g (omega arith)
+returns c = record { entry = λ g l. c .before .loop .inv .2 g (omega arith) }
 
 pub page-table-spec : {M : Type 1} → statement M
 page-table-spec =

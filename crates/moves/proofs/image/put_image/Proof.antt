@@ -12,7 +12,7 @@ use Rattle.page.specs.Page.{slot, slot-first, putSlot-first}
 use Rattle.machine.specs.Tests.{pick}
 use Rattle.machine.specs.Moves.{plain, imageTo}
 use Rattle.machine.specs.MoveLaws.{image-suc, image-zero}
-use Rattle.moves.specs.Tables.{pageBy, Named}
+use Rattle.moves.specs.WriteOut.{pageBy, Named}
 use Rattle.moves.proofs.image.put_image.Statement.{statement}
 use Rattle.moves.proofs.image.put_image.Tie as tie
 

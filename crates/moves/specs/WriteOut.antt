@@ -7,15 +7,15 @@ use lib.ListN.{length, getD}
 use Rattle.page.specs.Figures.{pageSize, slotCount, mostFrames, swizzleBit}
 use Rattle.page.specs.Page.{slot}
 use Rattle.machine.specs.declared.FrameRecord.{FrameRecord}
-use Rattle.machine.specs.Machine.{recordAt, pageIn}
+use Rattle.machine.specs.Machine.{pageIn}
 
 -- the page of each frame, by a table
 abbrev pub pageBy : List ℕ → ℕ → ℕ
 pageBy t f = getD t f 0
 
 -- the table gives the page of each of 64 frames
-unfoldable pub Table : List FrameRecord → List ℕ → Type 0
-Table rs t = (f : ℕ) → f < mostFrames → pageBy t f ≡ pageIn rs f
+pub record Table (rs : List FrameRecord) (t : List ℕ) : Type 0 where
+  pub entry : (f : ℕ) → f < mostFrames → pageBy t f ≡ pageIn rs f
 
 -- every swizzled word of frame f names one of 64 frames
 abbrev pub Named : List ℕ → ℕ → Type 0
@@ -31,6 +31,3 @@ pub record Placed (q : ℕ) (fs st : List ℕ) (f : ℕ) : Type 0 where
 pub record Writable (r : FrameRecord) (fs st : List ℕ) (f : ℕ) : Type 0 where
   pub placed : Placed (r .page .0) fs st f
   pub words : r .dirty ≡ true → Named fs f
-
-abbrev pub AllWritable : List FrameRecord → List ℕ → List ℕ → ℕ → Type 0
-AllWritable rs fs st n = (f : ℕ) → f < n → Writable (recordAt rs f) fs st f
