@@ -31,7 +31,7 @@ cast-mark-frames : tie.Need-cast-mark-frames
 cast-mark-frames c = search needs
 
 mark-frames-requires : tie.Need-mark-frames-requires
-mark-frames-requires c κs = (c .before .before .before .before .before .before .before .before .before .before .before .before .before .pre .0 .sized .most, c .before .before .before .before .before .before .before .before .before .before .before .before .before .pre .0 .sized .frames, c .before .before .before .mark-residents .ensures .tells .size)
+mark-frames-requires c κs = search needs
 
 cast-mark-page : tie.Need-cast-mark-page
 cast-mark-page c = search needs
@@ -40,7 +40,10 @@ mark-page-requires : tie.Need-mark-page-requires
 mark-page-requires c κs = search needs
 
 returns-2 : tie.Need-returns-2
-returns-2 c = loadable-by _ _ (c .before .before .before .before .before .before .before .before .before .before .before .before .before .before .before .before .before .pre .0) _ (c .before .before .before .before .before .before .before .before .before .before .page-table .ensures) _ _ _ _ (c .before .before .before .before .before .before .before .mark-residents .ensures) (c .before .before .before .mark-frames .ensures) (c .mark-page .ensures)
+returns-2 c =
+    let made = c .before .before .before .before .before .before .before .before .before .before in
+    let start = made .before .before .before .before .before .before .before in
+    loadable-by _ _ (start .pre .0) _ (made .page-table .ensures) _ _ _ _ (c .before .before .before .before .before .before .before .mark-residents .ensures) (c .before .before .before .mark-frames .ensures) (c .mark-page .ensures)
 
 pub is-loadable-spec : {M : Type 1} → statement M
 is-loadable-spec =

@@ -14,7 +14,8 @@ is-resident-requires c κs = search needs
 
 returns : tie.Need-returns
 returns c =
-    named-resident _ (c .before .before .before .before .before .before .before .pre .0) _ (c .before .before .before .page-table .ensures) _ (c .before .before .before .before .before .before .before .pre .1) (omega arith)
+    let start = c .before .before .before .before .before .before .before in
+    named-resident _ (start .pre .0) _ (c .before .before .before .page-table .ensures) _ (start .pre .1) (omega (arith, start .good))
     (sym (c .before .is-resident .ensures) ∙ c .if1 .taken)
 
 word-requires : tie.Need-word-requires
@@ -24,23 +25,30 @@ cast-in-frames : tie.Need-cast-in-frames
 cast-in-frames c = search needs
 
 in-frames-requires : tie.Need-in-frames-requires
-in-frames-requires c κs = (c .before .before .before .before .before .before .before .before .before .before .pre .0 .sized .most, c .before .before .before .before .before .before .before .before .before .before .pre .0 .sized .frames)
+in-frames-requires c κs = search needs
 
 returns-2 : tie.Need-returns-2
 returns-2 c =
-    named-in-frames _ (c .before .before .before .before .before .before .before .before .before .before .before .before .pre .0) _ (c .before .before .before .before .before .before .before .before .page-table .ensures) _ (c .before .before .before .before .before .before .before .before .before .before .before .before .pre .1) (omega arith) _ (c .before .before .before .before .word .ensures)
+    let made = c .before .before .before .before .before .before .before .before in
+    let start = made .before .before .before .before in
+    named-in-frames _ (start .pre .0) _ (made .page-table .ensures) _ (start .pre .1) (omega (arith, start .good)) _ (c .before .before .before .before .word .ensures)
     (sym (c .before .in-frames .ensures) ∙ c .if2 .taken)
 
 cast-in-store : tie.Need-cast-in-store
 cast-in-store c = search needs
 
 in-store-requires : tie.Need-in-store-requires
-in-store-requires c κs = (c .before .before .before .before .before .before .before .before .before .before .before .before .before .before .pre .0 .sized .pages, c .before .before .before .before .before .before .before .before .before .before .before .before .before .before .pre .0 .sized .store)
+in-store-requires c κs = search needs
 
 returns-3 : tie.Need-returns-3
 returns-3 c =
-    c .in-store .ensures ∙ named-in-store _ (c .before .before .before .before .before .before .before .before .before .before .before .before .before .before .before .pre .0) _ (c .before .before .before .before .before .before .before .before .before .before .before .page-table .ensures) _ (c .before .before .before .before .before .before .before .before .before .before .before .before .before .before .before .pre .1) (omega arith) _ (c .before .before .before .before .before .before .before .word .ensures)
-    (sym (c .before .before .before .before .before .before .before .before .before .is-resident .ensures) ∙ c .before .before .before .before .before .before .before .before .if1 .left) (sym (c .before .before .before .before .in-frames .ensures) ∙ c .before .before .before .if2 .left)
+    let named = c .before .before .before .before .before .before .before in
+    let made = named .before .before .before .before in
+    let start = made .before .before .before .before in
+    c .in-store .ensures
+    ∙ named-in-store _ (start .pre .0) _ (made .page-table .ensures) _ (start .pre .1) (omega (arith, start .good)) _ (named .word .ensures)
+    (sym (named .before .before .is-resident .ensures) ∙ named .before .if1 .left)
+    (sym (c .before .before .before .before .in-frames .ensures) ∙ c .before .before .before .if2 .left)
 
 pub is-named-spec : {M : Type 1} → statement M
 is-named-spec =
