@@ -1,6 +1,9 @@
-pub mod Rows
-pub mod RowLaws
-pub mod RowReading
-pub mod Fast
-pub mod FastLaws
+pub mod Sizes
+pub mod Deciding
+pub mod Counting
+pub mod Seen
+pub mod Fit
+pub mod FitLaws
+pub mod PassLaws
+pub mod Steps
 pub mod Same

@@ -1,25 +1,14 @@
-// Rule 2: do records and frames agree. Two passes over the records, one over the words, and parents followed by doubling.
-mod links;
-mod marks;
-mod records;
-mod roots;
+// Rule 2: do records and frames agree. One pass over the frames tests each record, the word that names the frame, and the numbers in it; then parents are followed.
+mod pass;
+mod record;
+mod steps;
+mod wide;
+mod words;
 
 use machine::Pool;
 ghost use mathlib.Core.Path.{_≡_};
 ghost use Rattle.machine.specs.Agreement.{agree};
-ghost use Rattle.agreement.specs.Fast.{Sizes};
-
-fn wide(x: u8) -> usize
-    ensures { λ r. ⌜ r ≡ x ⌝ }
-{
-    x as usize
-}
-
-fn wide16(x: u16) -> usize
-    ensures { λ r. ⌜ r ≡ x ⌝ }
-{
-    x as usize
-}
+ghost use Rattle.agreement.specs.Sizes.{Sizes};
 
 // Do records and frames agree, once their sizes were found right.
 pub fn agrees(pool: Pool, frames: &[u8]) -> bool
@@ -27,23 +16,20 @@ pub fn agrees(pool: Pool, frames: &[u8]) -> bool
     ensures { λ r. ⌜ r ≡ agree pool (now (frames .entry)) ⌝ }
 {
     let records = pool.records;
-    let count = wide16(pool.count);
-    let pages = pool.pages;
-    if count <= wide(pool.hand.0) {
+    let count = wide::from_u16(pool.count);
+    if count <= wide::from_u8(pool.hand.0) {
         return false;
     }
     let root = records[0];
-    if !records::root_ok(root) {
+    if !record::root_fits(root) {
         return false;
     }
-    if !records::records_ok(records, count, pages) {
+    if !record::rest_blank(records, count) {
         return false;
     }
-    if !links::links_ok(records, frames, count) {
+    let mut parents = [0u8; 64];
+    if !pass::frames_fit(records, frames, count, pool.pages as u32, &mut parents) {
         return false;
     }
-    if !marks::words_ok(records, frames, count, wide16(pages)) {
-        return false;
-    }
-    roots::rooted(records, count)
+    steps::lead_to_root(parents, count)
 }

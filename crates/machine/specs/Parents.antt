@@ -133,10 +133,13 @@ reach-in p (suc n) zero f l e = absurd (omega arith)
 reach-in p (suc n) (suc m) f l e = or-right (eqb f 0) (reach-in p n m (parentOf p f) (omega arith) e)
 
 -- where any number of steps leads to frame 0, at most F do
+pub climb-few : (up : ℕ → ℕ) (F : ℕ) → ((f : ℕ) → f < F → up f < F) → (f : ℕ) → f < F → (n : ℕ) × (climb up n f ≡ 0) → (n : ℕ) × (n ≤ F) × (climb up n f ≡ 0)
+climb-few up F b f l s =
+    let a = first up (s .0) f (s .1) in
+    (a .0, steps-few up F b f (a .0) l (a .1), a .1 .ends)
+
 pub climb-reach : (p : Pool) (F : ℕ) → ((f : ℕ) → f < F → parentOf p f < F) → (f : ℕ) → f < F → (n : ℕ) × (climb (parentOf p) n f ≡ 0) → reachesRoot p F f ≡ true
-climb-reach p F b f l s =
-    let a = first (parentOf p) (s .0) f (s .1) in
-    reach-in p (a .0) F f (steps-few (parentOf p) F b f (a .0) l (a .1)) (a .1 .ends)
+climb-reach p F b f l s = let a = climb-few (parentOf p) F b f l s in reach-in p (a .0) F f (a .1) (a .2)
 
 -- where at most n steps lead to frame 0, so do m of them and more, since frame 0 has no parent
 pub reach-climb : (p : Pool) → parentOf p 0 ≡ 0 → (n m f : ℕ) → n ≤ m → reachesRoot p n f ≡ true → climb (parentOf p) m f ≡ 0

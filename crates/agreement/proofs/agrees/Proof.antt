@@ -1,75 +1,86 @@
 -- `agrees` meets its contract: its tests, one after the other, are rule 2. Assumes nothing.
 use borrow.Author.Needs.{needs}
 use borrow.Author.Tests.{not-true, not-false}
-use Prim.Native.Nat.{_-_}
 use native.Mathlib.Omega.{arith}
-use mathlib.Core.Path.{sym, _∙_}
-use Rattle.agreement.specs.Same.{end-hand, end-root, end-records, end-links, end-words, up-below, past-none, root-up, ends}
-use borrow.Author.Needs.{needs}
+use mathlib.Core.Path.{_≡_, refl, sym, _∙_}
+use Rattle.agreement.specs.Sizes.{Sizes}
+use Rattle.agreement.specs.Deciding.{holds}
+use Rattle.agreement.specs.Same.{end-hand, end-root, end-rest, end-frames, table-below, table-root, end-lead}
 use Rattle.agreement.proofs.agrees.Statement.{statement}
 use Rattle.agreement.proofs.agrees.Tie as tie
 
-wide16-requires : tie.Need-wide16-requires
-wide16-requires c κs = search needs
+from-u16-requires : tie.Need-from-u16-requires
+from-u16-requires c κs = search needs
 
-wide-requires : tie.Need-wide-requires
-wide-requires c κs = search needs
+from-u8-requires : tie.Need-from-u8-requires
+from-u8-requires c κs = search needs
 
 returns : tie.Need-returns
-returns c = end-hand (c .before .before .before .before .before .args .pool) _ (c .before .before .before .before .before .pre) _ (c .before .before .wide16 .ensures) _ (c .before .wide .ensures) (c .if1 .taken)
+returns c = end-hand (c .before .before .before .before .before .args .pool) _ (c .before .before .before .before .before .pre) _ (c .before .before .from-u16 .ensures) _ (c .before .from-u8 .ensures) (c .if1 .taken)
 
 array-copy-out-root : tie.Need-array-copy-out-root
 array-copy-out-root c = search needs
 
-root-ok-requires : tie.Need-root-ok-requires
-root-ok-requires c κs = search needs
+root-fits-requires : tie.Need-root-fits-requires
+root-fits-requires c κs = search needs
 
 returns-2 : tie.Need-returns-2
-returns-2 c = end-root (c .before .before .before .before .before .before .before .before .args .pool) _ (c .before .before .before .before .before .before .before .before .pre) _ (c .before .before .before .before .before .wide16 .ensures) _ (c .before .root-ok .ensures) (not-true _ (c .if2 .taken))
+returns-2 c = end-root (c .before .before .before .before .before .before .before .before .args .pool) _ (c .before .before .before .before .before .before .before .before .pre) (c .before .root-fits .result) (c .before .root-fits .ensures) (not-true _ (c .if2 .taken))
 
-records-ok-requires : tie.Need-records-ok-requires
-records-ok-requires c κs = search needs
+rest-blank-requires : tie.Need-rest-blank-requires
+rest-blank-requires c κs = search needs
 
 returns-3 : tie.Need-returns-3
-returns-3 c = end-records (c .before .before .before .before .before .before .before .before .before .before .args .pool) _ (c .before .before .before .before .before .before .before .before .before .before .pre) _ (c .before .before .before .before .before .before .before .wide16 .ensures) _ (c .before .records-ok .ensures) (not-true _ (c .if3 .taken))
+returns-3 c = end-rest (c .before .before .before .before .before .before .before .before .before .before .args .pool) _ (c .before .before .before .before .before .before .before .before .before .before .pre) _ (c .before .before .before .before .before .before .before .from-u16 .ensures) (c .before .rest-blank .result) (c .before .rest-blank .ensures) (not-true _ (c .if3 .taken))
 
-links-ok-requires : tie.Need-links-ok-requires
-links-ok-requires c κs = (omega (arith, c .before .before .before .before .before .before .before .before .before .before .pre .most), omega (arith, c .before .before .before .before .before .before .before .before .before .before .pre .size), up-below (c .before .before .before .before .before .before .before .before .before .before .args .pool) _ (c .before .before .before .before .before .before .before .before .before .before .pre) _ (c .before .before .before .before .before .before .before .wide16 .ensures) _ (c .before .records-ok .ensures) (not-false _ (c .if3 .left)))
+cast-frames-fit : tie.Need-cast-frames-fit
+cast-frames-fit c = search needs
+
+frames-fit-requires : tie.Need-frames-fit-requires
+frames-fit-requires c κs = (
+  rw (c .before .before .before .before .before .before .before .before .before .from-u16 .ensures) (c .before .before .before .before .before .before .before .before .before .before .before .before .pre),
+  holds (c .before .before .before .before .before .root-fits .result) _ (c .before .before .before .before .before .root-fits .ensures) (not-false _ (c .before .before .before .before .if2 .left)),
+  omega (arith, c .before .before .before .before .before .before .before .before .before .before .before .before .pre .most),
+  refl,
+)
 
 returns-4 : tie.Need-returns-4
-returns-4 c = end-links (c .before .before .before .before .before .before .before .before .before .before .before .before .args .pool) _ (c .before .before .before .before .before .before .before .before .before .before .before .before .pre) _ (c .before .before .before .before .before .before .before .before .before .wide16 .ensures) _ (c .before .links-ok .ensures) (not-true _ (c .if4 .taken))
+returns-4 c = end-frames (c .before .before .before .before .before .before .before .before .before .before .before .before .before .before .args .pool) _ (c .before .before .before .before .before .before .before .before .before .before .before .before .before .before .pre) _ (c .before .before .before .before .before .before .before .before .before .before .before .from-u16 .ensures) (c .before .frames-fit .result) (c .before .frames-fit .ensures .fits) (not-true _ (c .if4 .taken))
 
-wide16-requires-2 : tie.Need-wide16-requires-2
-wide16-requires-2 c κs = search needs
-
-words-ok-requires : tie.Need-words-ok-requires
-words-ok-requires c κs = (omega (arith, c .before .before .before .before .before .before .before .before .before .before .before .before .before .pre .most), omega (arith, c .before .before .before .before .before .before .before .before .before .before .before .before .before .pre .pages), omega (arith, c .before .before .before .before .before .before .before .before .before .before .before .before .before .pre .size), past-none (c .before .before .before .before .before .before .before .before .before .before .before .before .before .args .pool) _ (c .before .before .before .before .before .before .before .before .before .before .before .before .before .pre) _ (c .before .before .before .before .before .before .before .before .before .before .wide16 .ensures) _ (c .before .before .before .before .records-ok .ensures) (not-false _ (c .before .before .before .if3 .left)))
+lead-to-root-requires : tie.Need-lead-to-root-requires
+lead-to-root-requires c κs =
+    let z = not-false (c .before .frames-fit .result) (c .if4 .left) in
+    let root = holds (c .before .before .before .before .before .before .before .root-fits .result) _ (c .before .before .before .before .before .before .before .root-fits .ensures) (not-false _ (c .before .before .before .before .before .before .if2 .left)) in
+    let rest = holds (c .before .before .before .before .before .rest-blank .result) _ (c .before .before .before .before .before .rest-blank .ensures) (not-false _ (c .before .before .before .before .if3 .left)) in
+    let fit = holds (c .before .frames-fit .result) _ (c .before .frames-fit .ensures .fits) z in
+    let has = c .before .frames-fit .ensures .parents z in (
+      omega (arith, c .before .before .before .before .before .before .before .before .before .before .before .before .before .before .pre .most),
+      table-below (c .before .before .before .before .before .before .before .before .before .before .before .before .before .before .args .pool) _ (c .before .before .before .before .before .before .before .before .before .before .before .before .before .before .pre) _ (c .before .before .before .before .before .before .before .before .before .before .before .from-u16 .ensures) root rest fit _ has,
+      table-root (c .before .before .before .before .before .before .before .before .before .before .before .before .before .before .args .pool) _ (c .before .before .before .before .before .before .before .before .before .before .before .before .before .before .pre) _ (c .before .before .before .before .before .before .before .before .before .before .before .from-u16 .ensures) root rest fit _ has,
+    )
 
 returns-5 : tie.Need-returns-5
-returns-5 c = end-words (c .before .before .before .before .before .before .before .before .before .before .before .before .before .before .before .args .pool) _ (c .before .before .before .before .before .before .before .before .before .before .before .before .before .before .before .pre) _ (c .before .before .before .before .before .before .before .before .before .before .before .before .wide16 .ensures) _ (c .before .before .wide162 .ensures) _ (c .before .words-ok .ensures) (not-true _ (c .if5 .taken))
-
-rooted-requires : tie.Need-rooted-requires
-rooted-requires c κs = (omega (arith, c .before .before .before .before .before .before .before .before .before .before .before .before .before .before .before .pre .most), λ f l. up-below (c .before .before .before .before .before .before .before .before .before .before .before .before .before .before .before .args .pool) _ (c .before .before .before .before .before .before .before .before .before .before .before .before .before .before .before .pre) _ (c .before .before .before .before .before .before .before .before .before .before .before .before .wide16 .ensures) _ (c .before .before .before .before .before .before .records-ok .ensures) (not-false _ (c .before .before .before .before .before .if3 .left)) f l .0, root-up _ (sym (c .before .before .before .before .before .before .before .before .root-ok .ensures) ∙ not-false _ (c .before .before .before .before .before .before .before .if2 .left)))
-
-returns-6 : tie.Need-returns-6
-returns-6 c = c .rooted .ensures ∙ ends (c .before .before .before .before .before .before .before .before .before .before .before .before .before .before .before .before .args .pool) _ (c .before .before .before .before .before .before .before .before .before .before .before .before .before .before .before .before .pre) _ (c .before .before .before .before .before .before .before .before .before .before .before .before .before .wide16 .ensures) _ (c .before .before .before .before .before .before .before .before .before .before .before .before .wide .ensures) (c .before .before .before .before .before .before .before .before .before .before .before .if1 .left) (sym (c .before .before .before .before .before .before .before .before .before .root-ok .ensures) ∙ not-false _ (c .before .before .before .before .before .before .before .before .if2 .left)) (sym (c .before .before .before .before .before .before .before .records-ok .ensures) ∙ not-false _ (c .before .before .before .before .before .before .if3 .left)) (sym (c .before .before .before .before .before .links-ok .ensures) ∙ not-false _ (c .before .before .before .before .if4 .left)) _ (c .before .before .before .wide162 .ensures) (sym (c .before .before .words-ok .ensures) ∙ not-false _ (c .before .if5 .left))
+returns-5 c =
+    let z = not-false (c .before .before .frames-fit .result) (c .before .if4 .left) in
+    let root = holds (c .before .before .before .before .before .before .before .before .root-fits .result) _ (c .before .before .before .before .before .before .before .before .root-fits .ensures) (not-false _ (c .before .before .before .before .before .before .before .if2 .left)) in
+    let rest = holds (c .before .before .before .before .before .before .rest-blank .result) _ (c .before .before .before .before .before .before .rest-blank .ensures) (not-false _ (c .before .before .before .before .before .if3 .left)) in
+    let fit = holds (c .before .before .frames-fit .result) _ (c .before .before .frames-fit .ensures .fits) z in
+    end-lead (c .before .before .before .before .before .before .before .before .before .before .before .before .before .before .before .args .pool) _ (c .before .before .before .before .before .before .before .before .before .before .before .before .before .before .before .pre) _ (c .before .before .before .before .before .before .before .before .before .before .before .before .from-u16 .ensures) root rest fit _ (c .before .before .frames-fit .ensures .parents z) _ (c .before .before .before .before .before .before .before .before .before .before .before .from-u8 .ensures) (c .before .before .before .before .before .before .before .before .before .before .if1 .left) (c .lead-to-root .result) (c .lead-to-root .ensures)
 
 pub agrees-spec : {M : Type 1} → statement M
 agrees-spec =
     tie.close
     (tie.spec
-    wide16-requires
-    wide-requires
+    from-u16-requires
+    from-u8-requires
     returns
     array-copy-out-root
-    root-ok-requires
+    root-fits-requires
     returns-2
-    records-ok-requires
+    rest-blank-requires
     returns-3
-    links-ok-requires
+    cast-frames-fit
+    frames-fit-requires
     returns-4
-    wide16-requires-2
-    words-ok-requires
-    returns-5
-    rooted-requires
-    returns-6)
+    lead-to-root-requires
+    returns-5)

@@ -1,0 +1,31 @@
+-- `root_fits` meets its contract. Assumes nothing.
+use borrow.Author.Needs.{needs}
+use native.Mathlib.Omega.{arith}
+use mathlib.Core.Path.{_≡_, refl, sym, _∙_}
+use mathlib.Core.Bool.{Bool, true, false}
+use Rattle.machine.specs.TestLaws.{clash, Case, case, on, off}
+use Rattle.agreement.specs.Fit.{RootFits}
+use Rattle.agreement.specs.Deciding.{Decides, decide-flag}
+use Rattle.agreement.proofs.record.root_fits.Statement.{statement}
+use Rattle.agreement.proofs.record.root_fits.Tie as tie
+
+returns : tie.Need-returns
+returns c = search needs
+
+returns-2 : tie.Need-returns-2
+returns-2 c = search needs
+
+returns-3 : tie.Need-returns-3
+returns-3 c = search needs
+
+returns-4 : tie.Need-returns-4
+returns-4 c = search needs
+
+returns-5 : tie.Need-returns-5
+returns-5 c = search needs
+
+returns-6 : tie.Need-returns-6
+returns-6 c = decide-flag _ (RootFits (c .before .before .before .before .before .before .before .before .before .before .args .rec)) (λ u. record { used = u; pins = omega arith; usage = omega arith; slot = omega arith; parent = omega arith; page = omega arith }) (λ r. r .used)
+
+pub root-fits-spec : {M : Type 1} → statement M
+root-fits-spec = tie.close (tie.spec returns returns-2 returns-3 returns-4 returns-5 returns-6)

@@ -1,0 +1,86 @@
+-- `mark_words` meets its contract: in any row that has the words, those before slot k are noted. Assumes nothing.
+use borrow.Author.Needs.{needs}
+use Prim.Native.Nat.{ℕ, _≤_, _<_, _+_, _*_, _-_}
+use native.Mathlib.Nat.{add-zero, add-assoc}
+use native.Mathlib.Omega.{arith}
+use mathlib.Core.Path.{_≡_, refl, sym, _∙_, ap}
+use mathlib.Core.Logic.{⊎-elim}
+use Rattle.machine.specs.TestLaws.{clash}
+use Rattle.agreement.specs.Seen.{Passed, Progress, progress}
+use Rattle.agreement.specs.Fit.{numberBelow, HasWords}
+use Rattle.agreement.specs.FitLaws.{below-lt}
+use Rattle.agreement.proofs.words.mark_words.Statement.{statement}
+use Rattle.agreement.proofs.words.mark_words.Tie as tie
+
+abbrev Inv-loop : tie.InvT-loop
+Inv-loop frames start pages seen₀ fresh₀ k₀ seen fresh k =
+    (k ≤ 16) × ((row : ℕ → ℕ) (i : ℕ) → HasWords frames pages start row i → Passed pages row i seen₀ → Progress pages row (i + k) seen fresh)
+
+abbrev μ-loop : tie.MeasureT-loop
+μ-loop frames start pages seen₀ fresh₀ k₀ seen fresh k = 16 - k
+
+loop-holds : tie.Need-loop-holds Inv-loop μ-loop
+loop-holds c = (omega arith, λ row i h t. rw add-zero t)
+
+mul-word-at : tie.Need-mul-word-at Inv-loop μ-loop
+mul-word-at c = search needs
+
+add-word-at : tie.Need-add-word-at Inv-loop μ-loop
+add-word-at c = search needs
+
+word-at-requires : tie.Need-word-at-requires Inv-loop μ-loop
+word-at-requires c κs = search needs
+
+number-below-requires : tie.Need-number-below-requires Inv-loop μ-loop
+number-below-requires c κs = search needs
+
+cast-x : tie.Need-cast-x Inv-loop μ-loop
+cast-x c = search needs
+
+element-copy-out-if1 : tie.Need-element-copy-out-if1 Inv-loop μ-loop
+element-copy-out-if1 c = omega (arith, c .number-below .ensures, below-lt (c .before .before .before .before .before .args .pages) (c .before .word-at .result) (c .before .before .before .before .before .pre .0))
+
+element-write-seen : tie.Need-element-write-seen Inv-loop μ-loop
+element-write-seen c = omega (arith, c .before .before .number-below .ensures, below-lt (c .before .before .before .before .before .before .before .args .pages) (c .before .before .before .word-at .result) (c .before .before .before .before .before .before .before .pre .0))
+
+add-k : tie.Need-add-k Inv-loop μ-loop
+add-k c = search needs
+
+loop-less : tie.Need-loop-less Inv-loop μ-loop
+loop-less c = search needs
+
+loop-again : tie.Need-loop-again Inv-loop μ-loop
+loop-again c = (
+  omega arith,
+  λ row i h t.
+      let kl : c .before .before .before .before .before .loop .k < 16 = omega arith in
+      let e : row (i + c .before .before .before .before .before .loop .k) ≡ c .before .before .number-below .result = h (c .before .before .before .before .before .loop .k) kl ∙ ap (numberBelow (c .before .before .before .before .before .before .before .args .pages)) (sym (c .before .before .before .word-at .ensures)) ∙ sym (c .before .before .number-below .ensures) in
+      let l : c .before .before .number-below .result < c .before .before .before .before .before .before .before .args .pages = omega (arith, c .before .before .number-below .ensures, below-lt (c .before .before .before .before .before .before .before .args .pages) (c .before .before .before .word-at .result) (c .before .before .before .before .before .before .before .pre .0)) in
+      rw (← add-assoc)
+      (progress _ row _ (c .before .before .before .before .before .loop .seen) _ _ e l refl _ _
+      (λ u. ⊎-elim (λ a. a .1) (λ a. absurd (clash (sym u ∙ a .0 .left))) (c .if1 .came))
+      (λ u. ⊎-elim (λ a. absurd (clash (sym (a .0 .taken) ∙ u))) (λ a. a .1) (c .if1 .came))
+      (c .before .before .before .before .before .loop .inv .1 row i h t)),
+)
+
+returns : tie.Need-returns Inv-loop μ-loop
+returns c = λ row i h t. let e : c .before .loop .k ≡ 16 = omega arith in rw e at (c .before .loop .inv .1 row i h t)
+
+pub mark-words-spec : {M : Type 1} → statement M
+mark-words-spec =
+    tie.close
+    (tie.spec
+    Inv-loop
+    μ-loop
+    loop-holds
+    mul-word-at
+    add-word-at
+    word-at-requires
+    number-below-requires
+    cast-x
+    element-copy-out-if1
+    element-write-seen
+    add-k
+    loop-less
+    loop-again
+    returns)

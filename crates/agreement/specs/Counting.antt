@@ -1,0 +1,132 @@
+-- How many numbers below a bound pass a test, and what a map between those that pass tells. Assumes nothing.
+use Prim.Native.Nat.{ℕ, zero, suc, _+_, _<_, _≤_}
+use mathlib.Core.Path.{_≡_, refl, sym, _∙_, ap}
+use mathlib.Core.Logic.{_≢_}
+use mathlib.Core.Bool.{Bool, true, false, not}
+use native.Mathlib.Omega.{arith}
+use native.Mathlib.Nat.{add-zero, add-suc, add-assoc}
+use native.Mathlib.Numerals.{add-one}
+use native.Mathlib.Decide.{ℕ-discrete}
+use borrow.Author.Tests.{eqb-true, eqb-false, eq-eqb, ne-eqb}
+use lib.Dec.{eqb}
+use Rattle.machine.specs.Tests.{_and_, some}
+use Rattle.machine.specs.TestLaws.{clash, Case, case, on, off, same, and-left, and-right, and-true, and-off, both, some-true, some-false}
+
+-- 1 where the test passes
+unfoldable pub bit : Bool → ℕ
+bit true = 1
+bit false = 0
+
+-- how many numbers below n pass
+unfoldable pub countIf : ℕ → (ℕ → Bool) → ℕ
+countIf zero t = 0
+countIf (suc n) t = countIf n t + bit (t n)
+
+pub count-zero : (t : ℕ → Bool) → countIf 0 t ≡ 0
+unfolding countIf
+count-zero t = refl
+
+pub count-yes : (n : ℕ) (t : ℕ → Bool) → t n ≡ true → countIf (n + 1) t ≡ countIf n t + 1
+unfolding countIf bit
+count-yes n t e = rw (add-one n, e)
+
+pub count-no : (n : ℕ) (t : ℕ → Bool) → t n ≡ false → countIf (n + 1) t ≡ countIf n t
+unfolding countIf bit
+count-no n t e = rw (add-one n, e) (add-zero (countIf n t))
+
+pub count-add : (m n : ℕ) (t : ℕ → Bool) → countIf (m + n) t ≡ countIf m t + countIf n (λ i. t (m + i))
+unfolding countIf
+count-add m zero t = ap (λ (k : ℕ). countIf k t) (add-zero m) ∙ sym (add-zero (countIf m t))
+count-add m (suc n) t =
+    ap (λ (k : ℕ). countIf k t) (add-suc m n) ∙ ap (λ (k : ℕ). k + bit (t (m + n))) (count-add m n t) ∙ add-assoc (countIf m t) (countIf n (λ i. t (m + i))) (bit (t (m + n)))
+
+pub count-ext : (n : ℕ) (t u : ℕ → Bool) → ((i : ℕ) → i < n → t i ≡ u i) → countIf n t ≡ countIf n u
+unfolding countIf
+count-ext zero t u h = refl
+count-ext (suc n) t u h = rw (count-ext n t u (λ i k. h i (omega arith)), h n (omega arith))
+
+pub count-none : (n : ℕ) (t : ℕ → Bool) → ((i : ℕ) → i < n → t i ≡ false) → countIf n t ≡ 0
+unfolding countIf bit
+count-none zero t h = refl
+count-none (suc n) t h = rw (count-none n t (λ i k. h i (omega arith)), h n (omega arith))
+
+pub count-le : (n : ℕ) (t : ℕ → Bool) → countIf n t ≤ n
+unfolding countIf bit
+count-le zero t = omega arith
+count-le (suc n) t = elim (case (t n)) [
+  | on e ↦ rw e (omega (arith, count-le n t))
+  | off e ↦ rw e (omega (arith, count-le n t))
+]
+
+-- the test with one number taken out
+without : ℕ → (ℕ → Bool) → ℕ → Bool
+without x t i = t i and not (eqb i x)
+
+without-same : (x : ℕ) (t : ℕ → Bool) → without x t x ≡ false
+unfolding without
+without-same x t = rw (eq-eqb x x refl) (and-off (t x))
+
+without-other : (x : ℕ) (t : ℕ → Bool) (i : ℕ) → i ≢ x → without x t i ≡ t i
+unfolding without
+without-other x t i n = same (t i and not (eqb i x)) (t i) (and-left (t i) _) (λ e. both _ _ e (ap not (ne-eqb i x n)))
+
+count-without : (n x : ℕ) (t : ℕ → Bool) → x < n → t x ≡ true → countIf n t ≡ countIf n (without x t) + 1
+unfolding countIf bit
+count-without zero x t l e = absurd (omega arith)
+count-without (suc n) x t l e = elim (ℕ-discrete x n) [
+  | yes q ↦
+      let a : countIf n t ≡ countIf n (without x t) = count-ext n t (without x t) (λ i h. sym (without-other x t i (λ z. omega arith))) in
+      let b : t n ≡ true = rw q at e in
+      let c : without x t n ≡ false = rw q (without-same n t) in
+      rw (b, c, a) (omega arith)
+  | no q ↦
+      let a : countIf n t ≡ countIf n (without x t) + 1 = count-without n x t (omega arith) e in
+      let b : without x t n ≡ t n = without-other x t n (λ z. q (sym z)) in
+      rw (b, a) (omega arith)
+]
+
+-- a map that takes the numbers below F that pass t, each to another, to numbers below n that pass u
+pub record Into (F n : ℕ) (t u : ℕ → Bool) (to : ℕ → ℕ) : Type 0 where
+  pub below : (f : ℕ) → f < F → t f ≡ true → to f < n
+  pub lands : (f : ℕ) → f < F → t f ≡ true → u (to f) ≡ true
+  pub apart : (f g : ℕ) → f < F → g < F → t f ≡ true → t g ≡ true → to f ≡ to g → f ≡ g
+
+-- one number fewer on both sides
+into-less : (F n : ℕ) (t u : ℕ → Bool) (to : ℕ → ℕ) → Into (suc F) n t u to → t F ≡ true → Into F n t (without (to F) u) to
+into-less F n t u to I e = record {
+  below = λ f l a. I .below f (omega arith) a;
+  lands = λ f l a. without-other (to F) u (to f) (λ z. omega (arith, I .apart f F (omega arith) (omega arith) a e z)) ∙ I .lands f (omega arith) a;
+  apart = λ f g l m a b. I .apart f g (omega arith) (omega arith) a b;
+}
+
+pub into-le : (F n : ℕ) (t u : ℕ → Bool) (to : ℕ → ℕ) → Into F n t u to → countIf F t ≤ countIf n u
+unfolding countIf bit
+into-le zero n t u to I = omega arith
+into-le (suc F) n t u to I = elim (case (t F)) [
+  | on e ↦
+      let a : countIf F t ≤ countIf n (without (to F) u) = into-le F n t (without (to F) u) to (into-less F n t u to I e) in
+      let b : countIf n u ≡ countIf n (without (to F) u) + 1 = count-without n (to F) u (I .below F (omega arith) e) (I .lands F (omega arith) e) in
+      rw e (omega arith)
+  | off e ↦
+      let a : countIf F t ≤ countIf n u = into-le F n t u to (record { below = λ f l b. I .below f (omega arith) b; lands = λ f l b. I .lands f (omega arith) b; apart = λ f g l m b c. I .apart f g (omega arith) (omega arith) b c }) in
+      rw e (omega arith)
+]
+
+-- where no more pass u than t, each of them is reached
+pub into-all : (F n : ℕ) (t u : ℕ → Bool) (to : ℕ → ℕ) → Into F n t u to → countIf n u ≤ countIf F t
+    → (j : ℕ) → j < n → u j ≡ true → (f : ℕ) × (f < F) × (t f ≡ true) × (to f ≡ j)
+into-all F n t u to I few j l e = elim (case (some F (λ f. t f and eqb (to f) j))) [
+  | on s ↦
+      let r = some-true F (λ f. t f and eqb (to f) j) s in
+      let b = and-true (t (r .0)) (eqb (to (r .0)) j) (r .2) in
+      (r .0, r .1, b .0, eqb-true (to (r .0)) j (b .1))
+  | off s ↦
+      let I' : Into F n t (without j u) to = record {
+        below = I .below;
+        lands = λ f m a. without-other j u (to f) (λ z. clash (sym (both (t f) (eqb (to f) j) a (eq-eqb (to f) j z)) ∙ some-false F (λ g. t g and eqb (to g) j) s f m)) ∙ I .lands f m a;
+        apart = I .apart;
+      } in
+      let a : countIf F t ≤ countIf n (without j u) = into-le F n t (without j u) to I' in
+      let b : countIf n u ≡ countIf n (without j u) + 1 = count-without n j u l e in
+      absurd (omega arith)
+]

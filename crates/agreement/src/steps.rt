@@ -1,0 +1,42 @@
+// Following parents by a table.
+use page::FrameIndex;
+ghost use mathlib.Core.Path.{_≡_};
+ghost use Prim.Native.Nat.{_≤_};
+ghost use Rattle.page.specs.Figures.{mostFrames};
+ghost use Rattle.agreement.specs.Deciding.{Decides};
+ghost use Rattle.agreement.specs.Fit.{entry, AllLead};
+ghost use Rattle.agreement.specs.Steps.{Below, Round};
+
+// Moves each of the first entries on to what its entry has: are all at frame 0 then.
+fn jump(table: &mut [u8; 64], count: usize) -> bool
+    requires { ⌜ (count ≤ mostFrames) × Below count (now table) ⌝ }
+    ensures { λ r. ⌜ Round count (now (table .entry)) (now (table .exit)) r ⌝ }
+{
+    let mut at_root = true;
+    let mut f: usize = 0;
+    while f < count {
+        let x = table[crate::wide::from_u8(table[f])];
+        table[f] = x;
+        if x != 0 {
+            at_root = false;
+        }
+        f += 1;
+    }
+    at_root
+}
+
+// Does following parents lead each frame to frame 0. Each round of jumps doubles the steps at least, so that 64 steps take six rounds.
+pub fn lead_to_root(parents: [u8; 64], count: usize) -> bool
+    requires { ⌜ (count ≤ mostFrames) × Below count parents × (entry parents 0 ≡ 0) ⌝ }
+    ensures { λ r. ⌜ Decides r (AllLead (entry parents) count) ⌝ }
+{
+    let mut table = parents;
+    let mut steps: usize = 1;
+    while steps < FrameIndex::MOST {
+        if jump(&mut table, count) {
+            return true;
+        }
+        steps = 2 * steps;
+    }
+    false
+}
