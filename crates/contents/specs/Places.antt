@@ -1,5 +1,5 @@
 -- Places of payloads: that an accepted show or peek names a place within its buffer. Assumes nothing.
-use Prim.Native.Nat.{ℕ, _+_, _*_, _-_, _<_, _≤_}
+use Prim.Native.Nat.{ℕ, _+_, _-_, _<_, _≤_}
 use mathlib.Core.Path.{_≡_, refl, sym, _∙_, ap}
 use mathlib.Core.Bool.{Bool, true, false}
 use mathlib.Core.List.{List}
@@ -13,12 +13,12 @@ use Rattle.page.specs.Figures.{payloadSize}
 use Rattle.page.specs.Page.{payloadAt, bytesFrom}
 use Rattle.machine.specs.declared.Handle.{Handle}
 use Rattle.machine.specs.declared.Place.{Place}
-use Rattle.machine.specs.Tests.{pick, Rule, firstBroken, verdict}
-use Rattle.machine.specs.TestLaws.{clash, pick-yes, pick-no, verdict-no, verdict-yes, Case, case, on, off}
+use Rattle.machine.specs.Tests.{Rule, firstBroken}
+use Rattle.machine.specs.TestLaws.{clash, pick-yes, pick-no, verdict-no, verdict-yes, case, on, off}
 use Rattle.machine.specs.Machine.{State, found}
-use Rattle.machine.specs.Answers.{Answer, refused, payload, Buffer, inFrames, inStore, Out, out, bufferIf, placeAnswer, Lent, lent, cut, Shown, handedBack}
+use Rattle.machine.specs.Answers.{Answer, refused, payload, Buffer, inFrames, inStore, out, bufferIf, placeAnswer, Lent, cut, Shown, handedBack}
 use Rattle.machine.specs.Calls.{decide, handleRules, pageRules, payloadPlace, showCall, peekCall}
-use Rattle.machine.specs.RuleLaws.{HandleKept, handle-kept, PageKept, page-kept, answer-no, answer-yes}
+use Rattle.machine.specs.RuleLaws.{handle-kept, page-kept, answer-no, answer-yes}
 
 -- no place, with a refusal's number
 abbrev pub refusedPlace : ℕ → Place

@@ -1,6 +1,5 @@
 -- The words of resident pages: each is a page number or names a frame. Assumes nothing.
 use Prim.Native.Nat.{ℕ, _<_, _≤_}
-use mathlib.Core.Path.{_≡_}
 use native.Mathlib.Omega.{arith}
 use native.Mathlib.Decide.{ℕ-discrete}
 use Rattle.page.specs.Figures.{mostPages, mostFrames, swizzleBit}

@@ -34,9 +34,9 @@ pub fn peek_place(pool: Pool, frames: &[u8], store: &[u8], page: PageNumber) -> 
     if refusal != 0 {
         return part::refused(refusal);
     }
-    let f = scan::find_frame(pool, page);
-    if f < pool.count as usize {
-        return part::in_frame(FrameIndex(f as u8));
+    let frame = scan::find_frame(pool, page);
+    if frame < pool.count as usize {
+        return part::in_frame(FrameIndex(frame as u8));
     }
     part::in_store(page)
 }
@@ -75,7 +75,8 @@ fn page_named(pool: Pool, w: u32) -> PageNumber
     ensures { λ r. ⌜ r ≡ pageNumber (plain (pageIn (pool .records)) w) ⌝ }
 {
     if page::word::is_number(w) {
-        return PageNumber(w as u16);
+        let number = w as u16;
+        return PageNumber(number);
     }
     let g = page::word::frame_in(w);
     let rec = pool.records[g];

@@ -1,7 +1,7 @@
 -- What calls share. No broken rule, as a record of facts; rules that code tests in parts; and what a call answers and leaves, by the refusal's number. Assumes nothing.
-use Prim.Native.Nat.{ℕ, _<_, _≤_}
+use Prim.Native.Nat.{ℕ, _<_}
 use mathlib.Core.Path.{_≡_, refl, sym, _∙_, ap}
-use mathlib.Core.Bool.{Bool, true, false}
+use mathlib.Core.Bool.{true}
 use mathlib.Core.List.{List, [], _∷_, _++_}
 use borrow.Author.Tests.{eqb-true, ltb-true}
 use lib.Dec.{eqb, ltb}
@@ -9,7 +9,7 @@ use Rattle.page.specs.declared.PageNumber.{PageNumber}
 use Rattle.page.specs.Figures.{slotCount}
 use Rattle.machine.specs.declared.Pool.{Pool}
 use Rattle.machine.specs.declared.Handle.{Handle}
-use Rattle.machine.specs.Tests.{_and_, pick, Rule, firstBroken, verdict}
+use Rattle.machine.specs.Tests.{_and_, Rule, firstBroken, verdict}
 use Rattle.machine.specs.TestLaws.{and-true, first-kept, pick-either, verdict-no, verdict-yes, numbered, broken-then, parts-kept}
 use Rattle.machine.specs.Machine.{State, recordAt, pageIn, occupied}
 use Rattle.machine.specs.AgreementFacts.{make-occupied}

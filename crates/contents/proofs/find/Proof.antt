@@ -1,5 +1,5 @@
 -- `contents::find` meets its contract: refused, resident, absent. Assumes nothing.
-use mathlib.Core.Path.{refl, sym, ap, _∙_}
+use mathlib.Core.Path.{refl, sym, _∙_}
 use native.Mathlib.Omega.{arith}
 use borrow.Author.Tests.{lt-ltb, le-ltb}
 use Rattle.machine.specs.TestLaws.{pick-yes, pick-no}

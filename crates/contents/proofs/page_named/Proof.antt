@@ -1,6 +1,6 @@
 -- `contents::page_named` meets its contract: a page number, or the page in the frame that a swizzled word names. Assumes nothing.
-use Prim.Native.Nat.{ℕ, _<_, _≤_}
-use mathlib.Core.Path.{_≡_, refl, sym, ap, _∙_}
+use Prim.Native.Nat.{_<_, _≤_}
+use mathlib.Core.Path.{refl, sym, ap, _∙_}
 use native.Mathlib.Omega.{arith}
 use borrow.Author.Tests.{ltb-true, ltb-false}
 use Rattle.page.specs.Figures.{swizzleBit}
@@ -20,8 +20,8 @@ high c = ltb-false _ swizzleBit (sym (c .before .is-number .ensures) ∙ c .if1 
 is-number-requires : tie.Need-is-number-requires
 is-number-requires c κs = search needs
 
-cast-t7 : tie.Need-cast-t7
-cast-t7 c = let l = c .before .before .pre .number (low c) in omega arith
+cast-number : tie.Need-cast-number
+cast-number c = let l = c .before .before .pre .number (low c) in omega arith
 
 returns : tie.Need-returns
 unfolding plain
@@ -45,7 +45,7 @@ page-named-spec =
     tie.close
     (tie.spec
     is-number-requires
-    cast-t7
+    cast-number
     returns
     frame-in-requires
     mul-rec

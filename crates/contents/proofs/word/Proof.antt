@@ -28,7 +28,7 @@ unfolding wordCall
 returns c = answer-no _ _ _ (c .before .slot-refusal .ensures) (c .if1 .taken)
 
 slot-word-requires : tie.Need-slot-word-requires
-slot-word-requires c κs = let k = kept c in (omega arith, k .slot)
+slot-word-requires c κs = let k = kept c in (omega arith, omega arith)
 
 page-named-requires : tie.Need-page-named-requires
 page-named-requires c κs = rw (c .slot-word .ensures) (resolvable (given (c .before .before .before .before .before)) (c .before .before .before .before .before .args .handle) (c .before .before .before .before .before .args .slot) (kept (c .before)))

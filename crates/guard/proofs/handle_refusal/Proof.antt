@@ -1,5 +1,5 @@
 -- `guard::handle_refusal` meets its contract: the rules of the pool, and then rule 3. Assumes nothing.
-use mathlib.Core.Path.{refl, sym, _∙_}
+use mathlib.Core.Path.{sym, _∙_}
 use mathlib.Core.List.{[], _∷_}
 use Rattle.machine.specs.TestLaws.{call-no, call-yes, kept-then, broken-here, none-broken}
 use Rattle.machine.specs.Machine.{State, state}

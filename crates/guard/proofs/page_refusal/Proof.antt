@@ -1,5 +1,5 @@
 -- `guard::page_refusal` meets its contract: the rules of the pool, and then rule 6. Assumes nothing.
-use mathlib.Core.Path.{refl, sym, _∙_}
+use mathlib.Core.Path.{sym, _∙_}
 use mathlib.Core.List.{[], _∷_}
 use borrow.Author.Tests.{lt-ltb, le-ltb}
 use Rattle.machine.specs.TestLaws.{kept-then, broken-here, none-broken}

@@ -1,9 +1,8 @@
 -- `guard::pool_refusal` meets its contract: rule 1, and then rule 2, for which rule 1 settles the sizes. Assumes nothing.
-use mathlib.Core.Path.{refl, sym, _∙_}
-use mathlib.Core.List.{[], _∷_}
+use mathlib.Core.Path.{sym, _∙_}
+use mathlib.Core.List.{[]}
 use Rattle.machine.specs.TestLaws.{call-no, call-yes, kept-then, broken-here, none-broken}
-use Rattle.machine.specs.Machine.{State, state}
-use Rattle.machine.specs.Rules.{rule2}
+use Rattle.machine.specs.Machine.{state}
 use Rattle.machine.specs.Ready.{Sized, lengths-of}
 use borrow.Author.Needs.{needs}
 use Rattle.guard.proofs.pool_refusal.Statement.{statement}

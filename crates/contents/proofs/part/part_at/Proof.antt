@@ -1,10 +1,7 @@
 -- `contents::part::part_at` meets its contract: refused, in the store, in the frames. Assumes nothing.
-use Prim.Native.Nat.{_+_, _≤_}
-use mathlib.Core.Path.{_≡_, refl}
 use native.Mathlib.Omega.{arith}
-use lib.ListN.{length}
 use Rattle.page.specs.Page.{bytesFrom}
-use Rattle.machine.specs.TestLaws.{Case, case, on, off}
+use Rattle.machine.specs.TestLaws.{case, on, off}
 use Rattle.machine.specs.Answers.{lent, cut}
 use Rattle.contents.specs.Places.{cut-part, hand-refused, hand-frames, hand-store}
 use borrow.Author.Needs.{needs}

@@ -1,0 +1,52 @@
+-- `changes::link` meets its contract. Assumes nothing.
+use native.Mathlib.Omega.{arith}
+use Rattle.machine.specs.Machine.{State, state}
+use Rattle.machine.specs.Calls.{linkCall}
+use Rattle.machine.specs.RuleLaws.{SlotKept, done-no}
+use Rattle.changes.specs.Changed.{linkable, link-done}
+use borrow.Author.Needs.{needs}
+use Rattle.changes.proofs.link.Statement.{statement}
+use Rattle.changes.proofs.link.Tie as tie
+
+abbrev given : tie.Start → State
+given c = let a = c .args in state (a .pool) (a .frames .now) (a .store .now)
+
+-- past the refusals
+kept : (c : tie.Else1) → SlotKept (given (c .before .before .before .before .before)) (c .before .before .before .before .before .args .handle) (c .before .before .before .before .before .args .slot)
+kept c = let a = c .before .before .before .before .before .args in linkable (given (c .before .before .before .before .before)) (a .handle) (a .slot) (a .page) (c .before .link-refusal .ensures) (c .if1 .left)
+
+link-refusal-requires : tie.Need-link-refusal-requires
+link-refusal-requires c κs = search needs
+
+same-length : tie.Need-same-length
+same-length c = search needs
+
+returns : tie.Need-returns
+unfolding linkCall
+returns c = done-no _ _ _ (c .before .link-refusal .ensures) (c .if1 .taken)
+
+word-requires : tie.Need-word-requires
+word-requires c κs = search needs
+
+put-in-slot-requires : tie.Need-put-in-slot-requires
+put-in-slot-requires c κs = let k = kept (c .before .before) in (omega arith, omega arith, omega arith)
+
+same-length-2 : tie.Need-same-length-2
+same-length-2 c = search needs
+
+returns-2 : tie.Need-returns-2
+returns-2 c =
+    let a = c .before .before .before .before .before .before .before .before .before .before .args in
+    link-done (given (c .before .before .before .before .before .before .before .before .before .before)) (a .handle) (a .slot) (a .page) (c .before .before .before .before .before .before .link-refusal .ensures) (c .before .before .before .before .before .if1 .left) (c .before .before .put-in-slot .ensures) (c .before .before .before .word .ensures)
+
+pub link-spec : {M : Type 1} → statement M
+link-spec =
+    tie.close
+    (tie.spec
+    link-refusal-requires
+    same-length
+    returns
+    word-requires
+    put-in-slot-requires
+    same-length-2
+    returns-2)

@@ -1,0 +1,88 @@
+-- `changes::refusals::link_refusal` meets its contract: the rules of the slot, and then rules 6, 8 and 9. Assumes nothing.
+use Prim.Native.Nat.{ℕ, _≤_, _<_}
+use mathlib.Core.Path.{_≡_, sym, ap, _∙_}
+use mathlib.Core.Bool.{true, false, not}
+use mathlib.Core.List.{List, [], _∷_}
+use native.Mathlib.Omega.{arith}
+use borrow.Author.Tests.{lt-ltb, le-ltb, eq-eqb, ne-eqb}
+use lib.Dec.{ltb}
+use Rattle.machine.specs.Tests.{_and_, Rule}
+use Rattle.machine.specs.TestLaws.{and-yes, and-no, kept-then, broken-here, none-broken}
+use Rattle.machine.specs.Machine.{State, state}
+use Rattle.machine.specs.Rules.{wordOf, rule6-link, rule8, rule9}
+use Rattle.machine.specs.RuleLaws.{SlotKept, slot-kept, slot-stops, slot-passes}
+use borrow.Author.Needs.{needs}
+use Rattle.changes.proofs.refusals.link_refusal.Statement.{statement}
+use Rattle.changes.proofs.refusals.link_refusal.Tie as tie
+
+abbrev given : tie.Start → State
+given c = let a = c .args in state (a .pool) (a .frames .now) (a .store .now)
+
+-- what comes after the rules of the slot
+abbrev rest : tie.Start → List Rule
+rest c = let s = given c in let q = c .args .page .0 in rule6-link s q ∷ rule8 (wordOf s (c .args .handle) (c .args .slot)) ∷ rule9 s q ∷ []
+
+-- rule 6: the page number is 0; it isn't below N; it is a page's
+no-page : (q n : ℕ) → q ≡ 0 → (ltb 0 q and ltb q n) ≡ false
+no-page q n e = sym (and-no (ltb q n) (le-ltb 0 q (omega arith)))
+
+past-pages : (q n : ℕ) → (q ≡ 0 → ⊥) → n ≤ q → (ltb 0 q and ltb q n) ≡ false
+past-pages q n h l = sym (and-yes (lt-ltb 0 q (omega arith)) (sym (le-ltb q n l)))
+
+a-page : (q n : ℕ) → (q ≡ 0 → ⊥) → q < n → (ltb 0 q and ltb q n) ≡ true
+a-page q n h l = sym (and-yes (lt-ltb 0 q (omega arith)) (sym (lt-ltb q n l)))
+
+-- past the rules of the slot
+kept : (c : tie.Else1) → SlotKept (given (c .before .before .before .before)) (c .before .before .before .before .args .handle) (c .before .before .before .before .args .slot)
+kept c = slot-kept (given (c .before .before .before .before)) (c .before .before .before .before .args .handle) (c .before .before .before .before .args .slot) (sym (c .before .slot-refusal .ensures) ∙ c .if1 .left)
+
+slot-refusal-requires : tie.Need-slot-refusal-requires
+slot-refusal-requires c κs = search needs
+
+returns : tie.Need-returns
+returns c = slot-stops (given (c .before .before .before .before)) (c .before .before .before .before .args .handle) (c .before .before .before .before .args .slot) (rest (c .before .before .before .before)) (c .before .slot-refusal .ensures) (c .if1 .taken)
+
+returns-2 : tie.Need-returns-2
+returns-2 c =
+    slot-passes (given (c .before .before .before .before .before .before)) (c .before .before .before .before .before .before .args .handle) (c .before .before .before .before .before .before .args .slot) (rest (c .before .before .before .before .before .before)) (c .before .before .before .slot-refusal .ensures) (c .before .before .if1 .left)
+    (sym (broken-here 6 _ (no-page _ _ (c .if2 .taken))))
+
+returns-3 : tie.Need-returns-3
+returns-3 c =
+    slot-passes (given (c .before .before .before .before .before .before .before .before .before)) (c .before .before .before .before .before .before .before .before .before .args .handle) (c .before .before .before .before .before .before .before .before .before .args .slot) (rest (c .before .before .before .before .before .before .before .before .before)) (c .before .before .before .before .before .before .slot-refusal .ensures) (c .before .before .before .before .before .if1 .left)
+    (sym (broken-here 6 _ (past-pages _ _ (c .before .before .before .if2 .left) (c .if3 .taken))))
+
+slot-word-requires : tie.Need-slot-word-requires
+slot-word-requires c κs = let k = kept (c .before .before .before .before .before) in (omega arith, k .slot)
+
+returns-4 : tie.Need-returns-4
+returns-4 c =
+    slot-passes (given (c .before .before .before .before .before .before .before .before .before .before .before)) (c .before .before .before .before .before .before .before .before .before .before .before .args .handle) (c .before .before .before .before .before .before .before .before .before .before .before .args .slot) (rest (c .before .before .before .before .before .before .before .before .before .before .before)) (c .before .before .before .before .before .before .before .before .slot-refusal .ensures) (c .before .before .before .before .before .before .before .if1 .left)
+    (sym (kept-then 6 _ (a-page _ _ (c .before .before .before .before .before .if2 .left) (c .before .before .if3 .left)) ∙ broken-here 8 _ (ne-eqb _ 0 (λ z. c .if4 .taken (c .before .slot-word .ensures ∙ z)))))
+
+is-named-requires : tie.Need-is-named-requires
+is-named-requires c κs = (kept (c .before .before .before .before .before .before .before) .kept, let z = c .before .before .before .before .before .if2 .left in omega arith)
+
+returns-5 : tie.Need-returns-5
+returns-5 c =
+    slot-passes (given (c .before .before .before .before .before .before .before .before .before .before .before .before .before)) (c .before .before .before .before .before .before .before .before .before .before .before .before .before .args .handle) (c .before .before .before .before .before .before .before .before .before .before .before .before .before .args .slot) (rest (c .before .before .before .before .before .before .before .before .before .before .before .before .before)) (c .before .before .before .before .before .before .before .before .before .before .slot-refusal .ensures) (c .before .before .before .before .before .before .before .before .before .if1 .left)
+    (sym (kept-then 6 _ (a-page _ _ (c .before .before .before .before .before .before .before .if2 .left) (c .before .before .before .before .if3 .left)) ∙ kept-then 8 _ (eq-eqb _ 0 (sym (c .before .before .before .slot-word .ensures) ∙ c .before .before .if4 .left)) ∙ broken-here 9 [] (ap not (sym (c .before .is-named .ensures) ∙ c .if5 .taken))))
+
+returns-6 : tie.Need-returns-6
+returns-6 c =
+    slot-passes (given (c .before .before .before .before .before .before .before .before .before .before .before .before .before)) (c .before .before .before .before .before .before .before .before .before .before .before .before .before .args .handle) (c .before .before .before .before .before .before .before .before .before .before .before .before .before .args .slot) (rest (c .before .before .before .before .before .before .before .before .before .before .before .before .before)) (c .before .before .before .before .before .before .before .before .before .before .slot-refusal .ensures) (c .before .before .before .before .before .before .before .before .before .if1 .left)
+    (sym (kept-then 6 _ (a-page _ _ (c .before .before .before .before .before .before .before .if2 .left) (c .before .before .before .before .if3 .left)) ∙ kept-then 8 _ (eq-eqb _ 0 (sym (c .before .before .before .slot-word .ensures) ∙ c .before .before .if4 .left)) ∙ kept-then 9 [] (ap not (sym (c .before .is-named .ensures) ∙ c .if5 .left)) ∙ none-broken))
+
+pub link-refusal-spec : {M : Type 1} → statement M
+link-refusal-spec =
+    tie.close
+    (tie.spec
+    slot-refusal-requires
+    returns
+    returns-2
+    returns-3
+    slot-word-requires
+    returns-4
+    is-named-requires
+    returns-5
+    returns-6)

@@ -1,0 +1,41 @@
+-- `changes::refusals::write_refusal` meets its contract: the rules of the handle, and then rule 5. Assumes nothing.
+use mathlib.Core.Path.{sym, _∙_}
+use mathlib.Core.List.{List, [], _∷_}
+use Rattle.machine.specs.Tests.{Rule}
+use Rattle.machine.specs.TestLaws.{call-no, call-yes, kept-then, broken-here, none-broken}
+use Rattle.machine.specs.Machine.{State, state}
+use Rattle.machine.specs.Rules.{rule5}
+use Rattle.machine.specs.RuleLaws.{handle-stops, handle-passes}
+use borrow.Author.Needs.{needs}
+use Rattle.changes.proofs.refusals.write_refusal.Statement.{statement}
+use Rattle.changes.proofs.refusals.write_refusal.Tie as tie
+
+abbrev given : tie.Start → State
+given c = let a = c .args in state (a .pool) (a .frames .now) (a .store .now)
+
+-- what comes after the rules of the handle
+abbrev rest : tie.Start → List Rule
+rest c = rule5 (c .args .offset) (c .args .n) ∷ []
+
+handle-refusal-requires : tie.Need-handle-refusal-requires
+handle-refusal-requires c κs = search needs
+
+returns : tie.Need-returns
+returns c = handle-stops (given (c .before .before .before .before)) (c .before .before .before .before .args .handle) (rest (c .before .before .before .before)) (c .before .handle-refusal .ensures) (c .if1 .taken)
+
+range-fits-requires : tie.Need-range-fits-requires
+range-fits-requires c κs = search needs
+
+returns-2 : tie.Need-returns-2
+returns-2 c =
+    handle-passes (given (c .before .before .before .before .before .before)) (c .before .before .before .before .before .before .args .handle) (rest (c .before .before .before .before .before .before)) (c .before .before .before .handle-refusal .ensures) (c .before .before .if1 .left)
+    (sym (broken-here 5 [] (call-no (c .before .range-fits .ensures) (c .if2 .taken))))
+
+returns-3 : tie.Need-returns-3
+returns-3 c =
+    handle-passes (given (c .before .before .before .before .before .before)) (c .before .before .before .before .before .before .args .handle) (rest (c .before .before .before .before .before .before)) (c .before .before .before .handle-refusal .ensures) (c .before .before .if1 .left)
+    (sym (kept-then 5 [] (call-yes (c .before .range-fits .ensures) (c .if2 .left)) ∙ none-broken))
+
+pub write-refusal-spec : {M : Type 1} → statement M
+write-refusal-spec =
+    tie.close (tie.spec handle-refusal-requires returns range-fits-requires returns-2 returns-3)

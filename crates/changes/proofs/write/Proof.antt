@@ -1,0 +1,94 @@
+-- `changes::write` meets its contract: refused, no bytes, bytes put back into the middle of the frames. Assumes nothing.
+use native.Mathlib.Omega.{arith}
+use lib.ListN.{length}
+use Rattle.machine.specs.Machine.{State, state}
+use Rattle.machine.specs.Calls.{writeCall}
+use Rattle.machine.specs.RuleLaws.{done-no}
+use Rattle.changes.specs.Changed.{Writable, writable, put-back, write-nothing, write-bytes}
+use borrow.Author.Needs.{needs}
+use Rattle.changes.proofs.write.Statement.{statement}
+use Rattle.changes.proofs.write.Tie as tie
+
+abbrev given : tie.Start → State
+given c = let a = c .args in state (a .pool) (a .frames .now) (a .store .now)
+
+-- past the refusals
+ok : (c : tie.Else1) → let a = c .before .before .before .before .before .before .args in Writable (given (c .before .before .before .before .before .before)) (a .handle) (a .offset) (length (a .bytes .now))
+ok c = let a = c .before .before .before .before .before .before .args in writable (given (c .before .before .before .before .before .before)) (a .handle) (a .offset) (length (a .bytes .now)) (c .before .write-refusal .ensures) (c .if1 .left)
+
+write-refusal-requires : tie.Need-write-refusal-requires
+write-refusal-requires c κs = search needs
+
+same-length : tie.Need-same-length
+same-length c = search needs
+
+returns : tie.Need-returns
+unfolding writeCall
+returns c = done-no _ _ _ (c .before .write-refusal .ensures) (c .if1 .taken)
+
+same-length-2 : tie.Need-same-length-2
+same-length-2 c = search needs
+
+returns-2 : tie.Need-returns-2
+returns-2 c = let a = c .before .before .before .before .before .before .before .args in write-nothing (given (c .before .before .before .before .before .before .before)) (a .handle) (a .offset) (a .bytes .now) (c .before .before .write-refusal .ensures) (c .before .if1 .left) (c .if2 .taken)
+
+cast-f : tie.Need-cast-f
+cast-f c = search needs
+
+mul-start : tie.Need-mul-start
+mul-start c = search needs
+
+add-start : tie.Need-add-start
+add-start c = search needs
+
+add-start-2 : tie.Need-add-start-2
+add-start-2 c = let h = ok (c .before .before) in omega arith
+
+add-copy-into : tie.Need-add-copy-into
+add-copy-into c = let h = ok (c .before .before) in omega arith
+
+sub-copy-into : tie.Need-sub-copy-into
+sub-copy-into c = search needs
+
+part-copy-into-start : tie.Need-part-copy-into-start
+part-copy-into-start c = search needs
+
+part-copy-into-end : tie.Need-part-copy-into-end
+part-copy-into-end c = let h = ok (c .before .before) in omega arith
+
+copy-into-requires : tie.Need-copy-into-requires
+copy-into-requires c κs = search needs
+
+mark-dirty-requires : tie.Need-mark-dirty-requires
+mark-dirty-requires c κs = let h = ok (c .before .before .before .before .before .before) in omega arith
+
+same-length-3 : tie.Need-same-length-3
+same-length-3 c = search needs
+
+returns-3 : tie.Need-returns-3
+returns-3 c =
+    let a = c .before .before .before .before .before .before .before .before .before .before .before .before .before .args in
+    write-bytes (given (c .before .before .before .before .before .before .before .before .before .before .before .before .before)) (a .handle) (a .offset) (a .bytes .now) (c .before .before .before .before .before .before .before .before .write-refusal .ensures) (c .before .before .before .before .before .before .before .if1 .left) (c .before .before .before .before .before .before .if2 .left) (c .mark-dirty .ensures)
+    (put-back (a .frames .now) (a .handle .frame .0) (a .offset) _ (a .bytes .now) (c .before .before .before .copy-into .ensures))
+
+pub write-spec : {M : Type 1} → statement M
+write-spec =
+    tie.close
+    (tie.spec
+    write-refusal-requires
+    same-length
+    returns
+    same-length-2
+    returns-2
+    cast-f
+    mul-start
+    add-start
+    add-start-2
+    add-copy-into
+    sub-copy-into
+    part-copy-into-start
+    part-copy-into-end
+    copy-into-requires
+    mark-dirty-requires
+    same-length-3
+    returns-3)

@@ -1,0 +1,102 @@
+-- What write, link and unlink leave, from what the code put where. Assumes nothing.
+use Prim.Native.Nat.{ℕ, _+_, _-_, _≤_}
+use mathlib.Core.Path.{_≡_, refl, sym, _∙_, ap}
+use mathlib.Core.List.{List, [], _∷_, append-assoc}
+use native.Mathlib.Omega.{arith}
+use native.Mathlib.Nat.{le-refl}
+use borrow.Author.Tests.{eq-eqb, ne-eqb, leb-true}
+use borrow.Rule.Slice.PartMut.{putMid}
+use lib.Dec.{leb}
+use lib.ListN.{length, take, drop}
+use lib.Seq.{take-all, drop-drop, set-getD}
+use Rattle.page.specs.declared.PageNumber.{PageNumber}
+use Rattle.page.specs.Figures.{payloadSize}
+use Rattle.page.specs.Page.{payloadAt, putPayload, putPayload-none, putSlot}
+use Rattle.machine.specs.declared.Handle.{Handle}
+use Rattle.machine.specs.declared.Pool.{Pool}
+use Rattle.machine.specs.Tests.{firstBroken}
+use Rattle.machine.specs.TestLaws.{and-true, first-kept, pick-yes, pick-no}
+use Rattle.machine.specs.Machine.{State, state, blank, recordAt, withRecord, withRecords, dirtied}
+use Rattle.machine.specs.Rules.{rangeFits, wordOf, rule5, rule6-link, rule7, rule8, rule9, rule10}
+use Rattle.machine.specs.Answers.{out, doneAnswer}
+use Rattle.machine.specs.Calls.{writeRules, linkRules, unlinkRules, written, writeCall, linkCall, unlinkCall}
+use Rattle.machine.specs.RuleLaws.{HandleKept, SlotKept, handle-parts, slot-parts, done-yes}
+
+-- the records with the page in frame f marked dirty
+abbrev pub madeDirty : Pool → ℕ → Pool
+madeDirty p f = withRecord p f (dirtied (recordAt (p .records) f))
+
+-- r and gs are p and fs with the word w in slot k of frame f, whose page is then dirty
+pub record SlotPut (p : Pool) (fs : List ℕ) (f k w : ℕ) (r : Pool) (gs : List ℕ) : Type 0 where
+  pub dirty : r ≡ madeDirty p f
+  pub word : gs ≡ putSlot fs f k w
+
+-- ---- no rule is broken
+
+pub record Writable (s : State) (h : Handle) (offset n : ℕ) : Type 0 where
+  pub kept : HandleKept s h
+  pub from : offset ≤ payloadSize
+  pub size : n ≤ payloadSize - offset
+
+-- m is the refusal that the code computed
+pub writable : (s : State) (h : Handle) (offset n : ℕ) {m : ℕ} → m ≡ firstBroken (writeRules s h offset n) → m ≡ 0 → Writable s h offset n
+unfolding rangeFits
+writable s h offset n e z =
+    let a = handle-parts s h (rule5 offset n ∷ []) (sym e ∙ z) in
+    let b = and-true (leb offset payloadSize) (leb n (payloadSize - offset)) (first-kept 4 (rangeFits offset n) [] (a .1) .0) in
+    record { kept = a .0; from = leb-true offset payloadSize (b .0); size = leb-true n (payloadSize - offset) (b .1) }
+
+pub linkable : (s : State) (h : Handle) (k : ℕ) (q : PageNumber) {m : ℕ} → m ≡ firstBroken (linkRules s h k q) → m ≡ 0 → SlotKept s h k
+linkable s h k q e z = slot-parts s h k (rule6-link s (q .0) ∷ rule8 (wordOf s h k) ∷ rule9 s (q .0) ∷ []) (sym e ∙ z) .0
+
+pub unlinkable : (s : State) (h : Handle) (k : ℕ) {m : ℕ} → m ≡ firstBroken (unlinkRules s h k) → m ≡ 0 → SlotKept s h k
+unlinkable s h k e z = slot-parts s h k (rule7 (wordOf s h k) ∷ rule10 (wordOf s h k) ∷ []) (sym e ∙ z) .0
+
+-- ---- what is left
+
+same-state : {p q : Pool} {fs gs : List ℕ} (st : List ℕ) → p ≡ q → fs ≡ gs → state p fs st ≡ state q gs st
+same-state st e h = cc
+
+-- the part of the frames from a payload offset on, lent for n bytes and come back as ys
+pub put-back : (fs : List ℕ) (f offset : ℕ) (ys bytes : List ℕ) → ys ≡ bytes
+    → putMid (payloadAt f + offset) (payloadAt f + offset + length bytes - (payloadAt f + offset)) fs ys ≡ putPayload fs f offset bytes
+unfolding putPayload
+put-back fs f offset ys bytes e =
+    let a : ℕ = payloadAt f + offset in
+    let k : a + length bytes - a ≡ length bytes = omega arith in
+    let t : take (length bytes) bytes ≡ bytes = take-all (length bytes) bytes (le-refl _) in
+    rw (e, k, drop-drop (length bytes) a fs, t, append-assoc (take a fs) bytes (drop (a + length bytes) fs))
+
+-- no bytes, at whatever frame
+nothing-written : (s : State) (f offset : ℕ) (bytes : List ℕ) → length bytes ≡ 0 → s ≡ written s f offset bytes
+nothing-written s f offset bytes e =
+    let r = recordAt (s .pool .records) f in
+    same-state (s .store)
+    (ap (withRecords (s .pool)) (sym (set-getD (s .pool .records) f blank)) ∙ ap (withRecord (s .pool) f) (pick-yes (dirtied r) (eq-eqb (length bytes) 0 e) refl))
+    (sym (putPayload-none (s .frames) f offset bytes e))
+
+bytes-written : (s : State) (f offset : ℕ) (bytes : List ℕ) {p : Pool} {fs : List ℕ} → (length bytes ≡ 0 → ⊥) → p ≡ madeDirty (s .pool) f → fs ≡ putPayload (s .frames) f offset bytes → state p fs (s .store) ≡ written s f offset bytes
+bytes-written s f offset bytes n e h =
+    let r = recordAt (s .pool .records) f in
+    same-state (s .store) (e ∙ ap (withRecord (s .pool) f) (pick-no r (ne-eqb (length bytes) 0 n) refl)) h
+
+-- ---- the accepted calls, where m is the refusal that the code computed
+
+module _ (s : State) (h : Handle) (offset : ℕ) (bytes : List ℕ) {m : ℕ} where
+  pub write-nothing : m ≡ firstBroken (writeRules s h offset (length bytes)) → m ≡ 0 → length bytes ≡ 0 → out (doneAnswer 0) s ≡ writeCall s h offset bytes
+  unfolding writeCall
+  write-nothing e z n = done-yes s (writeRules s h offset (length bytes)) e z (nothing-written s (h .frame .0) offset bytes n)
+
+  pub write-bytes : {p : Pool} {fs : List ℕ} → m ≡ firstBroken (writeRules s h offset (length bytes)) → m ≡ 0 → (length bytes ≡ 0 → ⊥)
+      → p ≡ madeDirty (s .pool) (h .frame .0) → fs ≡ putPayload (s .frames) (h .frame .0) offset bytes → out (doneAnswer 0) (state p fs (s .store)) ≡ writeCall s h offset bytes
+  unfolding writeCall
+  write-bytes e z n i j = done-yes s (writeRules s h offset (length bytes)) e z (bytes-written s (h .frame .0) offset bytes n i j)
+
+module _ (s : State) (h : Handle) (k : ℕ) {m : ℕ} {p : Pool} {fs : List ℕ} where
+  pub link-done : (q : PageNumber) {w : ℕ} → m ≡ firstBroken (linkRules s h k q) → m ≡ 0 → SlotPut (s .pool) (s .frames) (h .frame .0) k w p fs → w ≡ q .0 → out (doneAnswer 0) (state p fs (s .store)) ≡ linkCall s h k q
+  unfolding linkCall
+  link-done q e z c i = done-yes s (linkRules s h k q) e z (same-state (s .store) (c .dirty) (c .word ∙ ap (putSlot (s .frames) (h .frame .0) k) i))
+
+  pub unlink-done : m ≡ firstBroken (unlinkRules s h k) → m ≡ 0 → SlotPut (s .pool) (s .frames) (h .frame .0) k 0 p fs → out (doneAnswer 0) (state p fs (s .store)) ≡ unlinkCall s h k
+  unfolding unlinkCall
+  unlink-done e z c = done-yes s (unlinkRules s h k) e z (same-state (s .store) (c .dirty) (c .word))

@@ -1,0 +1,88 @@
+// The refusals of write, link and unlink: the number of the first broken rule, 0 for none.
+use machine::Handle;
+use machine::Pool;
+use page::PageNumber;
+ghost use mathlib.Core.Path.{_≡_};
+ghost use Rattle.machine.specs.Tests.{firstBroken};
+ghost use Rattle.machine.specs.Machine.{state};
+ghost use Rattle.machine.specs.Rules.{rangeFits};
+ghost use Rattle.machine.specs.Calls.{writeRules, linkRules, unlinkRules};
+
+// Rule 5: does a payload have room for so many bytes from the offset on.
+fn range_fits(offset: usize, n: usize) -> bool
+    ensures { λ r. ⌜ r ≡ rangeFits offset n ⌝ }
+{
+    if PageNumber::PAYLOAD_SIZE < offset {
+        return false;
+    }
+    n <= PageNumber::PAYLOAD_SIZE - offset
+}
+
+// Rules 1 to 3 and 5.
+pub fn write_refusal(
+    pool: Pool,
+    frames: &[u8],
+    store: &[u8],
+    handle: Handle,
+    offset: usize,
+    n: usize,
+) -> u8
+    ensures { λ r. ⌜ r ≡ firstBroken (writeRules (state pool (now (frames .entry)) (now (store .entry))) handle offset n) ⌝ }
+{
+    let refusal = guard::handle_refusal(pool, frames, store, handle);
+    if refusal != 0 {
+        return refusal;
+    }
+    if !range_fits(offset, n) {
+        return 5;
+    }
+    0
+}
+
+// Rules 1 to 4, 6, 8 and 9.
+pub fn link_refusal(
+    pool: Pool,
+    frames: &[u8],
+    store: &[u8],
+    handle: Handle,
+    slot: usize,
+    page: PageNumber,
+) -> u8
+    ensures { λ r. ⌜ r ≡ firstBroken (linkRules (state pool (now (frames .entry)) (now (store .entry))) handle slot page) ⌝ }
+{
+    let refusal = guard::slot_refusal(pool, frames, store, handle, slot);
+    if refusal != 0 {
+        return refusal;
+    }
+    if page.0 == 0 {
+        return 6;
+    }
+    if pool.pages <= page.0 {
+        return 6;
+    }
+    if guard::slot_word(frames, handle.frame, slot) != 0 {
+        return 8;
+    }
+    if naming::is_named(pool, frames, store, page) {
+        return 9;
+    }
+    0
+}
+
+// Rules 1 to 4, 7 and 10.
+pub fn unlink_refusal(pool: Pool, frames: &[u8], store: &[u8], handle: Handle, slot: usize) -> u8
+    ensures { λ r. ⌜ r ≡ firstBroken (unlinkRules (state pool (now (frames .entry)) (now (store .entry))) handle slot) ⌝ }
+{
+    let refusal = guard::slot_refusal(pool, frames, store, handle, slot);
+    if refusal != 0 {
+        return refusal;
+    }
+    let w = guard::slot_word(frames, handle.frame, slot);
+    if w == 0 {
+        return 7;
+    }
+    if !page::word::is_number(w) {
+        return 10;
+    }
+    0
+}
