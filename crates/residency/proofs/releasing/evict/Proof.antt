@@ -1,4 +1,4 @@
--- `residency::evict` meets its contract. Assumes nothing.
+-- `residency::releasing::evict` meets its contract. Assumes nothing.
 use mathlib.Core.Path.{sym, _∙_}
 use native.Mathlib.Omega.{arith}
 use Rattle.machine.specs.TestLaws.{call-no, call-yes}
@@ -8,8 +8,8 @@ use Rattle.machine.specs.Ready.{ready}
 use Rattle.machine.specs.RuleLaws.{PageKept, page-kept, page-stops, done-no}
 use Rattle.residency.specs.CallLaws.{evict-absent, evict-shut, evict-done}
 use borrow.Author.Needs.{needs}
-use Rattle.residency.proofs.evict.Statement.{statement}
-use Rattle.residency.proofs.evict.Tie as tie
+use Rattle.residency.proofs.releasing.evict.Statement.{statement}
+use Rattle.residency.proofs.releasing.evict.Tie as tie
 
 -- past rules 1, 2 and 6
 ok : (c : tie.Else1) → let a = c .before .before .before .before .before .before .args in PageKept (state (a .t1) (a .frames .now) (a .store .now)) (a .page)

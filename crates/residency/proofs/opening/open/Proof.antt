@@ -1,4 +1,4 @@
--- `residency::open` meets its contract. Assumes nothing.
+-- `residency::opening::open` meets its contract. Assumes nothing.
 use native.Mathlib.Omega.{arith}
 use Prim.Native.Nat.{_/_}
 use lib.ListN.{length}
@@ -7,8 +7,8 @@ use Rattle.machine.specs.TestLaws.{call-no, call-yes}
 use Rattle.machine.specs.Ready.{Lengths, lengths-of}
 use Rattle.residency.specs.CallLaws.{open-unfit, open-unsound, open-done, copied-first}
 use borrow.Author.Needs.{needs}
-use Rattle.residency.proofs.open.Statement.{statement}
-use Rattle.residency.proofs.open.Tie as tie
+use Rattle.residency.proofs.opening.open.Statement.{statement}
+use Rattle.residency.proofs.opening.open.Tie as tie
 
 -- past rule 1
 fits : (c : tie.Else1) → let a = c .before .before .before .before .before .args in Lengths (length (a .frames .now) / pageSize) (length (a .store .now) / pageSize) (a .frames .now) (a .store .now)

@@ -1,12 +1,12 @@
--- `residency::unfix` meets its contract. Assumes nothing.
+-- `residency::releasing::unfix` meets its contract. Assumes nothing.
 use mathlib.Core.Path.{refl, sym, _∙_}
 use native.Mathlib.Omega.{arith}
 use Rattle.machine.specs.Machine.{state}
 use Rattle.machine.specs.Calls.{unfixCall}
 use Rattle.machine.specs.RuleLaws.{HandleKept, handle-kept, done-no, done-yes}
 use borrow.Author.Needs.{needs}
-use Rattle.residency.proofs.unfix.Statement.{statement}
-use Rattle.residency.proofs.unfix.Tie as tie
+use Rattle.residency.proofs.releasing.unfix.Statement.{statement}
+use Rattle.residency.proofs.releasing.unfix.Tie as tie
 
 -- past the refusals
 ok : (c : tie.Else1) → let a = c .before .before .before .before .args in HandleKept (state (a .t1) (a .frames .now) (a .store .now)) (a .handle)

@@ -1,8 +1,8 @@
--- `residency::records::opened_pool` meets its contract. Assumes nothing.
+-- `residency::opening::opened_pool` meets its contract. Assumes nothing.
 use Rattle.machine.specs.Machine.{openedPool}
 use borrow.Author.Needs.{needs}
-use Rattle.residency.proofs.records.opened_pool.Statement.{statement}
-use Rattle.residency.proofs.records.opened_pool.Tie as tie
+use Rattle.residency.proofs.opening.opened_pool.Statement.{statement}
+use Rattle.residency.proofs.opening.opened_pool.Tie as tie
 
 blank-pool-requires : tie.Need-blank-pool-requires
 blank-pool-requires c κs = search needs

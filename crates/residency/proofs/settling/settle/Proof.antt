@@ -1,11 +1,11 @@
--- `residency::settle` meets its contract. Assumes nothing.
+-- `residency::settling::settle` meets its contract. Assumes nothing.
 use mathlib.Core.Path.{sym, _∙_}
 use Rattle.machine.specs.Calls.{settleCall}
 use Rattle.machine.specs.Ready.{rules-kept, ready}
 use Rattle.machine.specs.RuleLaws.{done-no, done-yes}
 use borrow.Author.Needs.{needs}
-use Rattle.residency.proofs.settle.Statement.{statement}
-use Rattle.residency.proofs.settle.Tie as tie
+use Rattle.residency.proofs.settling.settle.Statement.{statement}
+use Rattle.residency.proofs.settling.settle.Tie as tie
 
 pool-refusal-requires : tie.Need-pool-refusal-requires
 pool-refusal-requires c κs = search needs
