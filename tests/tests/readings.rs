@@ -1,6 +1,6 @@
 //! Single consequences of document 01, each with the figures that show it.
 use pool_tests::calls::{Answer, Call};
-use pool_tests::pool::{Buffer, Machine, Place, UnderTest};
+use pool_tests::pool::{Buffer, Fixed, Machine, Place, UnderTest};
 use pool_tests::records::{FrameRecord, Handle, Pool, PAGE_SIZE, SWIZZLE_BIT};
 use pool_tests::trial::Trial;
 
@@ -262,7 +262,8 @@ fn an_empty_frame_at_or_after_the_hand() {
         let mut trial = Trial::open(4, 16, &[(0, 1, 5)]);
         trial.state.pool.hand = hand;
         let root = trial.root();
-        assert_eq!(trial.fix(root, 1).frame, frame, "hand {hand}");
+        let fixed = Answer::Fixed(Fixed { handle: Handle { frame, page: 5 }, looks: 0 });
+        assert_eq!(trial.call(Call::Fix(root, 1)), fixed, "hand {hand}");
         assert_eq!(trial.state.pool.hand, hand);
     }
 }
@@ -287,6 +288,18 @@ fn a_page_with_a_resident_child_stays() {
     assert_eq!(trial.number(Call::Fix(root, 1)), 15);
     trial.accept(Call::Unfix(two));
     assert_eq!(trial.fix(root, 1).frame, two.frame);
+}
+
+#[test]
+fn an_evicted_page_leaves_its_bytes() {
+    let (mut trial, [_, five, _]) = two_children();
+    trial.accept(Call::Write(five, 0, vec![9]));
+    trial.accept(Call::Unfix(five));
+    trial.accept(Call::Evict(5));
+    assert_eq!(*trial.record(1), FrameRecord::EMPTY);
+    assert_eq!(trial.state.frames[PAGE_SIZE + 64], 9);
+    assert_eq!(trial.state.store[5 * PAGE_SIZE + 64], 9);
+    assert_eq!(trial.state.pool.hand, 0);
 }
 
 /// Neither loading nor evicting a page dirties its parent, and a clean page isn't written.
