@@ -1,16 +1,16 @@
 -- What a record lists: refused by rule 17, or by the contract of its call. Assumes nothing.
 use Prim.Native.Nat.{ℕ, _+_, _≤_}
 use mathlib.Core.Path.{_≡_, refl, sym, _∙_, ap}
-use mathlib.Core.Bool.{Bool, true, false}
-use mathlib.Core.List.{List, [], _∷_}
+use mathlib.Core.Bool.{true, false}
+use mathlib.Core.List.{List, []}
 use native.Mathlib.Omega.{arith}
 use native.Mathlib.Nat.{le-antisymm}
 use lib.Dec.{eqb, leb}
 use borrow.Author.Tests.{eqb-true, leb-true}
 use Rattle.page.specs.declared.PageNumber.{PageNumber}
 use Rattle.machine.specs.declared.Pool.{Pool}
-use Rattle.machine.specs.Tests.{pick, verdict, firstBroken, _and_}
-use Rattle.machine.specs.TestLaws.{Case, case, on, off, and-true, verdict-no, verdict-yes, kept-then, broken-here, none-broken}
+use Rattle.machine.specs.Tests.{pick, verdict, firstBroken}
+use Rattle.machine.specs.TestLaws.{case, on, off, and-true, verdict-no, verdict-yes, kept-then, broken-here, none-broken}
 use Rattle.machine.specs.Machine.{State, state}
 use Rattle.machine.specs.Answers.{Answer, refused, frame, doneAnswer, Out, out}
 use Rattle.machine.specs.Calls.{decide, pageRules, findCall}
