@@ -1,14 +1,14 @@
--- `note_frame` meets its contract: the page first, then the words. Assumes nothing.
+-- `note_numbers` meets its contract: the page first, then the words. Assumes nothing.
 use borrow.Author.Needs.{needs}
-use Prim.Native.Nat.{ℕ, _≤_, _<_, _+_}
+use Prim.Native.Nat.{_<_, _+_}
 use native.Mathlib.Omega.{arith}
-use mathlib.Core.Path.{_≡_, refl, sym, _∙_, ap}
+use mathlib.Core.Path.{_≡_, refl, sym, _∙_}
 use Rattle.machine.specs.TestLaws.{clash}
 use Rattle.agreement.specs.Counting.{count-le}
-use Rattle.agreement.specs.Seen.{Passed, twice-here, twice-more, pass-noted, pass-zeros}
+use Rattle.agreement.specs.Seen.{twice-here, twice-more, pass-noted, pass-zeros}
 use Rattle.agreement.specs.Fit.{overFrom}
-use Rattle.agreement.proofs.words.note_frame.Statement.{statement}
-use Rattle.agreement.proofs.words.note_frame.Tie as tie
+use Rattle.agreement.proofs.words.note_numbers.Statement.{statement}
+use Rattle.agreement.proofs.words.note_numbers.Tie as tie
 
 from-u16-requires : tie.Need-from-u16-requires
 from-u16-requires c κs = search needs
@@ -26,15 +26,15 @@ returns c = record {
 element-write-seen : tie.Need-element-write-seen
 element-write-seen c = search needs
 
-tally-words-requires : tie.Need-tally-words-requires
-tally-words-requires c κs = search needs
+word-sum-requires : tie.Need-word-sum-requires
+word-sum-requires c κs = search needs
 
 mark-words-requires : tie.Need-mark-words-requires
 mark-words-requires c κs = search needs
 
 returns-2 : tie.Need-returns-2
 returns-2 c =
-    let T = c .before .before .before .tally-words .ensures in
+    let T = c .before .before .before .word-sum .ensures in
     record {
       few = omega (arith, T .counts, count-le 16 (overFrom (c .before .before .before .before .before .before .before .before .args .frames .now) (c .before .before .before .before .before .before .before .before .args .pages) (c .before .before .before .before .before .before .before .before .args .start)));
       counts = λ e. T .counts;
@@ -47,7 +47,7 @@ returns-2 c =
 
 returns-3 : tie.Need-returns-3
 returns-3 c =
-    let T = c .before .tally-words .ensures in
+    let T = c .before .word-sum .ensures in
     record {
       few = omega (arith, T .counts, count-le 16 (overFrom (c .before .before .before .before .before .before .args .frames .now) (c .before .before .before .before .before .before .args .pages) (c .before .before .before .before .before .before .args .start)));
       counts = λ e. T .counts;
@@ -58,15 +58,15 @@ returns-3 c =
           rw q (pass-zeros _ row (i + 1) _ 16 (λ k m. h k m ∙ T .none (c .if2 .left) k m) s);
     }
 
-pub note-frame-spec : {M : Type 1} → statement M
-note-frame-spec =
+pub note-numbers-spec : {M : Type 1} → statement M
+note-numbers-spec =
     tie.close
     (tie.spec
     from-u16-requires
     element-copy-out-if1
     returns
     element-write-seen
-    tally-words-requires
+    word-sum-requires
     mark-words-requires
     returns-2
     returns-3)

@@ -1,14 +1,11 @@
 -- `is_linked` meets its contract. Assumes nothing.
 use borrow.Author.Needs.{needs}
-use native.Mathlib.Omega.{arith}
-use mathlib.Core.Path.{_≡_, refl, sym, _∙_, ap}
-use Rattle.page.specs.Word.{wordAt}
+use mathlib.Core.Path.{sym, _∙_}
 use Rattle.machine.specs.TestLaws.{clash}
 use Rattle.agreement.specs.Deciding.{decide-equal}
-use Rattle.agreement.specs.Fit.{Linked}
 use Rattle.agreement.specs.FitLaws.{slot-from}
-use Rattle.agreement.proofs.pass.is_linked.Statement.{statement}
-use Rattle.agreement.proofs.pass.is_linked.Tie as tie
+use Rattle.agreement.proofs.frame.is_linked.Statement.{statement}
+use Rattle.agreement.proofs.frame.is_linked.Tie as tie
 
 from-u8-requires : tie.Need-from-u8-requires
 from-u8-requires c κs = search needs
