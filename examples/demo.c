@@ -1,0 +1,164 @@
+/*
+ * A pool of 4 frames over a store of 16 empty pages: links and fixes a few pages, writes, reads back, settles, and reads the
+ * store again through a new pool. Prints what it did, as demo.rs does.
+ */
+#include "pool.h"
+
+#include <stdio.h>
+#include <stdlib.h>
+#include <string.h>
+
+#define PAGES 16
+#define FRAMES 4
+
+static uint8_t store[PAGES * POOL_PAGE_SIZE];
+static uint8_t frames[FRAMES * POOL_PAGE_SIZE];
+static struct pool pool;
+
+/* Ends the program where a call was refused that should not be. */
+static void accept(uint8_t refusal)
+{
+    if (refusal != POOL_ACCEPTED) {
+        printf("refused by rule %d\n", refusal);
+        exit(1);
+    }
+}
+
+/* Goes on with the records that a call gave. */
+static void done(struct pool_done answer)
+{
+    accept(answer.refusal);
+    pool = answer.pool;
+}
+
+static struct pool_handle open_pool(void)
+{
+    done(pool_open(frames, sizeof frames, store, sizeof store));
+    printf("open: %d pages, %d frames\n", pool.pages, pool.count);
+
+    struct pool_fixed fixed = pool_root(pool, frames, sizeof frames, store, sizeof store);
+    accept(fixed.refusal);
+    pool = fixed.pool;
+    printf("root: page %d in frame %d\n", fixed.handle.page, fixed.handle.frame);
+    return fixed.handle;
+}
+
+static void link_page(struct pool_handle parent, size_t slot, pool_page_number page)
+{
+    done(pool_link(pool, frames, sizeof frames, store, sizeof store, parent, slot, page));
+    printf("link page %d to slot %zu of page %d\n", page, slot, parent.page);
+}
+
+static struct pool_handle fix_slot(struct pool_handle parent, size_t slot)
+{
+    struct pool_fixed fixed = pool_fix(pool, frames, sizeof frames, store, sizeof store, parent, slot);
+    accept(fixed.refusal);
+    pool = fixed.pool;
+    printf("fix slot %zu of page %d: page %d in frame %d, %d looks\n", slot, parent.page, fixed.handle.page,
+           fixed.handle.frame, fixed.looks);
+    return fixed.handle;
+}
+
+static void unfix_page(struct pool_handle handle)
+{
+    done(pool_unfix(pool, frames, sizeof frames, store, sizeof store, handle));
+    printf("unfix page %d\n", handle.page);
+}
+
+static void write_text(struct pool_handle handle, const char *text)
+{
+    done(pool_write(pool, frames, sizeof frames, store, sizeof store, handle, 0, (const uint8_t *)text, strlen(text)));
+    printf("write to page %d: %s\n", handle.page, text);
+}
+
+static void evict_page(pool_page_number page)
+{
+    struct pool_done answer = pool_evict(pool, frames, sizeof frames, store, sizeof store, page);
+    if (answer.refusal != POOL_ACCEPTED) {
+        printf("evict page %d: refused by rule %d\n", page, answer.refusal);
+        return;
+    }
+    pool = answer.pool;
+    printf("evict page %d\n", page);
+}
+
+static void find_page(pool_page_number page)
+{
+    struct pool_found found = pool_find(pool, frames, sizeof frames, store, sizeof store, page);
+    accept(found.refusal);
+    if (found.present)
+        printf("find page %d: frame %d\n", page, found.frame);
+    else
+        printf("find page %d: absent\n", page);
+}
+
+/* Prints the text at the start of a payload, read in place. */
+static void print_payload(const char *call, pool_page_number page, struct pool_place place)
+{
+    accept(place.refusal);
+    const char *text = (const char *)pool_payload(place, frames, store);
+    size_t length = 0;
+    while (length < place.size && text[length] != 0)
+        length++;
+    printf("%s page %d: %.*s\n", call, page, (int)length, text);
+}
+
+static void show_page(struct pool_handle handle)
+{
+    print_payload("show", handle.page, pool_show(pool, frames, sizeof frames, store, sizeof store, handle));
+}
+
+static void peek_page(pool_page_number page)
+{
+    print_payload("peek", page, pool_peek(pool, frames, sizeof frames, store, sizeof store, page));
+}
+
+static void print_word(struct pool_handle handle, size_t slot)
+{
+    struct pool_named named = pool_word(pool, frames, sizeof frames, store, sizeof store, handle, slot);
+    accept(named.refusal);
+    if (named.page != 0)
+        printf("word in slot %zu of page %d: page %d\n", slot, handle.page, named.page);
+    else
+        printf("word in slot %zu of page %d: nothing\n", slot, handle.page);
+}
+
+static void settle(void)
+{
+    done(pool_settle(pool, frames, sizeof frames, store, sizeof store));
+    printf("settle\n");
+}
+
+int main(void)
+{
+    struct pool_handle root = open_pool();
+    link_page(root, 3, 7);
+    struct pool_handle field = fix_slot(root, 3);
+    write_text(field, "field 12");
+    link_page(field, 0, 9);
+    struct pool_handle tray = fix_slot(field, 0);
+    write_text(tray, "pH 6.4");
+    print_word(root, 3);
+    find_page(9);
+    evict_page(9);
+    unfix_page(tray);
+    evict_page(9);
+    find_page(9);
+    peek_page(9);
+
+    /* More pages than frames: the third of them has to be swept for. */
+    for (pool_page_number page = 10; page < 13; page++) {
+        link_page(root, page, page);
+        unfix_page(fix_slot(root, page));
+    }
+    show_page(field);
+    done(pool_unlink(pool, frames, sizeof frames, store, sizeof store, field, 0));
+    printf("unlink slot 0 of page %d\n", field.page);
+    settle();
+
+    root = open_pool();
+    field = fix_slot(root, 3);
+    show_page(field);
+    print_word(field, 0);
+    return 0;
+}
