@@ -1,6 +1,6 @@
 //! The rows of the table: which call is made on which state.
 use crate::boundary;
-use crate::timing::{repeat, times, Times, Variants};
+use crate::timing::{repeat, Race, Times, Variants};
 use pool_bench::baseline;
 use pool_bench::tree::{State, FAN_OUT};
 use pool_host::{Handle, PageNumber, Refusal, MAX_PINS, PAGE_SIZE};
@@ -22,28 +22,41 @@ pub enum Grows {
     Pages,
 }
 
-type Make = fn(&State) -> (State, Variants);
+/// A call with its arguments, and how to make its variants for a filled pool.
+struct Row {
+    label: &'static str,
+    grows: Grows,
+    make: fn(&State) -> (State, Variants),
+}
 
 /// N where F grows, and F where N grows.
 const PAGES: usize = 256;
 const FRAMES: usize = 16;
 
-const ROWS: [(&str, Grows, Make); 15] = [
-    ("fix, hit", Grows::Frames, fix_hit),
-    ("unfix", Grows::Frames, unfix),
-    ("fix, sweep, clean victim", Grows::Frames, fix_over_clean),
-    ("fix, sweep, dirty victim", Grows::Frames, fix_over_dirty),
-    ("root", Grows::Frames, root),
-    ("find", Grows::Frames, find),
-    ("peek", Grows::Frames, peek),
-    ("show", Grows::Frames, show),
-    ("word", Grows::Frames, word),
-    ("write, 8 bytes", Grows::Frames, write),
-    ("unlink", Grows::Frames, unlink),
-    ("evict, dirty", Grows::Frames, evict),
-    ("settle, all dirty", Grows::Frames, settle),
-    ("link", Grows::Pages, link),
-    ("open", Grows::Pages, open),
+const fn by_frames(label: &'static str, make: fn(&State) -> (State, Variants)) -> Row {
+    Row { label, grows: Grows::Frames, make }
+}
+
+const fn by_pages(label: &'static str, make: fn(&State) -> (State, Variants)) -> Row {
+    Row { label, grows: Grows::Pages, make }
+}
+
+static ROWS: [Row; 15] = [
+    by_frames("fix, hit", fix_hit),
+    by_frames("unfix", unfix),
+    by_frames("fix, sweep, clean victim", fix_over_clean),
+    by_frames("fix, sweep, dirty victim", fix_over_dirty),
+    by_frames("root", root),
+    by_frames("find", find),
+    by_frames("peek", peek),
+    by_frames("show", show),
+    by_frames("word", word),
+    by_frames("write, 8 bytes", write),
+    by_frames("unlink", unlink),
+    by_frames("evict, dirty", evict),
+    by_frames("settle, all dirty", settle),
+    by_pages("link", link),
+    by_pages("open", open),
 ];
 
 /// The pinned pages: the root, and the page in its slot 0.
@@ -74,11 +87,31 @@ impl Figure {
     }
 }
 
+/// Passes over all rows, so that a busy moment of the machine falls on a few batches of each.
+const PASSES: u32 = 30;
+
 /// The rows whose label begins with a word.
 pub fn measured(word: &str) -> Vec<Figure> {
-    let rows = ROWS.iter().filter(|(label, ..)| label.starts_with(word));
-    rows.flat_map(|(label, grows, make)| sizes(*grows).map(|size| figure(label, *grows, size, *make)))
-        .collect()
+    let rows = ROWS.iter().filter(|row| row.label.starts_with(word));
+    let sized = rows.flat_map(|row| sizes(row.grows).map(|(count, pages)| (row, count, pages)));
+    let mut races: Vec<(&Row, Race)> =
+        sized.map(|(row, count, pages)| (row, row.race(&State::filled(count, pages)))).collect();
+    for _ in 0..PASSES {
+        races.iter_mut().for_each(|(_, race)| race.pass());
+    }
+    races.iter().map(|(row, race)| row.figure(race)).collect()
+}
+
+impl Row {
+    fn race(&self, state: &State) -> Race {
+        let (state, variants) = (self.make)(state);
+        Race::new(state, variants)
+    }
+
+    fn figure(&self, race: &Race) -> Figure {
+        let (count, pages) = (race.pool().count.into(), race.pool().pages.into());
+        Figure { label: self.label, grows: self.grows, count, pages, times: race.times() }
+    }
 }
 
 fn sizes(grows: Grows) -> [(usize, usize); 3] {
@@ -86,11 +119,6 @@ fn sizes(grows: Grows) -> [(usize, usize); 3] {
         Grows::Frames => [4, 16, 64].map(|count| (count, PAGES)),
         Grows::Pages => [16, 256, 4096].map(|pages| (FRAMES, pages)),
     }
-}
-
-fn figure(label: &'static str, grows: Grows, (count, pages): (usize, usize), make: Make) -> Figure {
-    let (state, variants) = make(&State::filled(count, pages));
-    Figure { label, grows, count, pages, times: times(&state, &variants) }
 }
 
 pub fn accept<T>(answer: Result<T, Refusal>) {
@@ -105,15 +133,15 @@ macro_rules! variants {
         Variants {
             library: repeat(move |s| {
                 accept(pool_host::$call(&mut s.pool, &mut s.frames, &mut s.store $(, $argument)*));
-                undo_library(s);
+                undo_library(black_box(s));
             }),
             baseline: repeat(move |s| {
                 accept(baseline::$call(&mut s.pool, &mut s.frames, &mut s.store $(, $argument)*));
-                undo_baseline(s);
+                undo_baseline(black_box(s));
             }),
             copy: repeat(move |s| {
                 $copy(s);
-                undo_copy(s);
+                undo_copy(black_box(s));
             }),
             undo: repeat(undo),
         }

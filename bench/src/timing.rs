@@ -1,5 +1,6 @@
 //! Variants of a call, timed in turn.
 use pool_bench::tree::State;
+use pool_host::Pool;
 use std::hint::black_box;
 use std::time::{Duration, Instant};
 
@@ -31,32 +32,50 @@ pub struct Times {
     pub copy: f64,
 }
 
-const BATCHES: u32 = 1500;
+/// Batches of each variant in a pass.
+const BATCHES: u32 = 100;
 const BATCH: Duration = Duration::from_micros(30);
 /// So that a batch of pins or unpins stays within their range.
 const MOST_CALLS: u32 = 30_000;
 
-/// The least of many batches of each variant, one batch of each in turn, every batch from the same state.
-pub fn times(state: &State, variants: &Variants) -> Times {
-    let mut now = state.clone();
-    let calls = calls_in_batch(&mut now, variants);
-    let [library, baseline, copy, undo] = {
-        let all = [&variants.library, &variants.baseline, &variants.copy, &variants.undo];
-        let mut least = [Duration::MAX; 4];
-        for _ in 0..BATCHES {
-            for (variant, least) in all.iter().zip(&mut least) {
-                now.pool = state.pool;
-                *least = batch(variant, &mut now, calls).min(*least);
-            }
-        }
-        least.map(|least| least.as_secs_f64() * 1e9 / f64::from(calls))
-    };
-    Times { library: library - undo, baseline: baseline - undo, copy: (copy - undo).max(0.0) }
+/// A row being timed: the least of the batches so far of each variant, every batch from the same state.
+pub struct Race {
+    state: State,
+    now: State,
+    variants: Variants,
+    calls: u32,
+    least: [Duration; 4],
 }
 
-fn calls_in_batch(state: &mut State, variants: &Variants) -> u32 {
-    let trial = batch(&variants.library, state, 100) / 100;
-    ((BATCH.as_nanos() / trial.as_nanos().max(1)) as u32).clamp(1, MOST_CALLS)
+impl Race {
+    pub fn new(state: State, variants: Variants) -> Race {
+        let mut now = state.clone();
+        let trial = (0..10).map(|_| batch(&variants.library, &mut now, 100)).min().unwrap_or_default();
+        let calls = (100 * BATCH.as_nanos() / trial.as_nanos().max(1)) as u32;
+        Race { state, now, variants, calls: calls.clamp(1, MOST_CALLS), least: [Duration::MAX; 4] }
+    }
+
+    /// More batches, one of each variant in turn.
+    pub fn pass(&mut self) {
+        let Variants { library, baseline, copy, undo } = &self.variants;
+        for _ in 0..BATCHES {
+            for (variant, least) in [library, baseline, copy, undo].into_iter().zip(&mut self.least) {
+                self.now.pool = self.state.pool;
+                *least = batch(variant, &mut self.now, self.calls).min(*least);
+            }
+        }
+    }
+
+    /// The records that every batch begins with.
+    pub fn pool(&self) -> &Pool {
+        &self.state.pool
+    }
+
+    pub fn times(&self) -> Times {
+        let calls = f64::from(self.calls);
+        let [library, baseline, copy, undo] = self.least.map(|least| least.as_secs_f64() * 1e9 / calls);
+        Times { library: library - undo, baseline: baseline - undo, copy: (copy - undo).max(0.0) }
+    }
 }
 
 fn batch(variant: &Variant, state: &mut State, calls: u32) -> Duration {
