@@ -1,6 +1,7 @@
 //! Times each call of the proved library and of the baseline, or one of them, and measures the library's stack. `--write` puts
 //! the figures into docs/PERFORMANCE.md and the plot into docs/performance.svg.
 mod boundary;
+mod calls;
 mod plot;
 mod report;
 mod rows;

@@ -1,10 +1,10 @@
-//! The rows of the table: which call is made on which state.
-use crate::boundary;
-use crate::timing::{repeat, Race, Times, Variants};
-use pool_bench::baseline;
-use pool_bench::tree::{State, FAN_OUT};
-use pool_host::{Handle, PageNumber, Refusal, MAX_PINS, PAGE_SIZE};
-use std::hint::black_box;
+//! The rows of the table, and their figures.
+use crate::calls::{
+    evict, find, fix_hit, fix_over_clean, fix_over_dirty, link, open, peek, root, settle, show, unfix,
+    unlink, word, write,
+};
+use crate::timing::{Race, Times, Variants};
+use pool_bench::tree::State;
 
 /// A measured row.
 pub struct Figure {
@@ -58,10 +58,6 @@ static ROWS: [Row; 15] = [
     by_pages("link", link),
     by_pages("open", open),
 ];
-
-/// The pinned pages: the root, and the page in its slot 0.
-pub const ROOT: Handle = Handle { frame: 0, page: 0 };
-pub const CHILD: Handle = Handle { frame: 1, page: 1 };
 
 impl Figure {
     pub fn ratio(&self) -> f64 {
@@ -119,153 +115,4 @@ fn sizes(grows: Grows) -> [(usize, usize); 3] {
         Grows::Frames => [4, 16, 64].map(|count| (count, PAGES)),
         Grows::Pages => [16, 256, 4096].map(|pages| (FRAMES, pages)),
     }
-}
-
-pub fn accept<T>(answer: Result<T, Refusal>) {
-    assert!(black_box(answer).is_ok());
-}
-
-/// The four variants of a call with what copies its records and what undoes it.
-macro_rules! variants {
-    ($copy:path, $undo:expr, $call:ident($($argument:expr),*)) => {{
-        let undo = $undo;
-        let (undo_library, undo_baseline, undo_copy) = (undo.clone(), undo.clone(), undo.clone());
-        Variants {
-            library: repeat(move |s| {
-                accept(pool_host::$call(&mut s.pool, &mut s.frames, &mut s.store $(, $argument)*));
-                undo_library(black_box(s));
-            }),
-            baseline: repeat(move |s| {
-                accept(baseline::$call(&mut s.pool, &mut s.frames, &mut s.store $(, $argument)*));
-                undo_baseline(black_box(s));
-            }),
-            copy: repeat(move |s| {
-                $copy(s);
-                undo_copy(black_box(s));
-            }),
-            undo: repeat(undo),
-        }
-    }};
-}
-
-/// The variants of a call that can be repeated as it is.
-macro_rules! repeated {
-    ($state:expr, $copy:path, $call:ident($($argument:expr),*)) => {
-        ($state, variants!($copy, |_: &mut State| (), $call($($argument),*)))
-    };
-}
-
-/// The variants of a call that is undone each time.
-macro_rules! undone {
-    ($state:expr, $call:ident($($argument:expr),*)) => {{
-        let state: State = $state;
-        let mut after = state.clone();
-        accept(baseline::$call(&mut after.pool, &mut after.frames, &mut after.store $(, $argument)*));
-        let undo = undo(&state, &after);
-        (state, variants!(boundary::in_and_out, undo, $call($($argument),*)))
-    }};
-}
-
-/// Puts the records back, and the frames that a call altered. What it wrote to the store was there before.
-fn undo(before: &State, after: &State) -> impl Fn(&mut State) + Clone {
-    assert!(before.store == after.store);
-    let pool = before.pool;
-    let frames = before.frames.chunks_exact(PAGE_SIZE).zip(after.frames.chunks_exact(PAGE_SIZE));
-    let altered = frames.enumerate().filter(|(_, (old, new))| old != new);
-    let pages: Vec<(usize, Vec<u8>)> =
-        altered.map(|(frame, (old, _))| (PAGE_SIZE * frame, old.to_vec())).collect();
-    move |state| {
-        state.pool = pool;
-        for (start, page) in &pages {
-            state.frames[*start..*start + PAGE_SIZE].copy_from_slice(page);
-        }
-    }
-}
-
-/// The state with every resident page dirty.
-pub fn dirtied(state: &State) -> State {
-    let mut state = state.clone();
-    state.pool.records.iter_mut().filter(|record| record.used).for_each(|record| record.dirty = true);
-    state
-}
-
-/// The page in the last frame.
-fn last_resident(state: &State) -> PageNumber {
-    state.pool.records[usize::from(state.pool.count) - 1].page
-}
-
-fn fix_hit(state: &State) -> (State, Variants) {
-    repeated!(state.clone(), boundary::in_and_out, fix(ROOT, 1))
-}
-
-fn unfix(state: &State) -> (State, Variants) {
-    let mut state = state.clone();
-    state.pool.record_mut(CHILD.frame).pins = MAX_PINS;
-    repeated!(state, boundary::in_and_out, unfix(CHILD))
-}
-
-/// A page with 15 words comes in, and every open frame has usage 1, so that the sweep goes round once.
-fn fix_over_clean(state: &State) -> (State, Variants) {
-    undone!(state.clone(), fix(CHILD, 0))
-}
-
-fn fix_over_dirty(state: &State) -> (State, Variants) {
-    undone!(dirtied(state), fix(CHILD, 0))
-}
-
-fn root(state: &State) -> (State, Variants) {
-    repeated!(state.clone(), boundary::in_and_out, root())
-}
-
-fn find(state: &State) -> (State, Variants) {
-    let page = last_resident(state);
-    repeated!(state.clone(), boundary::only_in, find(page))
-}
-
-/// A page that isn't resident.
-fn peek(state: &State) -> (State, Variants) {
-    let page = state.pool.pages - 1;
-    repeated!(state.clone(), boundary::only_in, peek(page))
-}
-
-fn show(state: &State) -> (State, Variants) {
-    repeated!(state.clone(), boundary::only_in, show(CHILD))
-}
-
-/// A swizzled word.
-fn word(state: &State) -> (State, Variants) {
-    repeated!(state.clone(), boundary::only_in, word(ROOT, 1))
-}
-
-fn write(state: &State) -> (State, Variants) {
-    repeated!(state.clone(), boundary::in_and_out, write(CHILD, 0, &[7; 8]))
-}
-
-fn unlink(state: &State) -> (State, Variants) {
-    undone!(state.clone(), unlink(CHILD, 0))
-}
-
-fn evict(state: &State) -> (State, Variants) {
-    let page = last_resident(state);
-    undone!(dirtied(state), evict(page))
-}
-
-fn settle(state: &State) -> (State, Variants) {
-    undone!(dirtied(state), settle())
-}
-
-/// The last page, which no word names.
-fn link(state: &State) -> (State, Variants) {
-    let page = state.pool.pages - 1;
-    undone!(state.clone(), link(CHILD, FAN_OUT, page))
-}
-
-fn open(state: &State) -> (State, Variants) {
-    let variants = Variants {
-        library: repeat(|s| accept(pool_host::open(&mut s.frames, &s.store))),
-        baseline: repeat(|s| accept(baseline::open(&mut s.frames, &s.store))),
-        copy: repeat(boundary::only_out),
-        undo: repeat(|_| ()),
-    };
-    (state.clone(), variants)
 }

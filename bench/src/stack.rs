@@ -1,5 +1,5 @@
 //! The deepest stack of each exported call: a thread's stack is painted, and what the call leaves of the paint tells.
-use crate::rows::{accept, dirtied, CHILD, ROOT};
+use crate::calls::{accept, dirtied, CHILD, ROOT};
 use pool_bench::tree::{State, FAN_OUT};
 use pool_host::PageNumber;
 use std::hint::black_box;

@@ -79,6 +79,7 @@ impl Tally {
     /// Whether a word of the page is a number below N. The words are compared side by side, and wouldn't be if this were
     /// inlined.
     #[inline(never)]
+    #[allow(clippy::needless_range_loop)]
     fn has_number(&mut self, page: &Page, pages: u32) -> bool {
         let mut numbers = 0;
         for words in words(page).as_chunks::<LANES>().0 {
