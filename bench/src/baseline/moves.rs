@@ -116,11 +116,12 @@ fn first_from(hand: usize, mask: u64) -> usize {
 
 /// The frames open to eviction, as a mask for each usage: not the root's, not pinned, with no swizzled word.
 fn open_frames(records: &[FrameRecord]) -> [u64; MAX_USAGE as usize + 1] {
-    let closed = parents(records) | 1;
-    let mut open = [0; MAX_USAGE as usize + 1];
+    let (mut unpinned, mut low, mut high) = (0, 0, 0);
     for (frame, record) in records.iter().enumerate() {
-        let unpinned = u64::from(record.used & (record.pins == 0));
-        open[usize::from(record.usage)] |= unpinned << frame;
+        unpinned |= u64::from(record.used & (record.pins == 0)) << frame;
+        low |= u64::from(record.usage & 1) << frame;
+        high |= u64::from(record.usage >> 1) << frame;
     }
-    open.map(|mask| mask & !closed)
+    let open = unpinned & !parents(records) & !1;
+    [open & !low & !high, open & low & !high, open & !low & high, open & low & high]
 }
