@@ -120,25 +120,31 @@ fn sweep(hand: u8, usages: [u8; 3], pinned: &[u8]) -> (Trial, Fixed) {
     }
 }
 
+/// The hand and the usages of frames 1 to 3 after a sweep; that of the frame taken is the loaded page's.
+fn left(trial: &Trial) -> (u8, [u8; 3]) {
+    let pool = &trial.state.pool;
+    (pool.hand, [1, 2, 3].map(|frame| pool.record(frame).usage))
+}
+
 #[test]
 fn a_sweep_from_hand_0() {
     let (trial, fixed) = sweep(0, [1, 0, 2], &[]);
     assert_eq!(fixed, Fixed { handle: Handle { frame: 2, page: 8 }, looks: 3 });
-    assert_eq!(trial.state.pool.hand, 3);
+    assert_eq!(left(&trial), (3, [0, 1, 2]));
 }
 
 #[test]
 fn a_sweep_from_hand_3() {
     let (trial, fixed) = sweep(3, [1, 0, 2], &[]);
     assert_eq!(fixed, Fixed { handle: Handle { frame: 2, page: 8 }, looks: 4 });
-    assert_eq!(trial.state.pool.hand, 3);
+    assert_eq!(left(&trial), (3, [0, 1, 1]));
 }
 
 #[test]
 fn a_sweep_of_16_looks() {
     let (trial, fixed) = sweep(0, [0, 0, 3], &[1, 2]);
     assert_eq!(fixed, Fixed { handle: Handle { frame: 3, page: 8 }, looks: 16 });
-    assert_eq!(trial.state.pool.hand, 0);
+    assert_eq!(left(&trial), (0, [0, 0, 1]));
 }
 
 #[test]

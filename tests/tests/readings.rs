@@ -1,6 +1,6 @@
 //! Single consequences of document 01, each with the figures that show it.
 use pool_tests::calls::{Answer, Call};
-use pool_tests::pool::{Buffer, Machine, Place, UnderTest};
+use pool_tests::pool::{Buffer, Fixed, Machine, Place, UnderTest};
 use pool_tests::records::{FrameRecord, Handle, Pool, PAGE_SIZE, SWIZZLE_BIT};
 use pool_tests::trial::Trial;
 
@@ -50,6 +50,14 @@ fn a_refused_open_gives_zero_records() {
     let (opened, records) = UnderTest.open(&mut state.frames, &mut state.store);
     assert_eq!((opened, records), (Err(16), Pool::ZERO));
     assert!(state.frames.iter().all(|byte| *byte == 7));
+}
+
+#[test]
+fn open_holds_the_root_alone() {
+    let pool = Trial::open(3, 5, &[]).state.pool;
+    let mut expected = Pool { count: 3, pages: 5, ..Pool::ZERO };
+    expected.records[0].used = true;
+    assert_eq!(pool, expected);
 }
 
 #[test]
@@ -214,6 +222,39 @@ fn payloads_lie_in_frames_or_store() {
     assert_eq!(trial.call(Call::Peek(7)), at(Buffer::Store, 7 * 256 + 64));
 }
 
+#[test]
+fn a_loaded_page_has_one_pin_and_one_usage() {
+    let (mut trial, [root, ..]) = two_children();
+    trial.fix(root, 3);
+    let loaded = FrameRecord { used: true, dirty: false, usage: 1, slot: 3, parent: 0, pins: 1, page: 7 };
+    assert_eq!(*trial.record(3), loaded);
+    assert!(!trial.record(0).dirty);
+}
+
+#[test]
+fn pins_count_on_where_usage_stops() {
+    let (mut trial, [root, five, _]) = two_children();
+    for (usage, pins) in [(2, 2), (3, 3), (3, 4)] {
+        trial.fix(root, 1);
+        assert_eq!((trial.record(1).usage, trial.record(1).pins), (usage, pins));
+    }
+    trial.accept(Call::Unfix(five));
+    assert_eq!((trial.record(1).usage, trial.record(1).pins), (3, 3));
+}
+
+#[test]
+fn settle_marks_clean() {
+    let (mut trial, [_, five, six]) = two_children();
+    trial.accept(Call::Write(five, 7, vec![1, 2, 3]));
+    trial.accept(Call::Link(six, 0, 8));
+    assert_eq!([1, 2].map(|frame| trial.record(frame).dirty), [true, true]);
+    trial.accept(Call::Settle);
+    assert_eq!([1, 2].map(|frame| trial.record(frame).dirty), [false, false]);
+    let start = 5 * PAGE_SIZE + 64 + 7;
+    assert_eq!(trial.state.store[start..start + 3], [1, 2, 3]);
+    assert_eq!(trial.stored_word(6, 0), 8);
+}
+
 /// The first empty frame is taken from the hand on, and the hand stays.
 #[test]
 fn an_empty_frame_at_or_after_the_hand() {
@@ -221,7 +262,8 @@ fn an_empty_frame_at_or_after_the_hand() {
         let mut trial = Trial::open(4, 16, &[(0, 1, 5)]);
         trial.state.pool.hand = hand;
         let root = trial.root();
-        assert_eq!(trial.fix(root, 1).frame, frame, "hand {hand}");
+        let fixed = Answer::Fixed(Fixed { handle: Handle { frame, page: 5 }, looks: 0 });
+        assert_eq!(trial.call(Call::Fix(root, 1)), fixed, "hand {hand}");
         assert_eq!(trial.state.pool.hand, hand);
     }
 }
@@ -246,6 +288,18 @@ fn a_page_with_a_resident_child_stays() {
     assert_eq!(trial.number(Call::Fix(root, 1)), 15);
     trial.accept(Call::Unfix(two));
     assert_eq!(trial.fix(root, 1).frame, two.frame);
+}
+
+#[test]
+fn an_evicted_page_leaves_its_bytes() {
+    let (mut trial, [_, five, _]) = two_children();
+    trial.accept(Call::Write(five, 0, vec![9]));
+    trial.accept(Call::Unfix(five));
+    trial.accept(Call::Evict(5));
+    assert_eq!(*trial.record(1), FrameRecord::EMPTY);
+    assert_eq!(trial.state.frames[PAGE_SIZE + 64], 9);
+    assert_eq!(trial.state.store[5 * PAGE_SIZE + 64], 9);
+    assert_eq!(trial.state.pool.hand, 0);
 }
 
 /// Neither loading nor evicting a page dirties its parent, and a clean page isn't written.

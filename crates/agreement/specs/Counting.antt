@@ -7,38 +7,36 @@ use native.Mathlib.Omega.{arith}
 use native.Mathlib.Nat.{add-zero, add-suc, add-assoc}
 use native.Mathlib.Numerals.{add-one}
 use native.Mathlib.Decide.{ℕ-discrete}
-use borrow.Author.Tests.{eqb-true, eqb-false, eq-eqb, ne-eqb}
+use borrow.Author.Tests.{eqb-true, eqb-false, eq-eqb, ne-eqb, not-true}
+use mir.Val.{boolByte}
 use lib.Dec.{eqb}
 use Rattle.machine.specs.Tests.{_and_, some}
-use Rattle.machine.specs.TestLaws.{clash, Case, case, on, off, same, and-left, and-right, and-true, and-off, both, some-true, some-false}
-
--- 1 where the test passes
-unfoldable pub bit : Bool → ℕ
-bit true = 1
-bit false = 0
+use Rattle.machine.specs.TestLaws.{clash, case, on, off, same, and-left, and-true, and-off, both, some-true, some-false}
 
 -- how many numbers below n pass
 unfoldable pub countIf : ℕ → (ℕ → Bool) → ℕ
 countIf zero t = 0
-countIf (suc n) t = countIf n t + bit (t n)
+countIf (suc n) t = countIf n t + boolByte (t n)
 
 pub count-zero : (t : ℕ → Bool) → countIf 0 t ≡ 0
 unfolding countIf
 count-zero t = refl
 
+pub count-more : (n : ℕ) (t : ℕ → Bool) → countIf (n + 1) t ≡ countIf n t + boolByte (t n)
+unfolding countIf
+count-more n t = rw (add-one n)
+
 pub count-yes : (n : ℕ) (t : ℕ → Bool) → t n ≡ true → countIf (n + 1) t ≡ countIf n t + 1
-unfolding countIf bit
-count-yes n t e = rw (add-one n, e)
+count-yes n t e = count-more n t ∙ ap (λ (b : Bool). countIf n t + boolByte b) e
 
 pub count-no : (n : ℕ) (t : ℕ → Bool) → t n ≡ false → countIf (n + 1) t ≡ countIf n t
-unfolding countIf bit
-count-no n t e = rw (add-one n, e) (add-zero (countIf n t))
+count-no n t e = count-more n t ∙ ap (λ (b : Bool). countIf n t + boolByte b) e ∙ add-zero (countIf n t)
 
 pub count-add : (m n : ℕ) (t : ℕ → Bool) → countIf (m + n) t ≡ countIf m t + countIf n (λ i. t (m + i))
 unfolding countIf
 count-add m zero t = ap (λ (k : ℕ). countIf k t) (add-zero m) ∙ sym (add-zero (countIf m t))
 count-add m (suc n) t =
-    ap (λ (k : ℕ). countIf k t) (add-suc m n) ∙ ap (λ (k : ℕ). k + bit (t (m + n))) (count-add m n t) ∙ add-assoc (countIf m t) (countIf n (λ i. t (m + i))) (bit (t (m + n)))
+    ap (λ (k : ℕ). countIf k t) (add-suc m n) ∙ ap (λ (k : ℕ). k + boolByte (t (m + n))) (count-add m n t) ∙ add-assoc (countIf m t) (countIf n (λ i. t (m + i))) (boolByte (t (m + n)))
 
 pub count-ext : (n : ℕ) (t u : ℕ → Bool) → ((i : ℕ) → i < n → t i ≡ u i) → countIf n t ≡ countIf n u
 unfolding countIf
@@ -46,12 +44,12 @@ count-ext zero t u h = refl
 count-ext (suc n) t u h = rw (count-ext n t u (λ i k. h i (omega arith)), h n (omega arith))
 
 pub count-none : (n : ℕ) (t : ℕ → Bool) → ((i : ℕ) → i < n → t i ≡ false) → countIf n t ≡ 0
-unfolding countIf bit
+unfolding countIf
 count-none zero t h = refl
 count-none (suc n) t h = rw (count-none n t (λ i k. h i (omega arith)), h n (omega arith))
 
 pub count-le : (n : ℕ) (t : ℕ → Bool) → countIf n t ≤ n
-unfolding countIf bit
+unfolding countIf
 count-le zero t = omega arith
 count-le (suc n) t = elim (case (t n)) [
   | on e ↦ rw e (omega (arith, count-le n t))
@@ -59,19 +57,23 @@ count-le (suc n) t = elim (case (t n)) [
 ]
 
 -- the test with one number taken out
-without : ℕ → (ℕ → Bool) → ℕ → Bool
+unfoldable pub without : ℕ → (ℕ → Bool) → ℕ → Bool
 without x t i = t i and not (eqb i x)
+
+pub without-of : (x : ℕ) (t : ℕ → Bool) (i : ℕ) → without x t i ≡ true → (i ≢ x) × (t i ≡ true)
+unfolding without
+without-of x t i e = let a = and-true (t i) (not (eqb i x)) e in (eqb-false i x (not-true _ (a .1)), a .0)
 
 without-same : (x : ℕ) (t : ℕ → Bool) → without x t x ≡ false
 unfolding without
 without-same x t = rw (eq-eqb x x refl) (and-off (t x))
 
-without-other : (x : ℕ) (t : ℕ → Bool) (i : ℕ) → i ≢ x → without x t i ≡ t i
+pub without-other : (x : ℕ) (t : ℕ → Bool) (i : ℕ) → i ≢ x → without x t i ≡ t i
 unfolding without
 without-other x t i n = same (t i and not (eqb i x)) (t i) (and-left (t i) _) (λ e. both _ _ e (ap not (ne-eqb i x n)))
 
-count-without : (n x : ℕ) (t : ℕ → Bool) → x < n → t x ≡ true → countIf n t ≡ countIf n (without x t) + 1
-unfolding countIf bit
+pub count-without : (n x : ℕ) (t : ℕ → Bool) → x < n → t x ≡ true → countIf n t ≡ countIf n (without x t) + 1
+unfolding countIf
 count-without zero x t l e = absurd (omega arith)
 count-without (suc n) x t l e = elim (ℕ-discrete x n) [
   | yes q ↦
@@ -100,7 +102,7 @@ into-less F n t u to I e = record {
 }
 
 pub into-le : (F n : ℕ) (t u : ℕ → Bool) (to : ℕ → ℕ) → Into F n t u to → countIf F t ≤ countIf n u
-unfolding countIf bit
+unfolding countIf
 into-le zero n t u to I = omega arith
 into-le (suc F) n t u to I = elim (case (t F)) [
   | on e ↦

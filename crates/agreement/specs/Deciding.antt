@@ -31,3 +31,8 @@ decide-equal a b P f g = elim (ℕ-discrete a b) [
 pub decide-flag : (b : Bool) (P : Type 0) → (b ≡ true → P) → (P → b ≡ true) → Decides b P
 decide-flag true P f g = f refl
 decide-flag false P f g = λ q. clash (sym (g q))
+
+-- a fact that holds where another does
+pub decide-by : (b : Bool) (P Q : Type 0) → (P → Q) → (Q → P) → Decides b P → Decides b Q
+decide-by true P Q f g d = f d
+decide-by false P Q f g d = λ q. d (g q)

@@ -2,18 +2,17 @@
 use Prim.Native.Nat.{ℕ, _+_, _*_, _-_, _/_, _%_, _<_, _≤_}
 use mathlib.Core.Path.{_≡_}
 use mathlib.Core.Logic.{_≢_}
-use mathlib.Core.Bool.{Bool, true, false, not}
+use mathlib.Core.Bool.{Bool, true, false}
 use mathlib.Core.List.{List}
 use lib.Dec.{eqb, ltb, leb}
 use lib.ListN.{length, getD}
-use Rattle.page.specs.Figures.{slotCount, recordCount, maxUsage, maxPins, wordSize}
+use Rattle.page.specs.Figures.{pageSize, slotCount, recordCount, maxUsage, maxPins, wordSize}
 use Rattle.page.specs.Word.{wordAt, frameWord}
 use Rattle.page.specs.Page.{slot}
 use Rattle.machine.specs.declared.FrameRecord.{FrameRecord}
 use Rattle.machine.specs.Tests.{pick, _and_}
 use Rattle.machine.specs.Machine.{recordAt, pageIn}
 use Rattle.machine.specs.Parents.{climb}
-use Rattle.agreement.specs.Deciding.{Decides}
 use Rattle.agreement.specs.Counting.{countIf}
 use Rattle.agreement.specs.Seen.{Passed, Progress}
 
@@ -29,11 +28,18 @@ pub record Blank (r : FrameRecord) : Type 0 where
   pub pins : r .pins ≡ 0
   pub page : r .page .0 ≡ 0
 
--- a number that is 0 for the all-zero record alone
-pub record Weighs (r : FrameRecord) (w : ℕ) : Type 0 where
-  pub small : w < 17179869184
-  pub nothing : w ≡ 0 → Blank r
-  pub blank : Blank r → w ≡ 0
+-- fields gathered from records are all 0
+pub record NoField (m : Bool) (p s l : ℕ) : Type 0 where
+  pub marks : m ≡ false
+  pub parent : p ≡ 0
+  pub small : s ≡ 0
+  pub large : l ≡ 0
+
+-- after the record r was gathered, nothing is there where nothing was and r is all zero
+pub record Gathers (r : FrameRecord) (before after : Type 0) : Type 0 where
+  pub kept : after → before
+  pub blank : after → Blank r
+  pub nothing : before → Blank r → after
 
 -- frame 0's record
 pub record RootFits (r : FrameRecord) : Type 0 where
@@ -58,11 +64,12 @@ pub record Linked (fs : List ℕ) (f : ℕ) (r : FrameRecord) (above : Bool) : T
   pub occupied : above ≡ true
   pub word : slot fs (r .parent .0) (r .slot) ≡ frameWord f
 
--- all of this for frame f, which is not the root's
-pub record FrameFits (rs : List FrameRecord) (fs : List ℕ) (F N f : ℕ) : Type 0 where
-  pub resident : recordAt rs f .used ≡ true → Resident F N (recordAt rs f)
-  pub linked : recordAt rs f .used ≡ true → Linked fs f (recordAt rs f) (recordAt rs (recordAt rs f .parent .0) .used)
-  pub empty : recordAt rs f .used ≡ false → Blank (recordAt rs f)
+-- the record of frame f, and the word that names it
+pub record Fits (fs : List ℕ) (F N f : ℕ) (r : FrameRecord) (above : Bool) : Type 0 where
+  pub root : f ≡ 0 → RootFits r
+  pub resident : f ≢ 0 → r .used ≡ true → Resident F N r
+  pub linked : f ≢ 0 → r .used ≡ true → Linked fs f r above
+  pub empty : r .used ≡ false → Blank r
 
 -- the records from F on are all zero
 abbrev pub RestBlank : List FrameRecord → ℕ → Type 0
@@ -96,16 +103,20 @@ overFrom fs N at k = leb N (wordAt fs (at + wordSize * k))
 unfoldable pub isOver : List FrameRecord → List ℕ → ℕ → ℕ → Bool
 isOver rs fs N j = recordAt rs (j / slotCount) .used and leb N (slot fs (j / slotCount) (j % slotCount))
 
--- frame f is occupied and not the root's
-unfoldable pub isOther : List FrameRecord → ℕ → Bool
-isOther rs f = not (eqb f 0) and recordAt rs f .used
+-- frame f's record is in use
+abbrev pub isUsed : List FrameRecord → ℕ → Bool
+isUsed rs f = recordAt rs f .used
 
 -- ---- the whole pass
 
+-- the record of a frame's parent is in use; the code asks before it knows the parent's range
+abbrev pub aboveUsed : List FrameRecord → FrameRecord → Bool
+aboveUsed rs r = recordAt rs (r .parent .0 % recordCount) .used
+
 pub record FramesFit (rs : List FrameRecord) (fs : List ℕ) (F N : ℕ) : Type 0 where
-  pub fits : (f : ℕ) → 0 < f → f < F → FrameFits rs fs F N f
+  pub fits : (f : ℕ) → f < F → Fits fs F N f (recordAt rs f) (aboveUsed rs (recordAt rs f))
   pub once : (i j : ℕ) → i < j → j < perFrame * F → numbers rs fs N i ≡ numbers rs fs N j → numbers rs fs N i ≡ 0
-  pub even : countIf (slotCount * F) (isOver rs fs N) ≡ countIf F (isOther rs)
+  pub even : countIf (slotCount * F) (isOver rs fs N) + 1 ≡ countIf F (isUsed rs)
 
 -- ---- what the functions of the pass tell of the table of seen numbers
 
@@ -117,25 +128,47 @@ HasWords fs N at row i = (k : ℕ) → k < slotCount → row (i + k) ≡ numberB
 abbrev pub NotesWords : List ℕ → ℕ → ℕ → List Bool → List Bool → Bool → Type 0
 NotesWords fs N at seen seen' fresh = (row : ℕ → ℕ) (i : ℕ) → HasWords fs N at row i → Passed N row i seen → Progress N row (i + slotCount) seen' fresh
 
--- the page and then the words of a frame were noted
-abbrev pub NotesFrame : List ℕ → ℕ → ℕ → ℕ → List Bool → List Bool → Bool → Type 0
-NotesFrame fs N at page seen seen' fresh =
+-- the page and then the words of an occupied frame were noted
+abbrev pub NotesNumbers : List ℕ → ℕ → ℕ → ℕ → List Bool → List Bool → Bool → Type 0
+NotesNumbers fs N at page seen seen' fresh =
     (row : ℕ → ℕ) (i : ℕ) → row i ≡ page → HasWords fs N at row (i + 1) → Passed N row i seen → Progress N row (i + perFrame) seen' fresh
 
 -- none of the words from `at` on is a number below N
 abbrev pub NoNumber : List ℕ → ℕ → ℕ → Type 0
 NoNumber fs N at = (k : ℕ) → k < slotCount → numberBelow N (wordAt fs (at + wordSize * k)) ≡ 0
 
--- what the tally of the words from `at` on tells
-pub record Tallies (fs : List ℕ) (N at : ℕ) (over : ℕ) (numbers : Bool) : Type 0 where
-  pub counts : over ≡ countIf slotCount (overFrom fs N at)
-  pub none : numbers ≡ false → NoNumber fs N at
+-- what a word counts for in a sum
+abbrev pub overWeight : ℕ
+overWeight = 65536
 
--- what is told of a frame's page and words
-pub record NotedAs (fs : List ℕ) (N at page : ℕ) (seen seen' : List Bool) (over : ℕ) (fresh : Bool) : Type 0 where
+pub record WordWeighs (last w r : ℕ) : Type 0 where
+  pub low : w ≤ last → r ≡ w
+  pub high : last < w → r ≡ overWeight
+
+-- what the sum of the words from `at` on tells
+pub record SumsWords (fs : List ℕ) (N at sum : ℕ) : Type 0 where
+  pub counts : sum / overWeight ≡ countIf slotCount (overFrom fs N at)
+  pub none : sum % overWeight ≡ 0 → NoNumber fs N at
+
+-- what is told of an occupied frame's page and words
+pub record NumbersNoted (fs : List ℕ) (N at page : ℕ) (seen seen' : List Bool) (over : ℕ) (fresh : Bool) : Type 0 where
   pub few : over ≤ slotCount
   pub counts : fresh ≡ true → over ≡ countIf slotCount (overFrom fs N at)
-  pub notes : NotesFrame fs N at page seen seen' fresh
+  pub notes : NotesNumbers fs N at page seen seen' fresh
+
+-- the row has the numbers of frame f from place i on
+pub record HasNumbers (fs : List ℕ) (N f : ℕ) (r : FrameRecord) (row : ℕ → ℕ) (i : ℕ) : Type 0 where
+  pub page : r .used ≡ true → row i ≡ r .page .0
+  pub words : r .used ≡ true → HasWords fs N (pageSize * f) row (i + 1)
+  pub empty : r .used ≡ false → (j : ℕ) → j < perFrame → row (i + j) ≡ 0
+
+-- what is told of frame f
+pub record FrameNoted (fs : List ℕ) (F N f : ℕ) (r : FrameRecord) (above : Bool) (seen seen' : List Bool) (over : ℕ) (ok : Bool) : Type 0 where
+  pub few : over ≤ slotCount
+  pub fits : ok ≡ true → Fits fs F N f r above
+  pub counts : ok ≡ true → r .used ≡ true → over ≡ countIf slotCount (overFrom fs N (pageSize * f))
+  pub nothing : ok ≡ true → r .used ≡ false → over ≡ 0
+  pub notes : (row : ℕ → ℕ) (i : ℕ) → HasNumbers fs N f r row i → Passed N row i seen → Fits fs F N f r above → Progress N row (i + perFrame) seen' ok
 
 -- ---- the parents
 
@@ -155,18 +188,12 @@ pub record HasParents (rs : List FrameRecord) (F : ℕ) (t : List ℕ) : Type 0 
 abbrev pub AllLead : (ℕ → ℕ) → ℕ → Type 0
 AllLead up F = (f : ℕ) → f < F → (n : ℕ) × (climb up n f ≡ 0)
 
--- how the pass ends: whether the frames fit, and the table of their parents where they do
-pub record PassEnds (rs : List FrameRecord) (fs : List ℕ) (F N : ℕ) (t : List ℕ) (r : Bool) : Type 0 where
-  pub fits : Decides r (FramesFit rs fs F N)
-  pub parents : r ≡ true → HasParents rs F t
-
 -- what the pass has settled before frame f
-pub record Before (rs : List FrameRecord) (fs : List ℕ) (F N f : ℕ) (seen : List Bool) (t : List ℕ) (others over : ℕ) : Type 0 where
-  pub some : 1 ≤ f
+pub record Before (rs : List FrameRecord) (fs : List ℕ) (F N f : ℕ) (seen : List Bool) (t : List ℕ) (occupied over : ℕ) : Type 0 where
   pub most : f ≤ F
-  pub fits : (g : ℕ) → 0 < g → g < f → FrameFits rs fs F N g
+  pub fits : (g : ℕ) → g < f → Fits fs F N g (recordAt rs g) (aboveUsed rs (recordAt rs g))
   pub passed : Passed N (numbers rs fs N) (perFrame * f) seen
   pub room : F ≤ length t
   pub parents : (g : ℕ) → g < f → entry t g ≡ parentIn rs g
-  pub counted : others ≡ countIf f (isOther rs)
+  pub counted : occupied ≡ countIf f (isUsed rs)
   pub named : over ≡ countIf (slotCount * f) (isOver rs fs N)

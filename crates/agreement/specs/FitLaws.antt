@@ -1,28 +1,27 @@
 -- Laws of the code's tests, for the proofs of its functions. Assumes nothing.
-use Prim.Native.Nat.{ℕ, zero, suc, _+_, _*_, _-_, _/_, _%_, _<_, _≤_}
+use Prim.Native.Nat.{ℕ, _+_, _*_, _-_, _/_, _%_, _<_, _≤_}
 use mathlib.Core.Path.{_≡_, refl, sym, _∙_, ap}
 use mathlib.Core.Logic.{_≢_}
-use mathlib.Core.Bool.{Bool, true, false, not}
+use mathlib.Core.Bool.{Bool, true, false, not, _||_}
 use mathlib.Core.List.{List}
 use native.Mathlib.Omega.{arith}
 use native.Mathlib.Nat.{add-zero, add-assoc}
 use native.Mathlib.Decide.{ℕ-discrete, decLt}
-use borrow.Author.Tests.{lt-ltb, le-ltb, le-leb, lt-leb, eq-eqb, ne-eqb, eqb-true, not-true, leb-true}
+use borrow.Author.Count.{below-more}
+use borrow.Author.Tests.{lt-ltb, le-ltb, le-leb, lt-leb, eq-eqb, ne-eqb, eqb-true, not-true}
 use mir.Val.{boolByte}
-use lib.Dec.{eqb, ltb, leb}
-use lib.ListN.{length, getD, set}
-use lib.Seq.{getD-set-same, getD-set-other}
-use Rattle.page.specs.Figures.{slotCount, pageSize, wordSize}
+use lib.Dec.{eqb}
+use lib.Bits.{bitOr, bitAnd, or-add-and, and-le-l, and-le-r, or-zero-l}
+use Rattle.page.specs.Figures.{slotCount, pageSize, wordSize, mostPages}
 use Rattle.page.specs.Word.{wordAt}
 use Rattle.page.specs.Page.{slot}
 use Rattle.machine.specs.declared.FrameRecord.{FrameRecord}
-use Rattle.machine.specs.Tests.{pick, _and_}
-use Rattle.machine.specs.TestLaws.{pick-yes, pick-no, both, and-true, and-yes, and-no}
+use Rattle.machine.specs.Tests.{_and_}
+use Rattle.machine.specs.TestLaws.{pick-yes, pick-no, both, and-true, and-yes, and-no, clash}
 use Rattle.machine.specs.Machine.{recordAt, pageIn}
 use Rattle.machine.specs.Agreement.{isBlank}
-use Rattle.agreement.specs.Counting.{countIf, count-add, count-ext, count-none}
-use Rattle.agreement.specs.Seen.{Passed, pass-zeros}
-use Rattle.agreement.specs.Fit.{Blank, Weighs, numberBelow, perFrame, numberIn, numbers, overFrom, isOver, isOther, HasWords}
+use Rattle.agreement.specs.Counting.{countIf, count-zero, count-yes, count-no, count-add, count-ext, count-none, count-le}
+use Rattle.agreement.specs.Fit.{Blank, NoField, Gathers, RootFits, Resident, Linked, Fits, numberBelow, perFrame, numberIn, numbers, overFrom, isOver, HasWords, HasNumbers, overWeight, WordWeighs, SumsWords}
 
 -- ---- the all-zero record
 
@@ -51,33 +50,45 @@ of-blank r h =
     both _ _ (ap not (h .used)) (both _ _ (ap not (h .dirty)) (both _ _ (eq-eqb _ 0 (h .usage)) (both _ _ (eq-eqb _ 0 (h .slot))
     (both _ _ (eq-eqb _ 0 (h .parent)) (both _ _ (eq-eqb _ 0 (h .pins)) (eq-eqb _ 0 (h .page)))))))
 
+-- ---- fields or-ed together
+
+or-nothing : (a b : ℕ) → bitOr a b ≡ 0 → (a ≡ 0) × (b ≡ 0)
+or-nothing a b e = let s : bitOr a b + bitAnd a b ≡ a + b = or-add-and a b in (omega (arith, and-le-r a b), omega (arith, and-le-l a b))
+
+nothing-or : (a b : ℕ) → a ≡ 0 → b ≡ 0 → bitOr a b ≡ 0
+nothing-or a b x y = rw (x, y) (or-zero-l 0)
+
+no-mark : (a b c : Bool) → ((a || b) || c) ≡ false → (a ≡ false) × (b ≡ false) × (c ≡ false)
+no-mark false false false e = (refl, refl, refl)
+no-mark false false true e = absurd (clash e)
+no-mark false true c e = absurd (clash e)
+no-mark true b c e = absurd (clash e)
+
+pub gathers : (r : FrameRecord) (m : Bool) (p s l : ℕ)
+    → Gathers r (NoField m p s l) (NoField ((m || r .used) || r .dirty) (bitOr p (r .parent .0)) (bitOr s (r .usage + 256 * r .slot)) (bitOr l (r .pins + 65536 * r .page .0)))
+gathers r m p s l = record {
+  kept = λ z. record {
+    marks = no-mark m (r .used) (r .dirty) (z .marks) .0;
+    parent = or-nothing p (r .parent .0) (z .parent) .0;
+    small = or-nothing s _ (z .small) .0;
+    large = or-nothing l _ (z .large) .0;
+  };
+  blank = λ z.
+      let u = no-mark m (r .used) (r .dirty) (z .marks) in
+      let x : r .usage + 256 * r .slot ≡ 0 = or-nothing s _ (z .small) .1 in
+      let y : r .pins + 65536 * r .page .0 ≡ 0 = or-nothing l _ (z .large) .1 in
+      record { used = u .1; dirty = u .2; usage = omega arith; slot = omega arith; parent = or-nothing p (r .parent .0) (z .parent) .1; pins = omega arith; page = omega arith };
+  nothing = λ n b. record {
+    marks = rw (n .marks, b .used, b .dirty);
+    parent = nothing-or p _ (n .parent) (b .parent);
+    small = nothing-or s _ (n .small) (omega (arith, b .usage, b .slot));
+    large = nothing-or l _ (n .large) (omega (arith, b .pins, b .page));
+  };
+}
+
 pub bool-small : (b : Bool) → boolByte b ≤ 1
 bool-small true = omega arith
 bool-small false = omega arith
-
-bool-zero : (b : Bool) → boolByte b ≡ 0 → b ≡ false
-bool-zero true e = absurd (omega arith)
-bool-zero false e = refl
-
--- the fields of a record as digits
-module _ (r : FrameRecord) (usage : r .usage < 256) (slot : r .slot < 256) (parent : r .parent .0 < 256) (pins : r .pins < 65536) (page : r .page .0 < 65536) where
-  pub weighs : Weighs r (boolByte (r .used) + 256 * boolByte (r .dirty) + (65536 * r .usage + 16777216 * r .slot) + (r .pins + 65536 * r .page .0) + r .parent .0)
-  weighs = record {
-    small = omega (arith, bool-small (r .used), bool-small (r .dirty));
-    nothing = λ z. record {
-      used = bool-zero (r .used) (omega arith);
-      dirty = bool-zero (r .dirty) (omega arith);
-      usage = omega arith;
-      slot = omega arith;
-      parent = omega arith;
-      pins = omega arith;
-      page = omega arith;
-    };
-    blank = λ b.
-        let u : boolByte (r .used) ≡ 0 = ap boolByte (b .used) in
-        let d : boolByte (r .dirty) ≡ 0 = ap boolByte (b .dirty) in
-        omega (arith, b .usage, b .slot, b .parent, b .pins, b .page);
-  }
 
 -- ---- the numbers in a row
 
@@ -129,14 +140,12 @@ module _ (rs : List FrameRecord) (fs : List ℕ) (N f : ℕ) where
       numbers-used (1 + k) (omega arith) u ∙ sym (pick-no (pageIn rs f) (ne-eqb (1 + k) 0 (λ z. omega arith)) refl) ∙ ap (λ (x : ℕ). numberBelow N (slot fs f x)) e
 
   -- the row has the words of an occupied frame
-  pub has-words : recordAt rs f .used ≡ true → HasWords fs N (pageSize * f) (numbers rs fs N) (perFrame * f + 1)
+  has-words : recordAt rs f .used ≡ true → HasWords fs N (pageSize * f) (numbers rs fs N) (perFrame * f + 1)
   has-words u k h = ap (numbers rs fs N) (add-assoc (perFrame * f) 1 k) ∙ numbers-word k h u ∙ ap (numberBelow N) (slot-from fs f k)
 
-  -- the numbers of an empty frame are passed over
-  pub pass-empty : (seen : List Bool) → recordAt rs f .used ≡ false → Passed N (numbers rs fs N) (perFrame * f) seen → Passed N (numbers rs fs N) (perFrame * (f + 1)) seen
-  pass-empty seen u t =
-      let e : perFrame * (f + 1) ≡ perFrame * f + perFrame = omega arith in
-      rw e (pass-zeros N (numbers rs fs N) (perFrame * f) seen perFrame (λ j h. numbers-empty j h u) t)
+  -- the row has the numbers of frame f
+  pub has-numbers : HasNumbers fs N f (recordAt rs f) (numbers rs fs N) (perFrame * f)
+  has-numbers = record { page = numbers-page; words = has-words; empty = λ u j h. numbers-empty j h u }
 
   -- ---- the words that are not below N, counted frame by frame
 
@@ -173,3 +182,66 @@ module _ (fs : List ℕ) (N at k w : ℕ) (e : w ≡ wordAt fs (at + wordSize * 
   pub over-low : w < N → overFrom fs N at k ≡ false
   unfolding overFrom
   over-low l = rw (← e) (lt-leb N w l)
+
+-- ---- a frame fits
+
+module _ (fs : List ℕ) (F N f : ℕ) (r : FrameRecord) (above : Bool) where
+  pub fits-root : f ≡ 0 → RootFits r → Fits fs F N f r above
+  fits-root z k = record { root = λ e. k; resident = λ n. absurd (n z); linked = λ n. absurd (n z); empty = λ u. absurd (clash (sym (k .used) ∙ u)) }
+
+  pub fits-linked : f ≢ 0 → r .used ≡ true → Resident F N r → Linked fs f r above → Fits fs F N f r above
+  fits-linked n u k l = record { root = λ z. absurd (n z); resident = λ m v. k; linked = λ m v. l; empty = λ v. absurd (clash (sym u ∙ v)) }
+
+  pub fits-empty : f ≢ 0 → Blank r → Fits fs F N f r above
+  fits-empty n b = record { root = λ z. absurd (n z); resident = λ m v. absurd (clash (sym v ∙ b .used)); linked = λ m v. absurd (clash (sym v ∙ b .used)); empty = λ v. b }
+
+  pub page-below : 1 ≤ N → Fits fs F N f r above → r .used ≡ true → r .page .0 < N
+  page-below o k u = elim (ℕ-discrete f 0) [
+    | yes z ↦ omega (arith, k .root z .page)
+    | no z ↦ k .resident z u .page
+  ]
+
+-- ---- the sum of words
+
+-- what the sum of the first k words from `at` on tells: `low` is what the numbers below N add up to
+pub record SumsTo (fs : List ℕ) (N at k sum : ℕ) : Type 0 where
+  pub low : ℕ
+  pub parts : sum ≡ overWeight * countIf k (overFrom fs N at) + low
+  pub few : low ≤ 4095 * k
+  pub none : low ≡ 0 → (j : ℕ) → j < k → numberBelow N (wordAt fs (at + wordSize * j)) ≡ 0
+
+module _ (fs : List ℕ) (N at : ℕ) where
+  pub sums-none : SumsTo fs N at 0 0
+  sums-none = record { low = 0; parts = sym (ap (λ (n : ℕ). overWeight * n + 0) (count-zero (overFrom fs N at))); few = omega arith; none = λ z j h. absurd (omega arith) }
+
+  pub sums-few : (k sum : ℕ) → k ≤ slotCount → SumsTo fs N at k sum → sum ≤ 1114112
+  sums-few k sum h s = omega (arith, s .parts, s .few, count-le k (overFrom fs N at))
+
+  -- one more word
+  pub sums-more : 1 ≤ N → N ≤ mostPages → (k sum w r : ℕ) → w ≡ wordAt fs (at + wordSize * k) → WordWeighs (N - 1) w r → SumsTo fs N at k sum → SumsTo fs N at (k + 1) (sum + r)
+  sums-more o l k sum w r e W s = elim (decLt w N) [
+    | yes h ↦
+        let c : countIf (k + 1) (overFrom fs N at) ≡ countIf k (overFrom fs N at) = count-no k (overFrom fs N at) (over-low fs N at k w e h) in
+        let x : r ≡ w = W .low (omega arith) in
+        record {
+          low = s .low + w;
+          parts = omega (arith, s .parts);
+          few = omega (arith, s .few);
+          none = λ z. below-more _ k (s .none (omega arith)) (rw (← e) (below-low N w h ∙ omega arith));
+        }
+    | no h ↦
+        let c : countIf (k + 1) (overFrom fs N at) ≡ countIf k (overFrom fs N at) + 1 = count-yes k (overFrom fs N at) (over-high fs N at k w e (omega arith)) in
+        let x : r ≡ overWeight = W .high (omega arith) in
+        record {
+          low = s .low;
+          parts = omega (arith, s .parts);
+          few = omega (arith, s .few);
+          none = λ z. below-more _ k (s .none z) (rw (← e) (below-high N w (omega arith)));
+        }
+  ]
+
+  pub sums-all : (sum : ℕ) → SumsTo fs N at slotCount sum → SumsWords fs N at sum
+  sums-all sum s = record {
+    counts = omega (arith, s .parts, s .few);
+    none = λ z. s .none (omega (arith, s .parts, s .few));
+  }

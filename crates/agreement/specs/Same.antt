@@ -1,40 +1,30 @@
 -- What the code tests is `agree`: both ways, by the facts that `agree` tells. Assumes nothing.
-use Prim.Native.Nat.{ℕ, zero, suc, _+_, _*_, _-_, _/_, _%_, _<_, _≤_}
+use Prim.Native.Nat.{ℕ, _+_, _*_, _-_, _/_, _%_, _<_, _≤_}
 use mathlib.Core.Path.{_≡_, refl, sym, _∙_, ap}
 use mathlib.Core.Logic.{_≢_}
-use mathlib.Core.Bool.{Bool, true, false, not}
+use mathlib.Core.Bool.{Bool, true, false}
 use mathlib.Core.List.{List}
 use native.Mathlib.Omega.{arith}
 use native.Mathlib.Nat.{le-refl}
 use native.Mathlib.Decide.{ℕ-discrete, decLt}
-use borrow.Author.Tests.{eq-eqb, ne-eqb, le-leb, leb-true, eqb-false, not-true}
-use lib.Dec.{eqb, leb}
-use lib.ListN.{length, getD}
+use borrow.Author.Tests.{le-leb, leb-true}
 use Rattle.page.specs.Figures.{slotCount, recordCount, swizzleBit}
 use Rattle.page.specs.Word.{frameIn, frameWord}
 use Rattle.page.specs.Page.{slot}
 use Rattle.machine.specs.declared.FrameRecord.{FrameRecord}
 use Rattle.machine.specs.declared.Pool.{Pool}
 use Rattle.machine.specs.Tests.{_and_}
-use Rattle.machine.specs.TestLaws.{clash, Case, case, on, off, is-off, both, and-true}
+use Rattle.machine.specs.TestLaws.{clash, case, on, off, is-off, both, and-true}
 use Rattle.machine.specs.Machine.{recordAt, pageIn, occupied}
 use Rattle.machine.specs.Agreement.{parentOf, parentSlotOf, agree}
 use Rattle.machine.specs.AgreementFacts.{occupied-lt, occupied-used, make-occupied, InRange, Points, Agreed, facts, tests}
-use Rattle.machine.specs.Parents.{climb, climb-zero, climb-suc, climb-reach, reach-climb}
+use Rattle.machine.specs.Parents.{climb-zero, climb-suc, climb-reach, reach-climb}
 use Rattle.agreement.specs.Sizes.{Sizes}
 use Rattle.agreement.specs.Deciding.{Decides, holds, fails}
-use Rattle.agreement.specs.Counting.{countIf, Into, into-le, into-all}
-use Rattle.agreement.specs.Fit.{Blank, RootFits, Resident, Linked, FrameFits, RestBlank, perFrame, numbers, numberBelow, isOver, isOther, FramesFit, parentIn, entry, HasParents, AllLead}
+use Rattle.agreement.specs.Counting.{countIf, without, without-of, without-other, count-without, Into, into-le, into-all}
+use Rattle.agreement.specs.Fit.{Blank, RootFits, Resident, Linked, Fits, RestBlank, perFrame, numbers, numberBelow, isOver, isUsed, aboveUsed, FramesFit, parentIn, entry, HasParents, AllLead}
 use Rattle.agreement.specs.FitLaws.{blank-of, of-blank, below-low, below-high, numbers-page, numbers-word, numbers-empty}
 use Rattle.agreement.specs.Steps.{Below, climb-same}
-
-other-of : (rs : List FrameRecord) (f : ℕ) → isOther rs f ≡ true → (f ≢ 0) × (recordAt rs f .used ≡ true)
-unfolding isOther
-other-of rs f t = let a = and-true (not (eqb f 0)) (recordAt rs f .used) t in (eqb-false f 0 (not-true _ (a .0)), a .1)
-
-of-other : (rs : List FrameRecord) (f : ℕ) → f ≢ 0 → recordAt rs f .used ≡ true → isOther rs f ≡ true
-unfolding isOther
-of-other rs f n u = both _ _ (ap not (ne-eqb f 0 n)) u
 
 over-of : (rs : List FrameRecord) (fs : List ℕ) (N j : ℕ) → isOver rs fs N j ≡ true → (recordAt rs (j / slotCount) .used ≡ true) × (N ≤ slot fs (j / slotCount) (j % slotCount))
 unfolding isOver
@@ -49,30 +39,40 @@ of-over rs fs N f k h u l =
     rw (a, b) (both _ _ u (le-leb N (slot fs f k) l))
 
 module _ (p : Pool) (fs : List ℕ) (S : Sizes (p .count) (p .pages) fs) where
-  -- frame f's record, parent's word and parent's frame, for every frame but the root's
-  module _ (fits : (f : ℕ) → 0 < f → f < p .count → FrameFits (p .records) fs (p .count) (p .pages) f) where
+  -- each frame's record, and the word that names it
+  module _ (fits : (f : ℕ) → f < p .count → Fits fs (p .count) (p .pages) f (recordAt (p .records) f) (aboveUsed (p .records) (recordAt (p .records) f))) where
+    root-fits : RootFits (recordAt (p .records) 0)
+    root-fits = fits 0 (omega (arith, S .least)) .root refl
+
     resident : (f : ℕ) → f ≢ 0 → f < p .count → recordAt (p .records) f .used ≡ true → Resident (p .count) (p .pages) (recordAt (p .records) f)
-    resident f n l u = fits f (omega arith) l .resident u
+    resident f n l u = fits f l .resident n u
 
     linked : (f : ℕ) → f ≢ 0 → f < p .count → recordAt (p .records) f .used ≡ true → Linked fs f (recordAt (p .records) f) (recordAt (p .records) (parentOf p f) .used)
-    linked f n l u = fits f (omega arith) l .linked u
+    linked f n l u =
+        let e : parentOf p f % recordCount ≡ parentOf p f = omega (arith, resident f n l u .parent, S .most) in
+        let k = fits f l .linked n u in
+        record { occupied = sym (ap (λ (i : ℕ). recordAt (p .records) i .used) e) ∙ k .occupied; word = k .word }
+
+    -- the frames but the root's
+    isOther : ℕ → Bool
+    isOther = without 0 (isUsed (p .records))
 
     -- where the word stands that names frame f
     place : ℕ → ℕ
     place f = slotCount * parentOf p f + parentSlotOf p f
 
     -- every frame but the root's has a word of its own that is not below N
-    words-of : Into (p .count) (slotCount * p .count) (isOther (p .records)) (isOver (p .records) fs (p .pages)) place
-    unfolding place
+    words-of : Into (p .count) (slotCount * p .count) isOther (isOver (p .records) fs (p .pages)) place
+    unfolding place isOther
     words-of = record {
-      below = λ f l t. let o = other-of (p .records) f t in let r = resident f (o .0) l (o .1) in omega (arith, r .parent, r .slot);
+      below = λ f l t. let o = without-of 0 (isUsed (p .records)) f t in let r = resident f (o .0) l (o .1) in omega (arith, r .parent, r .slot);
       lands = λ f l t.
-          let o = other-of (p .records) f t in
+          let o = without-of 0 (isUsed (p .records)) f t in
           let k = linked f (o .0) l (o .1) in
           of-over (p .records) fs (p .pages) (parentOf p f) (parentSlotOf p f) (resident f (o .0) l (o .1) .slot) (k .occupied) (omega (arith, k .word, S .pages));
       apart = λ f g l m t v e.
-          let o = other-of (p .records) f t in
-          let q = other-of (p .records) g v in
+          let o = without-of 0 (isUsed (p .records)) f t in
+          let q = without-of 0 (isUsed (p .records)) g v in
           let a = resident f (o .0) l (o .1) in
           let b = resident g (q .0) m (q .1) in
           let x : parentOf p f ≡ parentOf p g = omega (arith, a .slot, b .slot) in
@@ -82,14 +82,15 @@ module _ (p : Pool) (fs : List ℕ) (S : Sizes (p .count) (p .pages) fs) where
     }
 
     -- where there are no more such words, each names a frame that points back to it
-    over-named : countIf (slotCount * p .count) (isOver (p .records) fs (p .pages)) ≡ countIf (p .count) (isOther (p .records))
+    over-named : countIf (slotCount * p .count) (isOver (p .records) fs (p .pages)) + 1 ≡ countIf (p .count) (isUsed (p .records))
         → (f k : ℕ) → occupied p f ≡ true → k < slotCount → p .pages ≤ slot fs f k → (g : ℕ) × Points p g f k × (slot fs f k ≡ frameWord g)
-    unfolding place
+    unfolding place isOther
     over-named even f k o h l =
-        let few : countIf (slotCount * p .count) (isOver (p .records) fs (p .pages)) ≤ countIf (p .count) (isOther (p .records)) = omega arith in
-        let r = into-all (p .count) (slotCount * p .count) (isOther (p .records)) (isOver (p .records) fs (p .pages)) place words-of few
+        let all : countIf (p .count) (isUsed (p .records)) ≡ countIf (p .count) isOther + 1 = count-without (p .count) 0 (isUsed (p .records)) (omega (arith, S .least)) (root-fits .used) in
+        let few : countIf (slotCount * p .count) (isOver (p .records) fs (p .pages)) ≤ countIf (p .count) isOther = omega arith in
+        let r = into-all (p .count) (slotCount * p .count) isOther (isOver (p .records) fs (p .pages)) place words-of few
         (slotCount * f + k) (omega (arith, occupied-lt p f o)) (of-over (p .records) fs (p .pages) f k h (occupied-used p f o) l) in
-        let t = other-of (p .records) (r .0) (r .2) in
+        let t = without-of 0 (isUsed (p .records)) (r .0) (r .2) in
         let a = resident (r .0) (t .0) (r .1) (t .1) in
         let e : slotCount * parentOf p (r .0) + parentSlotOf p (r .0) ≡ slotCount * f + k = r .3 in
         let x : parentOf p (r .0) ≡ f = omega (arith, a .slot) in
@@ -101,7 +102,10 @@ module _ (p : Pool) (fs : List ℕ) (S : Sizes (p .count) (p .pages) fs) where
         )
 
   -- ================ from the code's tests to the facts
-  module _ (root : RootFits (recordAt (p .records) 0)) (rest : RestBlank (p .records) (p .count)) (fit : FramesFit (p .records) fs (p .count) (p .pages)) where
+  module _ (rest : RestBlank (p .records) (p .count)) (fit : FramesFit (p .records) fs (p .count) (p .pages)) where
+    root : RootFits (recordAt (p .records) 0)
+    root = root-fits (fit .fits)
+
     row : ℕ → ℕ
     row = numbers (p .records) fs (p .pages)
 
@@ -150,7 +154,7 @@ module _ (p : Pool) (fs : List ℕ) (S : Sizes (p .count) (p .pages) fs) where
         | yes z ↦ rw z (record { page = omega (arith, root .page, S .some); pins = root .pins; usage = root .usage; parent = omega (arith, root .parent, S .least); slot = omega (arith, root .slot) })
         | no z ↦ elim (case (recordAt (p .records) f .used)) [
           | on u ↦ let r = resident (fit .fits) f z m u in record { page = r .page; pins = r .pins; usage = r .usage; parent = r .parent; slot = r .slot }
-          | off u ↦ blank-range _ (fit .fits f (omega arith) m .empty u)
+          | off u ↦ blank-range _ (fit .fits f m .empty u)
         ]
       ]
     ]
@@ -160,7 +164,7 @@ module _ (p : Pool) (fs : List ℕ) (S : Sizes (p .count) (p .pages) fs) where
       | no m ↦ rest f (omega arith) l
       | yes m ↦
           let u : recordAt (p .records) f .used ≡ false = is-off _ (λ v. clash (sym (make-occupied p f m v) ∙ o)) in
-          fit .fits f (elim (ℕ-discrete f 0) [ yes z ↦ absurd (clash (sym root-occupied ∙ ap (occupied p) (sym z) ∙ o)) | no z ↦ omega arith ]) m .empty u
+          fit .fits f m .empty u
     ]
 
     points-back : (f k : ℕ) → occupied p f ≡ true → k < slotCount → swizzleBit ≤ slot fs f k → Points p (frameIn (slot fs f k)) f k
@@ -209,11 +213,11 @@ module _ (p : Pool) (fs : List ℕ) (S : Sizes (p .count) (p .pages) fs) where
 
   -- ================ from the facts to the code's tests
   module _ (A : Agreed p fs) where
-    used-occupied : (f : ℕ) → f < recordCount → recordAt (p .records) f .used ≡ true → occupied p f ≡ true
-    used-occupied f l u = elim (case (occupied p f)) [ on o ↦ o | off o ↦ absurd (clash (sym u ∙ blank-of _ (A .blank f l o) .used)) ]
-
     unused : (f : ℕ) → recordAt (p .records) f .used ≡ false → occupied p f ≡ false
     unused f u = is-off _ (λ o. clash (sym (occupied-used p f o) ∙ u))
+
+    is-rest : RestBlank (p .records) (p .count)
+    is-rest f l m = blank-of _ (A .blank f m (is-off _ (λ o. omega (arith, occupied-lt p f o))))
 
     is-root : RootFits (recordAt (p .records) 0)
     is-root = record {
@@ -225,20 +229,23 @@ module _ (p : Pool) (fs : List ℕ) (S : Sizes (p .count) (p .pages) fs) where
       page = A .rootPage;
     }
 
-    is-rest : RestBlank (p .records) (p .count)
-    is-rest f l m = blank-of _ (A .blank f m (is-off _ (λ o. omega (arith, occupied-lt p f o))))
+    is-resident : (f : ℕ) → f < p .count → f ≢ 0 → occupied p f ≡ true → Resident (p .count) (p .pages) (recordAt (p .records) f)
+    is-resident f l n o =
+        let r = A .inRange f (omega (arith, S .most)) in
+        record { pins = r .pins; usage = r .usage; slot = r .slot; parent = r .parent; page = r .page; other = λ e. n (A .apart f 0 o (A .root) (e ∙ sym (A .rootPage))) }
 
-    is-fit : (f : ℕ) → 0 < f → f < p .count → FrameFits (p .records) fs (p .count) (p .pages) f
-    is-fit f n l =
-        let m : f < recordCount = omega (arith, S .most) in
-        let z : f ≢ 0 = λ e. omega arith in
-        record {
-          resident = λ u.
-              let r = A .inRange f m in
-              record { pins = r .pins; usage = r .usage; slot = r .slot; parent = r .parent; page = r .page; other = λ e. z (A .apart f 0 (used-occupied f m u) (A .root) (e ∙ sym (A .rootPage))) };
-          linked = λ u. record { occupied = occupied-used p _ (A .parent f (used-occupied f m u) z); word = A .parentWord f (used-occupied f m u) z };
-          empty = λ u. blank-of _ (A .blank f m (unused f u));
-        }
+    is-linked : (f : ℕ) → f < p .count → f ≢ 0 → occupied p f ≡ true → Linked fs f (recordAt (p .records) f) (aboveUsed (p .records) (recordAt (p .records) f))
+    is-linked f l n o =
+        let e : parentOf p f % recordCount ≡ parentOf p f = omega (arith, is-resident f l n o .parent, S .most) in
+        record { occupied = ap (λ (i : ℕ). recordAt (p .records) i .used) e ∙ occupied-used p _ (A .parent f o n); word = A .parentWord f o n }
+
+    is-fit : (f : ℕ) → f < p .count → Fits fs (p .count) (p .pages) f (recordAt (p .records) f) (aboveUsed (p .records) (recordAt (p .records) f))
+    is-fit f l = record {
+      root = λ z. rw z is-root;
+      resident = λ n u. is-resident f l n (make-occupied p f l u);
+      linked = λ n u. is-linked f l n (make-occupied p f l u);
+      empty = λ u. blank-of _ (A .blank f (omega (arith, S .most)) (unused f u));
+    }
 
     -- what stands at a place of the row
     data At (i : ℕ) : Type 0 where
@@ -296,10 +303,11 @@ module _ (p : Pool) (fs : List ℕ) (S : Sizes (p .count) (p .pages) fs) where
         ])
 
     -- every such word names a frame of its own
-    frames-of : Into (slotCount * p .count) (p .count) (isOver (p .records) fs (p .pages)) (isOther (p .records)) (λ j. frameIn (slot fs (j / slotCount) (j % slotCount)))
+    frames-of : Into (slotCount * p .count) (p .count) (isOver (p .records) fs (p .pages)) (isOther is-fit) (λ j. frameIn (slot fs (j / slotCount) (j % slotCount)))
+    unfolding isOther
     frames-of = record {
       below = λ j l t. occupied-lt p _ (swizzled j l t .at);
-      lands = λ j l t. let q = swizzled j l t in of-other (p .records) _ (q .other) (occupied-used p _ (q .at));
+      lands = λ j l t. let q = swizzled j l t in without-other 0 (isUsed (p .records)) _ (q .other) ∙ occupied-used p _ (q .at);
       apart = λ i j l m t v e.
           let a = swizzled i l t in
           let b = swizzled j m v in
@@ -308,10 +316,12 @@ module _ (p : Pool) (fs : List ℕ) (S : Sizes (p .count) (p .pages) fs) where
           omega arith;
     }
 
-    is-even : countIf (slotCount * p .count) (isOver (p .records) fs (p .pages)) ≡ countIf (p .count) (isOther (p .records))
+    is-even : countIf (slotCount * p .count) (isOver (p .records) fs (p .pages)) + 1 ≡ countIf (p .count) (isUsed (p .records))
+    unfolding isOther
     is-even =
-        let a : countIf (slotCount * p .count) (isOver (p .records) fs (p .pages)) ≤ countIf (p .count) (isOther (p .records)) = into-le _ _ _ _ _ frames-of in
-        let b : countIf (p .count) (isOther (p .records)) ≤ countIf (slotCount * p .count) (isOver (p .records) fs (p .pages)) = into-le _ _ _ _ _ (words-of is-fit) in
+        let a : countIf (slotCount * p .count) (isOver (p .records) fs (p .pages)) ≤ countIf (p .count) (isOther is-fit) = into-le _ _ _ _ _ frames-of in
+        let b : countIf (p .count) (isOther is-fit) ≤ countIf (slotCount * p .count) (isOver (p .records) fs (p .pages)) = into-le _ _ _ _ _ (words-of is-fit) in
+        let c : countIf (p .count) (isUsed (p .records)) ≡ countIf (p .count) (isOther is-fit) + 1 = count-without (p .count) 0 (isUsed (p .records)) (omega (arith, S .least)) (is-root .used) in
         omega arith
 
     is-frames : FramesFit (p .records) fs (p .count) (p .pages)
@@ -328,28 +338,25 @@ module _ (p : Pool) (fs : List ℕ) (S : Sizes (p .count) (p .pages) fs) where
   disagree : (Agreed p fs → ⊥) → false ≡ agree p fs
   disagree h = sym (is-off (agree p fs) (λ t. h (facts p fs t)))
 
-  pub end-root : (r : Bool) → Decides r (RootFits (recordAt (p .records) 0)) → r ≡ false → false ≡ agree p fs
-  end-root r d z = disagree (λ A. fails r _ d z (is-root p fs S A))
-
   module _ (count : ℕ) (e : count ≡ p .count) where
     pub end-hand : (h : ℕ) → h ≡ p .hand .0 → count ≤ h → false ≡ agree p fs
     end-hand h q l = disagree (λ A. omega (arith, A .hand))
 
-    pub end-rest : (r : Bool) → Decides r (RestBlank (p .records) count) → r ≡ false → false ≡ agree p fs
-    end-rest r d z = disagree (λ A. fails r (RestBlank (p .records) count) d z (rw e (is-rest p fs S A)))
+    pub end-rest : (RestBlank (p .records) count → ⊥) → false ≡ agree p fs
+    end-rest h = disagree (λ A. h (rw e (is-rest p fs S A)))
 
-    pub end-frames : (r : Bool) → Decides r (FramesFit (p .records) fs count (p .pages)) → r ≡ false → false ≡ agree p fs
-    end-frames r d z = disagree (λ A. fails r (FramesFit (p .records) fs count (p .pages)) d z (rw e (is-frames p fs S A)))
+    pub end-frames : (FramesFit (p .records) fs count (p .pages) → ⊥) → false ≡ agree p fs
+    end-frames h = disagree (λ A. h (rw e (is-frames p fs S A)))
 
-    module _ (root : RootFits (recordAt (p .records) 0)) (rest : RestBlank (p .records) count) (fit : FramesFit (p .records) fs count (p .pages)) (t : List ℕ) (has : HasParents (p .records) count t) where
+    module _ (rest : RestBlank (p .records) count) (fit : FramesFit (p .records) fs count (p .pages)) (t : List ℕ) (has : HasParents (p .records) count t) where
       below : (f : ℕ) → f < count → parentIn (p .records) f < count
-      below f l = rw e (parent-below p fs S root (rw e at rest) (rw e at fit) f (omega arith))
+      below f l = rw e (parent-below p fs S (rw e at rest) (rw e at fit) f (omega arith))
 
       pub table-below : Below count t
       table-below = record { size = has .size; lt = λ f l. rw (has .parent f l) (below f l) }
 
       pub table-root : entry t 0 ≡ 0
-      table-root = has .parent 0 (omega (arith, S .least)) ∙ root .parent
+      table-root = has .parent 0 (omega (arith, S .least)) ∙ fit .fits 0 (omega (arith, S .least)) .root refl .parent
 
       lead-in : AllLead (entry t) count → AllLead (parentIn (p .records)) count
       lead-in lead f l = let a = lead f l in (a .0, sym (climb-same (entry t) (parentIn (p .records)) count (has .parent) (table-below .lt) (a .0) f l) ∙ a .1)
@@ -359,6 +366,6 @@ module _ (p : Pool) (fs : List ℕ) (S : Sizes (p .count) (p .pages) fs) where
 
       pub end-lead : (h : ℕ) → h ≡ p .hand .0 → h < count → (r : Bool) → Decides r (AllLead (entry t) count) → r ≡ agree p fs
       end-lead h q l r d = elim (case r) [
-        | on z ↦ z ∙ sym (tests p fs (code-facts p fs S root (rw e at rest) (rw e at fit) (omega arith) (rw e at (lead-in (holds r _ d z)))))
+        | on z ↦ z ∙ sym (tests p fs (code-facts p fs S (rw e at rest) (rw e at fit) (omega arith) (rw e at (lead-in (holds r _ d z)))))
         | off z ↦ z ∙ disagree (λ A. fails r (AllLead (entry t) count) d z (lead-out (rw e (is-lead p fs S A))))
       ]

@@ -1,6 +1,6 @@
 -- Numbers in a row, `row i` the number at i, and what a table of the numbers seen so far tells of them. Assumes nothing.
 use Prim.Native.Nat.{ℕ, zero, suc, _+_, _<_, _≤_}
-use mathlib.Core.Path.{_≡_, refl, sym, _∙_, ap}
+use mathlib.Core.Path.{_≡_, sym, _∙_, ap}
 use mathlib.Core.Logic.{_≢_}
 use mathlib.Core.Bool.{Bool, true, false, not}
 use mathlib.Core.List.{List}
@@ -10,8 +10,8 @@ use native.Mathlib.Decide.{ℕ-discrete, decLt}
 use borrow.Author.Tests.{eq-eqb, ne-eqb}
 use lib.Dec.{eqb}
 use lib.ListN.{length, getD, set, replicate, length-set, length-replicate, getD-replicate, List·getD-eq-default}
-use lib.Seq.{getD-set-same, getD-set-other, set-getD}
-use Rattle.machine.specs.TestLaws.{clash, Case, case, on, off}
+use lib.Seq.{getD-set-same, getD-set-other, set-getD, set-set}
+use Rattle.machine.specs.TestLaws.{clash, case, on, off}
 
 -- no number but 0 stands at two of the first n places, and the table has exactly the numbers there, 0 apart
 pub record Passed (N : ℕ) (row : ℕ → ℕ) (n : ℕ) (seen : List Bool) : Type 0 where
@@ -115,6 +115,18 @@ module _ (N : ℕ) (row : ℕ → ℕ) (n : ℕ) (seen : List Bool) where
       | no z ↦ rw (s ∙ ap (λ (b : Bool). set seen x (not b)) (ne-eqb x 0 z)) (pass-new l z u t)
     ]
 
+    -- the same with the mark of number 0 taken back
+    pub pass-marked : x < N → getD seen x false ≡ false → Passed N row n seen → Passed N row (n + 1) (set (set seen x true) 0 false)
+    pass-marked l u t = elim (ℕ-discrete x 0) [
+      | yes z ↦
+          let k : set (set seen x true) 0 false ≡ seen = ap (λ (i : ℕ). set (set seen i true) 0 false) z ∙ set-set seen 0 true false ∙ back seen (t .zero) in
+          rw k (pass-zero (here ∙ z) t)
+      | no z ↦ let p = pass-new l z u t in rw (back (set seen x true) (p .zero)) p
+    ]
+      where
+        back : (s : List Bool) → getD s 0 false ≡ false → set s 0 false ≡ s
+        back s e = ap (set s 0) (sym e) ∙ set-getD s 0 false
+
 -- zeros from place n on
 pub pass-zeros : (N : ℕ) (row : ℕ → ℕ) (n : ℕ) (seen : List Bool) (m : ℕ) → ((k : ℕ) → k < m → row (n + k) ≡ 0) → Passed N row n seen → Passed N row (n + m) seen
 pass-zeros N row n seen zero z t = rw (add-zero n) t
@@ -123,14 +135,14 @@ pass-zeros N row n seen (suc m) z t =
     rw e (pass-zero N row (n + m) seen (z m (omega arith)) (pass-zeros N row n seen m (λ k h. z k (omega arith)) t))
 
 -- how the answer `fresh` goes on by one place: it turns false at a number seen before
-pub progress : (N : ℕ) (row : ℕ → ℕ) (n : ℕ) (seen seen' : List Bool) (x : ℕ) → row n ≡ x → x < N → seen' ≡ set seen x (not (eqb x 0))
+pub progress : (N : ℕ) (row : ℕ → ℕ) (n : ℕ) (seen : List Bool) (x : ℕ) → row n ≡ x → x < N
     → (fresh fresh' : Bool) → (getD seen x false ≡ true → fresh' ≡ false) → (getD seen x false ≡ false → fresh' ≡ fresh)
-    → Progress N row n seen fresh → Progress N row (n + 1) seen' fresh'
-progress N row n seen seen' x e l s true fresh' a b p = elim (case (getD seen x false)) [
+    → Progress N row n seen fresh → Progress N row (n + 1) (set (set seen x true) 0 false) fresh'
+progress N row n seen x e l true fresh' a b p = elim (case (getD seen x false)) [
   | on u ↦ rw (a u) (twice-here N row n seen x e u p)
-  | off u ↦ rw (b u) (pass-noted N row n seen x e l seen' s u p)
+  | off u ↦ rw (b u) (pass-marked N row n seen x e l u p)
 ]
-progress N row n seen seen' x e l s false fresh' a b p = elim (case (getD seen x false)) [
+progress N row n seen x e l false fresh' a b p = elim (case (getD seen x false)) [
   | on u ↦ rw (a u) (twice-more row n (n + 1) (omega arith) p)
   | off u ↦ rw (b u) (twice-more row n (n + 1) (omega arith) p)
 ]

@@ -2,19 +2,64 @@
 use machine::FrameRecord;
 use page::FrameIndex;
 use page::PageNumber;
-ghost use Prim.Native.Nat.{_≤_};
-ghost use Rattle.page.specs.Figures.{mostFrames};
 ghost use Rattle.agreement.specs.Deciding.{Decides};
-ghost use Rattle.agreement.specs.Fit.{Weighs, RootFits, Resident, RestBlank};
+ghost use Rattle.agreement.specs.Fit.{Blank, NoField, Gathers, RootFits, Resident};
 
-// A number that is 0 for the all-zero record alone. Neighbouring fields are added up as the digits of one number, so that the compiler reads them at once.
-pub fn weight(rec: FrameRecord) -> u64
-    ensures { λ r. ⌜ Weighs rec r ⌝ }
+// The fields of some records, or-ed together by their width: 0 where all of the records are zero.
+pub struct Fields {
+    pub marks: bool,
+    pub parent: u8,
+    pub small: u16,
+    pub large: u32,
+}
+
+// The fields of no record.
+pub fn no_fields() -> Fields
+    ensures { λ r. ⌜ NoField (r .marks) (r .parent) (r .small) (r .large) ⌝ }
 {
-    let marks = rec.used as u64 + 256 * (rec.dirty as u64);
-    let small = 65536 * (rec.usage as u64) + 16777216 * (rec.slot as u64);
-    let large = rec.pins as u64 + 65536 * (rec.page.0 as u64);
-    marks + small + large + rec.parent.0 as u64
+    Fields {
+        marks: false,
+        parent: 0,
+        small: 0,
+        large: 0,
+    }
+}
+
+// The fields with those of one more record. Neighbours are digits of one number, which the compiler reads at once.
+pub fn gather(fields: Fields, rec: FrameRecord) -> Fields
+    ensures { λ r. ⌜ Gathers rec (NoField (fields .marks) (fields .parent) (fields .small) (fields .large)) (NoField (r .marks) (r .parent) (r .small) (r .large)) ⌝ }
+{
+    let small = rec.usage as u16 + 256 * (rec.slot as u16);
+    let large = rec.pins as u32 + 65536 * (rec.page.0 as u32);
+    Fields {
+        marks: fields.marks | rec.used | rec.dirty,
+        parent: fields.parent | rec.parent.0,
+        small: fields.small | small,
+        large: fields.large | large,
+    }
+}
+
+// Is every field 0.
+pub fn is_nothing(fields: Fields) -> bool
+    ensures { λ r. ⌜ Decides r (NoField (fields .marks) (fields .parent) (fields .small) (fields .large)) ⌝ }
+{
+    if fields.marks {
+        return false;
+    }
+    if fields.parent != 0 {
+        return false;
+    }
+    if fields.small != 0 {
+        return false;
+    }
+    fields.large == 0
+}
+
+// Is the record all zero.
+pub fn is_blank(rec: FrameRecord) -> bool
+    ensures { λ r. ⌜ Decides r (Blank rec) ⌝ }
+{
+    is_nothing(gather(no_fields(), rec))
 }
 
 // Is frame 0's record that of page 0, with no parent.
@@ -62,19 +107,4 @@ pub fn resident_fits(rec: FrameRecord, count: usize, pages: u32) -> bool
         return false;
     }
     true
-}
-
-// Are the records from F on all zero.
-pub fn rest_blank(records: [FrameRecord; 64], count: usize) -> bool
-    requires { ⌜ count ≤ mostFrames ⌝ }
-    ensures { λ r. ⌜ Decides r (RestBlank records count) ⌝ }
-{
-    let mut sum: u64 = 0;
-    let mut f = count;
-    while f < FrameIndex::MOST {
-        let rec = records[f];
-        sum += weight(rec);
-        f += 1;
-    }
-    sum == 0
 }

@@ -8,7 +8,7 @@ ghost use Rattle.agreement.specs.Fit.{entry, AllLead};
 ghost use Rattle.agreement.specs.Steps.{Below, Round};
 
 // Moves each of the first entries on to what its entry has: are all at frame 0 then.
-fn jump(table: &mut [u8; 64], count: usize) -> bool
+fn jump(table: &mut [u8; FrameIndex::MOST], count: usize) -> bool
     requires { ⌜ (count ≤ mostFrames) × Below count (now table) ⌝ }
     ensures { λ r. ⌜ Round count (now (table .entry)) (now (table .exit)) r ⌝ }
 {
@@ -26,7 +26,7 @@ fn jump(table: &mut [u8; 64], count: usize) -> bool
 }
 
 // Does following parents lead each frame to frame 0. Each round of jumps doubles the steps at least, so that 64 steps take six rounds.
-pub fn lead_to_root(parents: [u8; 64], count: usize) -> bool
+pub fn lead_to_root(parents: [u8; FrameIndex::MOST], count: usize) -> bool
     requires { ⌜ (count ≤ mostFrames) × Below count parents × (entry parents 0 ≡ 0) ⌝ }
     ensures { λ r. ⌜ Decides r (AllLead (entry parents) count) ⌝ }
 {

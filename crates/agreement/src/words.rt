@@ -4,18 +4,15 @@ ghost use mathlib.Core.Path.{_≡_};
 ghost use Prim.Native.Nat.{_+_, _≤_};
 ghost use lib.ListN.{length};
 ghost use Rattle.page.specs.Figures.{payloadStart, mostPages};
-ghost use Rattle.agreement.specs.Fit.{numberBelow, Tallies, NotesWords, NotedAs};
+ghost use Rattle.agreement.specs.Fit.{numberBelow, WordWeighs, SumsWords, NotesWords, NumbersNoted};
 
-// How many words of a frame are not below N, and whether some word is a number below N.
-struct Tally {
-    over: u32,
-    numbers: bool,
-}
+// What a word that isn't below N counts for in a sum of words: more than 16 numbers below 4,096 add up to.
+const OVER: u32 = 65536;
 
-// How many words of a frame are not below N, and whether its page and its numbers were new.
+// What was found of a frame: how many of its words are not below N, and whether it fits so far.
 pub struct Noted {
     pub over: u32,
-    pub fresh: bool,
+    pub fits: bool,
 }
 
 // A word that is below N; 0 in place of any other.
@@ -28,33 +25,34 @@ fn number_below(pages: u32, w: u32) -> u32
     0
 }
 
-// The tally of the words from `start` on. Every word is looked at, so that the compiler compares them side by side.
-fn tally_words(frames: &[u8], start: usize, pages: u32) -> Tally
-    requires { ⌜ start + payloadStart ≤ length (now frames) ⌝ }
-    ensures { λ r. ⌜ Tallies (now (frames .entry)) pages start (r .over) (r .numbers) ⌝ }
+// What a word counts for: a number up to N − 1, the last, for itself, any other for OVER.
+fn word_weight(last: u32, w: u32) -> u32
+    ensures { λ r. ⌜ WordWeighs last w r ⌝ }
 {
-    let mut over: u32 = 0;
-    let mut numbers = false;
+    if w <= last {
+        return w;
+    }
+    OVER
+}
+
+// The sum of the 16 words from `start` on. No word is branched on, so that the compiler takes them side by side.
+fn word_sum(frames: &[u8], start: usize, pages: u32) -> u32
+    requires { ⌜ (1 ≤ pages) × (pages ≤ mostPages) × (start + payloadStart ≤ length (now frames)) ⌝ }
+    ensures { λ r. ⌜ SumsWords (now (frames .entry)) pages start r ⌝ }
+{
+    let last = pages - 1;
+    let mut sum: u32 = 0;
     let mut k: usize = 0;
     while k < PageNumber::SLOTS {
         let w = page::word::word_at(frames, start + page::word::SIZE * k);
-        if pages <= w {
-            over += 1;
-        } else {
-            if w != 0 {
-                numbers = true;
-            }
-        }
+        sum += word_weight(last, w);
         k += 1;
     }
-    Tally {
-        over: over,
-        numbers: numbers,
-    }
+    sum
 }
 
-// Notes the numbers below N among the words from `start` on: were they all new. No word is branched on but by its number.
-fn mark_words(frames: &[u8], start: usize, pages: u32, seen: &mut [bool; 4096]) -> bool
+// Notes the numbers below N among the 16 words from `start` on: were they all new. No word is branched on: any other stands for number 0, whose mark is taken back.
+fn mark_words(frames: &[u8], start: usize, pages: u32, seen: &mut [bool; PageNumber::MOST]) -> bool
     requires { ⌜ (1 ≤ pages) × (pages ≤ mostPages) × (start + payloadStart ≤ length (now frames)) ⌝ }
     ensures { λ r. ⌜ NotesWords (now (frames .entry)) pages start (now (seen .entry)) (now (seen .exit)) r ⌝ }
 {
@@ -66,41 +64,43 @@ fn mark_words(frames: &[u8], start: usize, pages: u32, seen: &mut [bool; 4096]) 
         if seen[x] {
             fresh = false;
         }
-        seen[x] = x != 0;
+        seen[x] = true;
+        seen[0] = false;
         k += 1;
     }
     fresh
 }
 
-// Notes the page of a frame and the numbers in its words, from `start` on.
-pub fn note_frame(
+// Notes the page and the words of an occupied frame that starts at `start`: it fits where its numbers are all new.
+pub fn note_numbers(
     frames: &[u8],
     start: usize,
     page: PageNumber,
     pages: u32,
-    seen: &mut [bool; 4096],
+    seen: &mut [bool; PageNumber::MOST],
 ) -> Noted
     requires { ⌜ (page .0 + 1 ≤ pages) × (pages ≤ mostPages) × (start + payloadStart ≤ length (now frames)) ⌝ }
-    ensures { λ r. ⌜ NotedAs (now (frames .entry)) pages start (page .0) (now (seen .entry)) (now (seen .exit)) (r .over) (r .fresh) ⌝ }
+    ensures { λ r. ⌜ NumbersNoted (now (frames .entry)) pages start (page .0) (now (seen .entry)) (now (seen .exit)) (r .over) (r .fits) ⌝ }
 {
     let x = crate::wide::from_u16(page.0);
     if seen[x] {
         return Noted {
             over: 0,
-            fresh: false,
+            fits: false,
         };
     }
     seen[x] = x != 0;
-    let tally = tally_words(frames, start, pages);
-    if tally.numbers {
+    let sum = word_sum(frames, start, pages);
+    let over = sum / OVER;
+    if sum % OVER != 0 {
         let fresh = mark_words(frames, start, pages, seen);
         return Noted {
-            over: tally.over,
-            fresh: fresh,
+            over: over,
+            fits: fresh,
         };
     }
     Noted {
-        over: tally.over,
-        fresh: true,
+        over: over,
+        fits: true,
     }
 }

@@ -6,7 +6,7 @@ use mathlib.Core.Bool.{Bool, true, false, not}
 use mathlib.Core.List.{List, [], _∷_, _++_}
 use native.Mathlib.Omega.{arith}
 use borrow.Author.Tests.{eq-eqb, ne-eqb, lt-ltb, le-ltb, ltb-true, ltb-false}
-use lib.Dec.{eqb, ltb}
+use lib.Dec.{ltb}
 use Rattle.page.specs.Figures.{slotCount, mostFrames, maxPins, swizzleBit}
 use Rattle.page.specs.Word.{isNumber, frameIn}
 use Rattle.page.specs.Page.{slot}
@@ -14,7 +14,7 @@ use Rattle.machine.specs.declared.Pool.{Pool}
 use Rattle.machine.specs.declared.Handle.{Handle}
 use Rattle.machine.specs.declared.Fix.{Fix}
 use Rattle.machine.specs.declared.Swept.{Swept}
-use Rattle.machine.specs.Tests.{pick, _or_, Rule, firstBroken, verdict}
+use Rattle.machine.specs.Tests.{pick, Rule, firstBroken, verdict}
 use Rattle.machine.specs.TestLaws.{pick-yes, pick-no, or-left, or-skip, kept-then, broken-here, none-broken}
 use Rattle.machine.specs.Machine.{State, state, withPool, recordAt, pageIn, withRecord, pinned}
 use Rattle.machine.specs.Answers.{refused, handle, Out, out}
@@ -22,7 +22,7 @@ use Rattle.machine.specs.Sweep.{firstEmpty, sweep, withSwept}
 use Rattle.machine.specs.Moves.{evicted, loaded}
 use Rattle.machine.specs.Naming.{loadable}
 use Rattle.machine.specs.Rules.{wordOf, rule7, rule13, rule14, rule15}
-use Rattle.machine.specs.Calls.{decide, poolRules, wordRules, pinnedOut, loadedOut, sweptOut, missOut, rootCall, fixCall}
+use Rattle.machine.specs.Calls.{decide, poolRules, wordRules, loadedOut, missOut, rootCall, fixCall}
 use Rattle.machine.specs.Ready.{Ready, Sized, ready}
 use Rattle.machine.specs.RuleLaws.{SlotKept, held-occupied, decide-no, decide-yes, pool-stops, pool-passes, slot-stops, slot-passes}
 use Rattle.machine.specs.SweepLaws.{sweep-sound, swept-ready}
@@ -59,22 +59,22 @@ module _ (p : Pool) (f : ℕ) {r : Fix} where
 pub load-given : (s : State) (f k e q looks : ℕ) {r : Fix} {p : Pool} {fs st : List ℕ} → r ≡ givenFix p e q looks → state p fs st ≡ loaded s f k e q → fixOut r fs st ≡ loadedOut s f k e q looks
 load-given s f k e q looks h l = rw h (ap (out (handle e q looks)) l)
 
+-- where a sweep ended with a frame taken: what the eviction asks for, and then the load
+module _ (s : State) (R : Ready s) {v : Swept} (e : v ≡ sweep (s .pool) (s .frames)) (t : v .taken ≡ true) where
+  pub victim-ready : Ready (withPool s (withSwept (s .pool) v)) × (v .frame .0 < s .pool .count)
+  victim-ready = rw e (swept-ready s R, sweep-sound (s .pool) (s .frames) (R .hand) (ap (λ (x : Swept). x .taken) (sym e) ∙ t) .0)
+
+  pub load-ready : {f k q : ℕ} {p : Pool} {fs st : List ℕ} → f < s .pool .count → k < slotCount → q < s .pool .pages → state p fs st ≡ evicted (withPool s (withSwept (s .pool) v)) (v .frame .0)
+      → Sized (state p fs st) × (f < p .count) × (k < slotCount) × (v .frame .0 < p .count) × (q < p .pages)
+  load-ready lf lk lq h =
+      let u : State = withPool s (withSwept (s .pool) v) in
+      let r = victim-ready in
+      let c = evicted-counts u (v .frame .0) in
+      let n : _ ≡ s .pool .count = ap (λ (x : State). x .pool .count) h ∙ c .0 in
+      let m : _ ≡ s .pool .pages = ap (λ (x : State). x .pool .pages) h ∙ c .1 in
+      (subst (λ (x : State). Sized x) (sym h) (evicted-sized u (v .frame .0) (r .0) (r .1)), rw n lf, lk, rw n (r .1), rw m lq)
+
 module _ (s : State) (f k q : ℕ) where
-  -- where a sweep ended with a frame taken
-  module _ (R : Ready s) (lf : f < s .pool .count) (lk : k < slotCount) (lq : q < s .pool .pages) {v : Swept} (e : v ≡ sweep (s .pool) (s .frames)) (t : v .taken ≡ true) where
-    pub victim-ready : Ready (withPool s (withSwept (s .pool) v)) × (v .frame .0 < s .pool .count)
-    victim-ready = rw e (swept-ready s R, sweep-sound (s .pool) (s .frames) (R .hand) (ap (λ (x : Swept). x .taken) (sym e) ∙ t) .0)
-
-    pub load-ready : {p : Pool} {fs st : List ℕ} → state p fs st ≡ evicted (withPool s (withSwept (s .pool) v)) (v .frame .0)
-        → Sized (state p fs st) × (f < p .count) × (k < slotCount) × (v .frame .0 < p .count) × (q < p .pages)
-    load-ready h =
-        let c = evicted-counts (withPool s (withSwept (s .pool) v)) (v .frame .0) in
-        let r = victim-ready in
-        let z = evicted-sized (withPool s (withSwept (s .pool) v)) (v .frame .0) (r .0) (r .1) in
-        let n : _ ≡ s .pool .count = ap (λ (x : State). x .pool .count) h ∙ c .0 in
-        let m : _ ≡ s .pool .pages = ap (λ (x : State). x .pool .pages) h ∙ c .1 in
-        (subst (λ (x : State). Sized x) (sym h) z, rw n lf, lk, rw n (r .1), rw m lq)
-
   pub swept-given : {v : Swept} {t : State} {x : Out} → v ≡ sweep (s .pool) (s .frames) → v .taken ≡ true → t ≡ evicted (withPool s (withSwept (s .pool) v)) (v .frame .0)
       → x ≡ loadedOut t f k (v .frame .0) q (v .looks) → x ≡ sweptDecided s f k q
   unfolding sweptDecided

@@ -30,7 +30,7 @@ fn load_into(
     answer::given(next, frame, page, looks)
 }
 
-// Sweeps for a frame, evicts its page and loads another one there: rule 15 where none is empty.
+// Loads a page into the frame that a sweep takes, whose page is evicted: rule 15 where no frame is empty.
 fn replace(
     pool: Pool,
     frames: &mut [u8],

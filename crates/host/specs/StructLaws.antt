@@ -2,7 +2,7 @@
 use Prim.Native.Nat.{ℕ}
 use mathlib.Core.Path.{_≡_, refl, sym, _∙_, ap}
 use mathlib.Core.Logic.{_≢_}
-use mathlib.Core.Bool.{Bool, true, false}
+use mathlib.Core.Bool.{true}
 use mathlib.Core.List.{List}
 use lib.Dec.{ltb}
 use Rattle.page.specs.declared.PageNumber.{PageNumber}
@@ -17,13 +17,13 @@ use Rattle.machine.specs.declared.WordAnswer.the-variants.{Names, Refused as Re
 use Rattle.machine.specs.declared.FindAnswer.{FindAnswer}
 use Rattle.machine.specs.declared.FindAnswer.the-variants.{At, Absent, Refused as RefusedFind}
 use Rattle.machine.specs.Tests.{pick, verdict, Rule}
-use Rattle.machine.specs.TestLaws.{pick-yes, pick-no, pick-either, verdict-yes, verdict-no}
+use Rattle.machine.specs.TestLaws.{pick-either, verdict-yes, verdict-no}
 use Rattle.machine.specs.Machine.{State, state, found}
-use Rattle.machine.specs.Answers.{Answer, refused, handle, number, frame, nowhere, Out, out, fixAnswer, wordAnswer, findAnswer}
+use Rattle.machine.specs.Answers.{Answer, refused, frame, nowhere, Out, out, fixAnswer, wordAnswer, findAnswer}
 use Rattle.machine.specs.Rules.{wordOf}
-use Rattle.machine.specs.Calls.{decide, rootRules, pinnedOut, rootCall, fixRules, missOut, fixCall, wordRules, wordCall, pageRules, foundAnswer as foundPlace, findCall}
+use Rattle.machine.specs.Calls.{decide, rootRules, pinnedOut, rootCall, fixRules, missOut, fixCall, wordRules, wordCall, pageRules, foundAnswer as foundIn, findCall}
 use Rattle.machine.specs.History.{accepted}
-use Rattle.machine.specs.Theorem.Outcomes.{Outcome, kept, broken, outcome, no-refusal, one-refusal}
+use Rattle.machine.specs.Theorem.Outcomes.{kept, broken, outcome, no-refusal, one-refusal}
 use Rattle.machine.specs.Theorem.FixCases.{miss-accepted}
 use Rattle.host.specs.declared.answers.Fixed.{Fixed}
 use Rattle.host.specs.declared.answers.Named.{Named}
@@ -58,7 +58,7 @@ unfolding wordCall
 word-numbered s h k = decided s (wordRules s h k) _ refl
 
 pub find-numbered : (s : State) (q : PageNumber) → Numbered (findCall s q .answer)
-unfolding findCall foundPlace
+unfolding findCall foundIn
 find-numbered s q =
     let f = found (s .pool) (q .0) in
     decided s (pageRules s q) _ (pick-either (λ (a : Answer). accepted a ≡ true) (ltb f (s .pool .count)) (frame f) nowhere refl refl)

@@ -1,5 +1,4 @@
 -- The structs that stand for answers at the host boundary: document 01's number and values for each.
-use Prim.Native.Nat.{ℕ}
 use mathlib.Core.Bool.{true, false}
 use Rattle.machine.specs.declared.Pool.{Pool}
 use Rattle.machine.specs.declared.FixAnswer.{FixAnswer}

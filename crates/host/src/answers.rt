@@ -34,6 +34,7 @@ pub struct Found {
     pub frame: FrameIndex,
 }
 
+// The struct for an answer of root or fix.
 pub fn from_fix(fix: Fix) -> Fixed
     ensures { λ r. ⌜ r ≡ fixedOf (fix .answer) (fix .pool) ⌝ }
 {
@@ -61,6 +62,7 @@ pub fn from_fix(fix: Fix) -> Fixed
     }
 }
 
+// The struct for an answer of word.
 pub fn from_word(answer: WordAnswer) -> Named
     ensures { λ r. ⌜ r ≡ namedOf answer ⌝ }
 {
@@ -73,6 +75,7 @@ pub fn from_word(answer: WordAnswer) -> Named
     }
 }
 
+// The struct for an answer of find.
 pub fn from_find(answer: FindAnswer) -> Found
     ensures { λ r. ⌜ r ≡ foundOf answer ⌝ }
 {

@@ -2,14 +2,14 @@
 use Prim.Native.Nat.{ℕ, zero, suc, _+_, _-_, _<_, _≤_}
 use mathlib.Core.Path.{_≡_, refl, sym, _∙_, ap}
 use mathlib.Core.Logic.{_≢_}
-use mathlib.Core.Bool.{Bool, true, false, cond}
+use mathlib.Core.Bool.{true, cond}
 use native.Mathlib.Omega.{arith}
 use native.Mathlib.Nat.{zero-add, suc-add}
 use native.Mathlib.Decide.{ℕ-discrete, decLt}
 use borrow.Author.Tests.{eqb-true, eq-eqb, ne-eqb}
 use lib.Dec.{eqb}
 use Rattle.machine.specs.declared.Pool.{Pool}
-use Rattle.machine.specs.TestLaws.{Case, case, on, off, or-left, or-right, or-second}
+use Rattle.machine.specs.TestLaws.{case, on, off, or-left, or-right, or-second}
 use Rattle.machine.specs.Agreement.{parentOf, reachesRoot}
 
 -- ---- steps to the parent, which `up` gives

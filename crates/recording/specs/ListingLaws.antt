@@ -1,18 +1,18 @@
 -- What a record lists: refused by rule 17, or by the contract of its call. Assumes nothing.
 use Prim.Native.Nat.{ℕ, _+_, _≤_}
 use mathlib.Core.Path.{_≡_, refl, sym, _∙_, ap}
-use mathlib.Core.Bool.{Bool, true, false}
-use mathlib.Core.List.{List, [], _∷_}
+use mathlib.Core.Bool.{true, false}
+use mathlib.Core.List.{List, []}
 use native.Mathlib.Omega.{arith}
 use native.Mathlib.Nat.{le-antisymm}
 use lib.Dec.{eqb, leb}
 use borrow.Author.Tests.{eqb-true, leb-true}
 use Rattle.page.specs.declared.PageNumber.{PageNumber}
 use Rattle.machine.specs.declared.Pool.{Pool}
-use Rattle.machine.specs.Tests.{pick, verdict, firstBroken, _and_}
-use Rattle.machine.specs.TestLaws.{Case, case, on, off, and-true, verdict-no, verdict-yes, kept-then, broken-here, none-broken}
+use Rattle.machine.specs.Tests.{pick, verdict, firstBroken}
+use Rattle.machine.specs.TestLaws.{case, on, off, and-true, verdict-no, verdict-yes, kept-then, broken-here, none-broken}
 use Rattle.machine.specs.Machine.{State, state}
-use Rattle.machine.specs.Answers.{Answer, refused, doneAnswer, Out, out}
+use Rattle.machine.specs.Answers.{Answer, refused, frame, doneAnswer, Out, out}
 use Rattle.machine.specs.Calls.{decide, pageRules, findCall}
 use Rattle.machine.specs.History.{Call, root, fix, unfix, write, link, unlink, evict, settle, find, row}
 use Rattle.recording.specs.declared.lines.Line.{Line}
@@ -28,6 +28,11 @@ done-line b n x = elim (case (eqb n 0)) [
   | on t ↦ let z : n ≡ 0 = eqb-true n 0 t in rw z
   | off t ↦ rw t
 ]
+
+-- find, where it gives a frame
+pub frame-line : (b : List ℕ) (q : PageNumber) {f : ℕ} {x : Pool} {r : Line} → r ≡ lineWith b 0 f (q .0) x → q ≡ pageInRecord b → r ≡ lineFor b (frame f) x
+unfolding lineFor
+frame-line b q {f} {x} e h = e ∙ ap (λ (y : PageNumber). lineWith b 0 f (y .0) x) h
 
 -- from the line of an answer and what the call's contract says
 pub line-listed : {r : Line} (b : List ℕ) (a : Answer) (x : Pool) {fs st : List ℕ} {o : Out} → r ≡ lineFor b a x → out a (state x fs st) ≡ o → lined r fs st ≡ listedOut b o

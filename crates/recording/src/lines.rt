@@ -71,7 +71,10 @@ pub fn of_find(pool: Pool, answer: FindAnswer, entry: &[u8; 16]) -> Line
     ensures { λ r. ⌜ r ≡ lineFor (now (entry .entry)) (findAnswer answer) pool ⌝ }
 {
     match answer {
-        FindAnswer::At(frame) => placed(pool, entry, frame, fields::page(entry)),
+        FindAnswer::At(frame) => {
+            let page = fields::page(entry);
+            placed(pool, entry, frame, page)
+        }
         FindAnswer::Absent => bare(pool, entry, 0),
         FindAnswer::Refused(number) => bare(pool, entry, number),
     }

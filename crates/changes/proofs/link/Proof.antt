@@ -29,7 +29,7 @@ word-requires : tie.Need-word-requires
 word-requires c κs = search needs
 
 put-in-slot-requires : tie.Need-put-in-slot-requires
-put-in-slot-requires c κs = let k = kept (c .before .before) in (omega arith, omega arith, k .slot)
+put-in-slot-requires c κs = let k = kept (c .before .before) in (omega arith, omega arith, omega arith)
 
 same-length-2 : tie.Need-same-length-2
 same-length-2 c = search needs

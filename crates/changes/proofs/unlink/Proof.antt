@@ -26,7 +26,7 @@ unfolding unlinkCall
 returns c = done-no _ _ _ (c .before .unlink-refusal .ensures) (c .if1 .taken)
 
 put-in-slot-requires : tie.Need-put-in-slot-requires
-put-in-slot-requires c κs = let k = kept (c .before) in (omega arith, omega arith, k .slot)
+put-in-slot-requires c κs = let k = kept (c .before) in (omega arith, omega arith, omega arith)
 
 same-length-2 : tie.Need-same-length-2
 same-length-2 c = search needs

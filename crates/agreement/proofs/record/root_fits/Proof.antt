@@ -1,11 +1,8 @@
 -- `root_fits` meets its contract. Assumes nothing.
 use borrow.Author.Needs.{needs}
 use native.Mathlib.Omega.{arith}
-use mathlib.Core.Path.{_≡_, refl, sym, _∙_}
-use mathlib.Core.Bool.{Bool, true, false}
-use Rattle.machine.specs.TestLaws.{clash, Case, case, on, off}
 use Rattle.agreement.specs.Fit.{RootFits}
-use Rattle.agreement.specs.Deciding.{Decides, decide-flag}
+use Rattle.agreement.specs.Deciding.{decide-flag}
 use Rattle.agreement.proofs.record.root_fits.Statement.{statement}
 use Rattle.agreement.proofs.record.root_fits.Tie as tie
 

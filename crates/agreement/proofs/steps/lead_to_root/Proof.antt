@@ -1,8 +1,8 @@
 -- `lead_to_root` meets its contract: each entry is where as many steps lead, or more. Assumes nothing.
 use borrow.Author.Needs.{needs}
-use Prim.Native.Nat.{ℕ, _≤_, _<_, _+_, _*_, _-_}
+use Prim.Native.Nat.{ℕ, _≤_, _+_, _*_, _-_}
 use native.Mathlib.Omega.{arith}
-use mathlib.Core.Path.{_≡_, refl, sym, _∙_}
+use mathlib.Core.Path.{_≡_, refl}
 use Rattle.agreement.specs.Deciding.{holds, fails}
 use Rattle.agreement.specs.Fit.{entry}
 use Rattle.agreement.specs.Steps.{Below, AtRoot, Steps, steps-one, lead-of, at-root}

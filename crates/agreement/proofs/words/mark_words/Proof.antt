@@ -1,9 +1,9 @@
 -- `mark_words` meets its contract: in any row that has the words, those before slot k are noted. Assumes nothing.
 use borrow.Author.Needs.{needs}
-use Prim.Native.Nat.{ℕ, _≤_, _<_, _+_, _*_, _-_}
+use Prim.Native.Nat.{ℕ, _≤_, _<_, _+_, _-_}
 use native.Mathlib.Nat.{add-zero, add-assoc}
 use native.Mathlib.Omega.{arith}
-use mathlib.Core.Path.{_≡_, refl, sym, _∙_, ap}
+use mathlib.Core.Path.{_≡_, sym, _∙_, ap}
 use mathlib.Core.Logic.{⊎-elim}
 use Rattle.machine.specs.TestLaws.{clash}
 use Rattle.agreement.specs.Seen.{Passed, Progress, progress}
@@ -43,6 +43,9 @@ element-copy-out-if1 c = omega (arith, c .number-below .ensures, below-lt (c .be
 element-write-seen : tie.Need-element-write-seen Inv-loop μ-loop
 element-write-seen c = omega (arith, c .before .before .number-below .ensures, below-lt (c .before .before .before .before .before .before .before .args .pages) (c .before .before .before .word-at .result) (c .before .before .before .before .before .before .before .pre .0))
 
+element-write-seen-2 : tie.Need-element-write-seen-2 Inv-loop μ-loop
+element-write-seen-2 c = search needs
+
 add-k : tie.Need-add-k Inv-loop μ-loop
 add-k c = search needs
 
@@ -57,7 +60,7 @@ loop-again c = (
       let e : row (i + c .before .before .before .before .before .loop .k) ≡ c .before .before .number-below .result = h (c .before .before .before .before .before .loop .k) kl ∙ ap (numberBelow (c .before .before .before .before .before .before .before .args .pages)) (sym (c .before .before .before .word-at .ensures)) ∙ sym (c .before .before .number-below .ensures) in
       let l : c .before .before .number-below .result < c .before .before .before .before .before .before .before .args .pages = omega (arith, c .before .before .number-below .ensures, below-lt (c .before .before .before .before .before .before .before .args .pages) (c .before .before .before .word-at .result) (c .before .before .before .before .before .before .before .pre .0)) in
       rw (← add-assoc)
-      (progress _ row _ (c .before .before .before .before .before .loop .seen) _ _ e l refl _ _
+      (progress _ row _ (c .before .before .before .before .before .loop .seen) _ e l _ _
       (λ u. ⊎-elim (λ a. a .1) (λ a. absurd (clash (sym u ∙ a .0 .left))) (c .if1 .came))
       (λ u. ⊎-elim (λ a. absurd (clash (sym (a .0 .taken) ∙ u))) (λ a. a .1) (c .if1 .came))
       (c .before .before .before .before .before .loop .inv .1 row i h t)),
@@ -80,6 +83,7 @@ mark-words-spec =
     cast-x
     element-copy-out-if1
     element-write-seen
+    element-write-seen-2
     add-k
     loop-less
     loop-again

@@ -18,10 +18,12 @@ returns : tie.Need-returns
 returns c = swept-denied _ _ _ _ (c .before .before .sweep .ensures) (not-true _ (c .before .if1 .taken)) (c .refused .ensures)
 
 evict-page-requires : tie.Need-evict-page-requires
-evict-page-requires c κs = victim-ready _ _ _ _ (c .before .before .before .before .before .before .before .before .before .before .pre .0) (c .before .before .before .before .before .before .before .before .before .before .pre .1) (c .before .before .before .before .before .before .before .before .before .before .pre .2) (c .before .before .before .before .before .before .before .before .before .before .pre .3) (c .before .before .before .before .before .before .sweep .ensures) (not-false _ (c .before .before .before .before .before .if1 .left))
+evict-page-requires c κs = victim-ready _ (c .before .before .before .before .before .before .before .before .before .before .pre .0) (c .before .before .before .before .before .before .sweep .ensures) (not-false _ (c .before .before .before .before .before .if1 .left))
 
 load-into-requires : tie.Need-load-into-requires
-load-into-requires c κs = load-ready _ _ _ _ (c .before .before .before .before .before .before .before .before .before .before .before .before .before .before .before .before .before .pre .0) (c .before .before .before .before .before .before .before .before .before .before .before .before .before .before .before .before .before .pre .1) (c .before .before .before .before .before .before .before .before .before .before .before .before .before .before .before .before .before .pre .2) (c .before .before .before .before .before .before .before .before .before .before .before .before .before .before .before .before .before .pre .3) (c .before .before .before .before .before .before .before .before .before .before .before .before .before .sweep .ensures) (not-false _ (c .before .before .before .before .before .before .before .before .before .before .before .before .if1 .left)) (c .before .before .before .before .before .before .evict-page .ensures)
+load-into-requires c κs =
+    let h = c .before .before .before .before .before .before .before .before .before .before .before .before .before .before .before .before .before .pre in
+    load-ready _ (h .0) (c .before .before .before .before .before .before .before .before .before .before .before .before .before .sweep .ensures) (not-false _ (c .before .before .before .before .before .before .before .before .before .before .before .before .if1 .left)) (h .1) (h .2) (h .3) (c .before .before .before .before .before .before .evict-page .ensures)
 
 same-length-2 : tie.Need-same-length-2
 same-length-2 c = search needs

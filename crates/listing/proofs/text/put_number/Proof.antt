@@ -1,5 +1,5 @@
 -- `listing::text::put_number` meets its contract: a u16 has at most 5 digits. Assumes nothing.
-use Prim.Native.Nat.{ℕ, _-_, _^_, _≤_, _<_}
+use Prim.Native.Nat.{ℕ, _-_, _^_, _≤_}
 use mathlib.Core.Path.{_≡_, refl}
 use native.Mathlib.Omega.{arith}
 use native.Mathlib.Decide.{decLe}
@@ -14,12 +14,11 @@ use Rattle.listing.proofs.text.put_number.Statement.{statement}
 use Rattle.listing.proofs.text.put_number.Tie as tie
 
 few : (n k : ℕ) → Fits w16 n → Fewest 10 1 n k → k ≤ 5
-few n k h f = elim (decLe k 5) [
+few n k fits f = elim (decLe k 5) [
   | yes a ↦ a
   | no a ↦
-      let p : 10 ^ 5 ≤ 10 ^ (k - 1) =
-      let h : 5 ≤ k - 1 = omega arith in
-      pow-le-pow-right {n = 10} (omega arith) h in
+      let l : 5 ≤ k - 1 = omega arith in
+      let p : 10 ^ 5 ≤ 10 ^ (k - 1) = pow-le-pow-right {n = 10} (omega arith) l in
       let q : 10 ^ (k - 1) ≤ n = f .2 (omega arith) in
       absurd (omega arith)
 ]

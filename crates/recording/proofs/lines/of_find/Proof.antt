@@ -1,5 +1,6 @@
 -- `recording::lines::of_find` meets its contract: a frame, absent, or a refusal. Assumes nothing.
 use Rattle.recording.specs.Lines.{lineFor}
+use Rattle.recording.specs.ListingLaws.{frame-line}
 use borrow.Author.Needs.{needs}
 use Rattle.recording.proofs.lines.of_find.Statement.{statement}
 use Rattle.recording.proofs.lines.of_find.Tie as tie
@@ -26,8 +27,9 @@ bare-requires-2 : tie.Need-bare-requires-2
 bare-requires-2 c κs = search needs
 
 returns : tie.Need-returns
-unfolding lineFor
-returns c = rw (c .before .before .before .answer .given .1) (rw (c .before .page .ensures) at (c .placed .ensures))
+returns c =
+    let a = c .before .before .before .before .before .args in
+    rw (c .before .before .before .answer .given .1) (frame-line (a .entry .now) (c .before .page .result) (c .placed .ensures) (c .before .page .ensures))
 
 returns-2 : tie.Need-returns-2
 unfolding lineFor

@@ -1,0 +1,78 @@
+// A frame: its record, the word that names it, and the numbers in it.
+use crate::words::Noted;
+use machine::FrameRecord;
+use page::FrameIndex;
+use page::PageNumber;
+ghost use Prim.Native.Nat.{_+_, _*_, _<_, _≤_};
+ghost use lib.ListN.{length};
+ghost use Rattle.page.specs.Figures.{pageSize, wordSize, mostFrames};
+ghost use Rattle.agreement.specs.Sizes.{Sizes};
+ghost use Rattle.agreement.specs.Deciding.{Decides};
+ghost use Rattle.agreement.specs.Fit.{Linked, Fits, FrameNoted};
+
+// Is the frame's parent occupied (`above`), and its word swizzled to the frame.
+fn is_linked(frames: &[u8], frame: FrameIndex, rec: FrameRecord, above: bool) -> bool
+    requires { ⌜ (frame .0 < mostFrames) × (pageSize * rec .parent .0 + (wordSize * rec .slot + wordSize) ≤ length (now frames)) ⌝ }
+    ensures { λ r. ⌜ Decides r (Linked (now (frames .entry)) (frame .0) rec above) ⌝ }
+{
+    if above {
+        let at = PageNumber::SIZE * crate::wide::from_u8(rec.parent.0)
+            + page::word::SIZE * crate::wide::from_u8(rec.slot);
+        let w = page::word::word_at(frames, at);
+        return w == FrameIndex::word(frame);
+    }
+    false
+}
+
+// Does the frame's record fit, and the word that names it.
+fn is_fitting(
+    frames: &[u8],
+    frame: FrameIndex,
+    rec: FrameRecord,
+    above: bool,
+    count: usize,
+    pages: u32,
+) -> bool
+    requires { ⌜ Sizes count pages (now frames) × (frame .0 < count) ⌝ }
+    ensures { λ r. ⌜ Decides r (Fits (now (frames .entry)) count pages (frame .0) rec above) ⌝ }
+{
+    if frame.0 == 0 {
+        return crate::record::root_fits(rec);
+    }
+    if rec.used {
+        if !crate::record::resident_fits(rec, count, pages) {
+            return false;
+        }
+        return is_linked(frames, frame, rec, above);
+    }
+    crate::record::is_blank(rec)
+}
+
+// Tests a frame, and notes the numbers in it where it is occupied.
+pub fn note(
+    frames: &[u8],
+    frame: FrameIndex,
+    rec: FrameRecord,
+    above: bool,
+    count: usize,
+    pages: u32,
+    seen: &mut [bool; PageNumber::MOST],
+) -> Noted
+    requires { ⌜ Sizes count pages (now frames) × (frame .0 < count) ⌝ }
+    ensures { λ r. ⌜ FrameNoted (now (frames .entry)) count pages (frame .0) rec above (now (seen .entry)) (now (seen .exit)) (r .over) (r .fits) ⌝ }
+{
+    if !is_fitting(frames, frame, rec, above, count, pages) {
+        return Noted {
+            over: 0,
+            fits: false,
+        };
+    }
+    if rec.used {
+        let start = PageNumber::SIZE * crate::wide::from_u8(frame.0);
+        return crate::words::note_numbers(frames, start, rec.page, pages, seen);
+    }
+    Noted {
+        over: 0,
+        fits: true,
+    }
+}

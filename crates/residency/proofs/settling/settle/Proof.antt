@@ -1,0 +1,39 @@
+-- `residency::settling::settle` meets its contract. Assumes nothing.
+use mathlib.Core.Path.{sym, _∙_}
+use Rattle.machine.specs.Calls.{settleCall}
+use Rattle.machine.specs.Ready.{rules-kept, ready}
+use Rattle.machine.specs.RuleLaws.{done-no, done-yes}
+use borrow.Author.Needs.{needs}
+use Rattle.residency.proofs.settling.settle.Statement.{statement}
+use Rattle.residency.proofs.settling.settle.Tie as tie
+
+pool-refusal-requires : tie.Need-pool-refusal-requires
+pool-refusal-requires c κs = search needs
+
+same-length : tie.Need-same-length
+same-length c = search needs
+
+returns : tie.Need-returns
+unfolding settleCall
+returns c = done-no _ _ _ (c .before .pool-refusal .ensures) (c .if1 .taken)
+
+settle-pages-requires : tie.Need-settle-pages-requires
+settle-pages-requires c κs = ready _ (rules-kept _ (sym (c .before .before .pool-refusal .ensures) ∙ c .before .if1 .left))
+
+same-length-2 : tie.Need-same-length-2
+same-length-2 c = search needs
+
+returns-2 : tie.Need-returns-2
+unfolding settleCall
+returns-2 c = done-yes _ _ (c .before .before .before .before .before .pool-refusal .ensures) (c .before .before .before .before .if1 .left) (c .before .before .settle-pages .ensures)
+
+pub settle-spec : {M : Type 1} → statement M
+settle-spec =
+    tie.close
+    (tie.spec
+    pool-refusal-requires
+    same-length
+    returns
+    settle-pages-requires
+    same-length-2
+    returns-2)
