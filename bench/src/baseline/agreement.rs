@@ -1,6 +1,5 @@
 //! Rule 2 in one pass over the frames. Where each record's parent word is swizzled to its frame, and there are no more words
-//! of N or above than such records, every swizzled word points back and every other word is a number below N. Where the table
-//! of resident pages and numbers then has as many as there are words other than 0, none stands twice.
+//! of N or above than such records, every swizzled word points back and every other word is a number below N.
 use super::page::{swizzled_to, word, words, Page};
 use super::seen::Seen;
 use pool_host::{FrameRecord, Pool, MAX_USAGE, SLOTS};
@@ -37,14 +36,14 @@ fn frames_fit(records: &[FrameRecord], frames: &[Page], pages: u32, seen: &mut S
             if !in_range(record, frames.len(), pages) || !is_linked(record, frame, records, frames) {
                 return false;
             }
-            seen.add(record.page.into());
+            tally.repeated |= seen.add(record.page.into());
             tally.add_page(&frames[frame], pages, seen);
             others += 1;
         } else if weight(record) != 0 {
             return false;
         }
     }
-    tally.over.iter().sum::<u32>() == others && tally.filled.iter().sum::<u32>() == seen.count(pages)
+    tally.over == others && !tally.repeated
 }
 
 fn in_range(record: &FrameRecord, count: usize, pages: u32) -> bool {
@@ -60,53 +59,37 @@ fn is_linked(record: &FrameRecord, frame: usize, records: &[FrameRecord], frames
     records[parent].used && word(&frames[parent], record.slot.into()) == swizzled_to(frame as u8)
 }
 
-const LANES: usize = 4;
-
-/// How many words are N or above, and how many aren't 0, both in lanes.
+/// How many words are N or above, and whether a page or a number below N stood twice.
 #[derive(Default)]
 struct Tally {
-    over: [u32; LANES],
-    filled: [u32; LANES],
+    over: u32,
+    repeated: bool,
 }
 
 impl Tally {
     fn add_page(&mut self, page: &Page, pages: u32, seen: &mut Seen) {
-        if self.has_number(page, pages) {
-            add_numbers(page, pages, seen);
+        let sum = sum_of_words(page, pages);
+        self.over += sum / OVER;
+        if sum % OVER != 0 {
+            self.repeated |= add_numbers(page, pages, seen);
         }
-    }
-
-    /// Whether a word of the page is a number below N. The words are compared side by side, and wouldn't be if this were
-    /// inlined.
-    #[inline(never)]
-    #[allow(clippy::needless_range_loop)]
-    fn has_number(&mut self, page: &Page, pages: u32) -> bool {
-        let mut numbers = 0;
-        for words in words(page).as_chunks::<LANES>().0 {
-            for lane in 0..LANES {
-                self.over[lane] += u32::from(words[lane] >= pages);
-                self.filled[lane] += u32::from(words[lane] != 0);
-                numbers |= below(words[lane], pages);
-            }
-        }
-        numbers != 0
     }
 }
 
-/// The word, if it is below N; otherwise 0.
-fn below(word: u32, pages: u32) -> u32 {
-    if word < pages {
-        word
-    } else {
-        0
-    }
+/// What a word of N or above counts in a sum: more than the numbers of a page together.
+const OVER: u32 = 1 << 16;
+
+/// The sum of the numbers below N in a page, and of what its other words count. Not inlined, or the words aren't compared side
+/// by side.
+#[inline(never)]
+fn sum_of_words(page: &Page, pages: u32) -> u32 {
+    words(page).iter().map(|word| if *word < pages { *word } else { OVER }).sum()
 }
 
-/// Adds the numbers below N in the words of a page to the table.
-fn add_numbers(page: &Page, pages: u32, seen: &mut Seen) {
-    for slot in 0..SLOTS {
-        seen.add(below(word(page, slot), pages));
-    }
+/// Adds the numbers below N in a page to the table: whether one was there. Not inlined, or its loads are shared with the sum.
+#[inline(never)]
+fn add_numbers(page: &Page, pages: u32, seen: &mut Seen) -> bool {
+    words(page).iter().fold(false, |known, word| known | seen.add(if *word < pages { *word } else { 0 }))
 }
 
 /// Whether following parents leads each occupied frame to frame 0. A walk stops at a frame that is known to.

@@ -27,5 +27,5 @@ pub fn is_sound(store: &[Page]) -> bool {
 fn add_words(page: &Page, pages: u32, seen: &mut Seen) -> bool {
     let words = words(page);
     let below = words.iter().fold(true, |below, word| below & (*word < pages));
-    below && !words.iter().fold(false, |known, word| known | seen.add_known(*word))
+    below && !words.iter().fold(false, |known, word| known | seen.add(*word))
 }
