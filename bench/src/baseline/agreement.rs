@@ -70,7 +70,7 @@ impl Tally {
     fn add_page(&mut self, page: &Page, pages: u32, seen: &mut Seen) {
         let sum = sum_of_words(page, pages);
         self.over += sum / OVER;
-        if sum % OVER != 0 {
+        if !sum.is_multiple_of(OVER) {
             self.repeated |= add_numbers(page, pages, seen);
         }
     }
