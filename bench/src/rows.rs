@@ -3,7 +3,7 @@ use crate::calls::{
     evict, find, fix_hit, fix_over_clean, fix_over_dirty, link, open, peek, root, settle, show, unfix,
     unlink, word, write,
 };
-use crate::timing::{Race, Times, Variants};
+use crate::timing::{deeper, Race, Times, Variants};
 use pool_bench::tree::State;
 
 /// A measured row.
@@ -92,8 +92,8 @@ pub fn measured(word: &str) -> Vec<Figure> {
     let sized = rows.flat_map(|row| sizes(row.grows).map(|(count, pages)| (row, count, pages)));
     let mut races: Vec<(&Row, Race)> =
         sized.map(|(row, count, pages)| (row, row.race(&State::filled(count, pages)))).collect();
-    for _ in 0..PASSES {
-        races.iter_mut().for_each(|(_, race)| race.pass());
+    for pass in 0..PASSES {
+        deeper(pass, &mut || races.iter_mut().for_each(|(_, race)| race.pass()));
     }
     races.iter().map(|(row, race)| row.figure(race)).collect()
 }

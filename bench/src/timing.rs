@@ -78,6 +78,16 @@ impl Race {
     }
 }
 
+/// Runs something some levels of stack deeper, so that passes differ in where arguments and answers lie in a cache line.
+pub fn deeper(levels: u32, run: &mut dyn FnMut()) {
+    let room = black_box([0u8; 16]);
+    match levels {
+        0 => run(),
+        _ => deeper(levels - 1, run),
+    }
+    black_box(&room);
+}
+
 fn batch(variant: &Variant, state: &mut State, calls: u32) -> Duration {
     let start = Instant::now();
     variant(state, calls);
