@@ -89,7 +89,8 @@ fn sum_of_words(page: &Page, pages: u32) -> u32 {
 /// Adds the numbers below N in a page to the table: whether one was there. Not inlined, or its loads are shared with the sum.
 #[inline(never)]
 fn add_numbers(page: &Page, pages: u32, seen: &mut Seen) -> bool {
-    words(page).iter().fold(false, |known, word| known | seen.add(if *word < pages { *word } else { 0 }))
+    let numbers = words(page).map(|word| if word < pages { word } else { 0 });
+    numbers.iter().fold(false, |known, number| known | seen.add_unless_zero(*number))
 }
 
 /// Whether following parents leads each occupied frame to frame 0. A walk stops at a frame that is known to.

@@ -23,9 +23,7 @@ pub fn is_sound(store: &[Page]) -> bool {
     store.iter().all(|page| overlaid(page) == 0 || add_words(page, store.len() as u32, &mut seen))
 }
 
-/// Adds the words of a page to the table: whether each is below N and new.
+/// Adds the words of a page to the table: whether each is 0, or below N and new.
 fn add_words(page: &Page, pages: u32, seen: &mut Seen) -> bool {
-    let words = words(page);
-    let below = words.iter().fold(true, |below, word| below & (*word < pages));
-    below && !words.iter().fold(false, |known, word| known | seen.add(*word))
+    words(page).iter().all(|word| *word == 0 || (*word < pages && !seen.add(*word)))
 }

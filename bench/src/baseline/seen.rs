@@ -13,9 +13,14 @@ impl Seen {
         self.0[usize::from(page)]
     }
 
-    /// Adds a number: whether it was there.
+    /// Adds a number other than 0: whether it was there.
     pub fn add(&mut self, number: u32) -> bool {
-        let was = std::mem::replace(&mut self.0[number as usize % MOST_PAGES], true);
+        std::mem::replace(&mut self.0[number as usize % MOST_PAGES], true)
+    }
+
+    /// Adds a number, unless it is 0: whether it was there. Without a branch.
+    pub fn add_unless_zero(&mut self, number: u32) -> bool {
+        let was = self.add(number);
         self.0[0] = false;
         was
     }
