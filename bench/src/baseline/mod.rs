@@ -1,0 +1,220 @@
+//! The thirteen calls of document 01 in safe Rust, on records lent by `&mut`. Each takes and answers what the function of
+//! the same name in `pool_host` does.
+mod agreement;
+mod moves;
+mod naming;
+mod page;
+mod rules;
+mod seen;
+
+use page::{pages_of, pages_of_mut, SWIZZLE_BIT};
+use pool_host::{
+    Fixed, FrameIndex, FrameRecord, Handle, PageNumber, Pool, Refusal, MAX_PINS, MAX_USAGE, PAGE_SIZE,
+    PAYLOAD_SIZE, PAYLOAD_START,
+};
+use rules::rule;
+use seen::Seen;
+
+#[inline(never)]
+pub fn open(frames: &mut [u8], store: &[u8]) -> Result<Pool, Refusal> {
+    let (count, pages) = (frames.len() / PAGE_SIZE, store.len() / PAGE_SIZE);
+    rule(1, rules::lengths_fit(count, pages, frames, store))?;
+    rule(16, naming::is_sound(pages_of(store)))?;
+    frames[..PAGE_SIZE].copy_from_slice(&store[..PAGE_SIZE]);
+    let mut pool = Pool { count: count as u16, pages: pages as u16, ..Pool::ZERO };
+    pool.records[0].used = true;
+    Ok(pool)
+}
+
+#[inline(never)]
+pub fn root(pool: &mut Pool, frames: &[u8], store: &[u8]) -> Result<Fixed, Refusal> {
+    rules::state(pool, frames, store)?;
+    pin(pool, 0)
+}
+
+#[inline(never)]
+pub fn fix(
+    pool: &mut Pool,
+    frames: &mut [u8],
+    store: &mut [u8],
+    handle: Handle,
+    slot: usize,
+) -> Result<Fixed, Refusal> {
+    let mut seen = Seen::new();
+    rules::state_with(pool, frames, store, &mut seen)?;
+    rules::handle(pool, handle)?;
+    rules::slot(slot)?;
+    let word = page::word(&pages_of(frames)[usize::from(handle.frame)], slot);
+    rule(7, word != 0)?;
+    if word >= SWIZZLE_BIT {
+        return pin(pool, (word - SWIZZLE_BIT) as FrameIndex);
+    }
+    let page = word as PageNumber;
+    rule(14, naming::may_come_in(&pages_of(store)[usize::from(page)], pool.pages, &mut seen))?;
+    let (frame, looks) = moves::frame_for_load(pool, frames, store)?;
+    moves::load(pool, frames, store, handle.frame, slot, frame, page);
+    Ok(Fixed { handle: Handle { frame, page }, looks })
+}
+
+#[inline(never)]
+pub fn unfix(pool: &mut Pool, frames: &[u8], store: &[u8], handle: Handle) -> Result<(), Refusal> {
+    rules::state(pool, frames, store)?;
+    rules::handle(pool, handle)?;
+    pool.record_mut(handle.frame).pins -= 1;
+    Ok(())
+}
+
+#[inline(never)]
+pub fn show<'a>(pool: &Pool, frames: &'a [u8], store: &[u8], handle: Handle) -> Result<&'a [u8], Refusal> {
+    rules::state(pool, frames, store)?;
+    rules::handle(pool, handle)?;
+    Ok(payload(frames, handle.frame.into()))
+}
+
+#[inline(never)]
+pub fn peek<'a>(
+    pool: &Pool,
+    frames: &'a [u8],
+    store: &'a [u8],
+    page: PageNumber,
+) -> Result<&'a [u8], Refusal> {
+    rules::state(pool, frames, store)?;
+    rules::page(pool, page)?;
+    Ok(match frame_of(pool, page) {
+        Some(frame) => payload(frames, frame.into()),
+        None => payload(store, page.into()),
+    })
+}
+
+#[inline(never)]
+pub fn word(
+    pool: &Pool,
+    frames: &[u8],
+    store: &[u8],
+    handle: Handle,
+    slot: usize,
+) -> Result<PageNumber, Refusal> {
+    rules::state(pool, frames, store)?;
+    rules::handle(pool, handle)?;
+    rules::slot(slot)?;
+    let word = page::word(&pages_of(frames)[usize::from(handle.frame)], slot);
+    Ok(moves::plain(&pool.records, word) as PageNumber)
+}
+
+#[inline(never)]
+pub fn write(
+    pool: &mut Pool,
+    frames: &mut [u8],
+    store: &[u8],
+    handle: Handle,
+    offset: usize,
+    bytes: &[u8],
+) -> Result<(), Refusal> {
+    rules::state(pool, frames, store)?;
+    rules::handle(pool, handle)?;
+    rule(5, offset <= PAYLOAD_SIZE && bytes.len() <= PAYLOAD_SIZE - offset)?;
+    if !bytes.is_empty() {
+        let start = PAGE_SIZE * usize::from(handle.frame) + PAYLOAD_START + offset;
+        frames[start..start + bytes.len()].copy_from_slice(bytes);
+        pool.record_mut(handle.frame).dirty = true;
+    }
+    Ok(())
+}
+
+#[inline(never)]
+pub fn link(
+    pool: &mut Pool,
+    frames: &mut [u8],
+    store: &[u8],
+    handle: Handle,
+    slot: usize,
+    page: PageNumber,
+) -> Result<(), Refusal> {
+    let mut seen = Seen::new();
+    rules::state_with(pool, frames, store, &mut seen)?;
+    rules::handle(pool, handle)?;
+    rules::slot(slot)?;
+    rule(6, page != 0 && page < pool.pages)?;
+    rule(8, page::word(&pages_of(frames)[usize::from(handle.frame)], slot) == 0)?;
+    rule(9, !seen.has(page) && !naming::is_stored(pool, pages_of(store), page))?;
+    put_link(pool, frames, handle, slot, page.into());
+    Ok(())
+}
+
+#[inline(never)]
+pub fn unlink(
+    pool: &mut Pool,
+    frames: &mut [u8],
+    store: &[u8],
+    handle: Handle,
+    slot: usize,
+) -> Result<(), Refusal> {
+    rules::state(pool, frames, store)?;
+    rules::handle(pool, handle)?;
+    rules::slot(slot)?;
+    let word = page::word(&pages_of(frames)[usize::from(handle.frame)], slot);
+    rule(7, word != 0)?;
+    rule(10, word < SWIZZLE_BIT)?;
+    put_link(pool, frames, handle, slot, 0);
+    Ok(())
+}
+
+#[inline(never)]
+pub fn evict(pool: &mut Pool, frames: &mut [u8], store: &mut [u8], page: PageNumber) -> Result<(), Refusal> {
+    rules::state(pool, frames, store)?;
+    rules::page(pool, page)?;
+    let frame = frame_of(pool, page).ok_or(11)?;
+    let pinned = pool.record(frame).pins > 0;
+    rule(12, frame != 0 && !pinned && !page::has_swizzled(&pages_of(frames)[usize::from(frame)]))?;
+    moves::evict(pool, frames, store, frame);
+    Ok(())
+}
+
+#[inline(never)]
+pub fn settle(pool: &mut Pool, frames: &[u8], store: &mut [u8]) -> Result<(), Refusal> {
+    rules::state(pool, frames, store)?;
+    moves::settle(pool, pages_of(frames), pages_of_mut(store));
+    Ok(())
+}
+
+#[inline(never)]
+pub fn find(
+    pool: &Pool,
+    frames: &[u8],
+    store: &[u8],
+    page: PageNumber,
+) -> Result<Option<FrameIndex>, Refusal> {
+    rules::state(pool, frames, store)?;
+    rules::page(pool, page)?;
+    Ok(frame_of(pool, page))
+}
+
+/// The records of the F frames.
+fn records(pool: &Pool) -> &[FrameRecord] {
+    &pool.records[..usize::from(pool.count)]
+}
+
+/// The frame that holds a page.
+fn frame_of(pool: &Pool, page: PageNumber) -> Option<FrameIndex> {
+    let holds = |record: &FrameRecord| record.used & (record.page == page);
+    records(pool).iter().position(holds).map(|frame| frame as FrameIndex)
+}
+
+/// One pin and one usage more for the page in a frame.
+fn pin(pool: &mut Pool, frame: FrameIndex) -> Result<Fixed, Refusal> {
+    let record = pool.record_mut(frame);
+    rule(13, record.pins < MAX_PINS)?;
+    record.pins += 1;
+    record.usage = MAX_USAGE.min(record.usage + 1);
+    Ok(Fixed { handle: Handle { frame, page: record.page }, looks: 0 })
+}
+
+/// Puts a word into a slot of the handle's page, which is then dirty.
+fn put_link(pool: &mut Pool, frames: &mut [u8], handle: Handle, slot: usize, word: u32) {
+    page::put_word(&mut pages_of_mut(frames)[usize::from(handle.frame)], slot, word);
+    pool.record_mut(handle.frame).dirty = true;
+}
+
+fn payload(buffer: &[u8], index: usize) -> &[u8] {
+    &pages_of(buffer)[index][PAYLOAD_START..]
+}

@@ -1,0 +1,127 @@
+//! A page leaving its frame, coming into one, and settling; and the frame that a load takes.
+use super::page::{pages_of, pages_of_mut, put_word, swizzled_to, word, Page, SWIZZLE_BIT};
+use super::records;
+use pool_host::{FrameIndex, FrameRecord, PageNumber, Pool, Refusal, MAX_USAGE, SLOTS};
+
+/// The page number that a word stands for.
+pub fn plain(records: &[FrameRecord], word: u32) -> u32 {
+    if word < SWIZZLE_BIT {
+        word
+    } else {
+        records[(word - SWIZZLE_BIT) as usize].page.into()
+    }
+}
+
+/// Takes a page without swizzled words out of its frame. Its bytes are then its image.
+pub fn evict(pool: &mut Pool, frames: &mut [u8], store: &mut [u8], frame: FrameIndex) {
+    let record = std::mem::replace(pool.record_mut(frame), FrameRecord::EMPTY);
+    let frames = pages_of_mut(frames);
+    if record.dirty {
+        pages_of_mut(store)[usize::from(record.page)] = frames[usize::from(frame)];
+    }
+    put_word(&mut frames[usize::from(record.parent)], record.slot.into(), record.page.into());
+}
+
+/// Loads a page into an empty frame, for a slot of its parent's frame.
+pub fn load(
+    pool: &mut Pool,
+    frames: &mut [u8],
+    store: &[u8],
+    parent: FrameIndex,
+    slot: usize,
+    frame: FrameIndex,
+    page: PageNumber,
+) {
+    let frames = pages_of_mut(frames);
+    frames[usize::from(frame)] = pages_of(store)[usize::from(page)];
+    put_word(&mut frames[usize::from(parent)], slot, swizzled_to(frame));
+    *pool.record_mut(frame) =
+        FrameRecord { used: true, dirty: false, usage: 1, slot: slot as u8, parent, pins: 1, page };
+}
+
+/// Writes the image of each dirty page to the store, and marks it clean.
+pub fn settle(pool: &mut Pool, frames: &[Page], store: &mut [Page]) {
+    let parents = parents(records(pool));
+    for (frame, page) in frames.iter().enumerate() {
+        let record = &mut pool.records[frame];
+        if record.dirty {
+            record.dirty = false;
+            let stored = &mut store[usize::from(record.page)];
+            *stored = *page;
+            if parents >> frame & 1 == 1 {
+                unswizzle(stored, page, &pool.records);
+            }
+        }
+    }
+}
+
+/// Puts a page's words into its image.
+fn unswizzle(image: &mut Page, page: &Page, records: &[FrameRecord]) {
+    for slot in 0..SLOTS {
+        put_word(image, slot, plain(records, word(page, slot)));
+    }
+}
+
+/// The frames that are parents, as a mask: where records and frames agree, those with a swizzled word.
+fn parents(records: &[FrameRecord]) -> u64 {
+    records.iter().skip(1).fold(0, |mask, record| mask | u64::from(record.used) << record.parent)
+}
+
+/// An empty frame for a load, and the looks of the sweep that emptied it.
+pub fn frame_for_load(
+    pool: &mut Pool,
+    frames: &mut [u8],
+    store: &mut [u8],
+) -> Result<(FrameIndex, u16), Refusal> {
+    if let Some(frame) = first_empty(pool) {
+        return Ok((frame, 0));
+    }
+    let (victim, looks) = sweep(pool).ok_or(15)?;
+    evict(pool, frames, store, victim);
+    Ok((victim, looks))
+}
+
+/// The first empty frame at or after the hand, going round.
+fn first_empty(pool: &Pool) -> Option<FrameIndex> {
+    let (before, after) = records(pool).split_at(pool.hand.into());
+    let empty = |records: &[FrameRecord]| records.iter().position(|record| !record.used);
+    let frame = empty(after).map(|at| at + before.len()).or_else(|| empty(before));
+    frame.map(|frame| frame as FrameIndex)
+}
+
+/// The clock sweep, worked out and not walked: the open frame of least usage that comes first from the hand on is taken, after
+/// as many whole rounds as that usage. Gives it with the looks.
+fn sweep(pool: &mut Pool) -> Option<(FrameIndex, u16)> {
+    let (count, hand) = (usize::from(pool.count), usize::from(pool.hand));
+    let ahead = |frame| if frame < hand { frame + count - hand } else { frame - hand };
+    let open = open_frames(records(pool));
+    let rounds = (0..=MAX_USAGE).find(|usage| open[usize::from(*usage)] != 0)?;
+    let victim = first_from(hand, open[usize::from(rounds)]);
+    let distance = ahead(victim);
+    let any = open.iter().fold(0, |any, mask| any | mask);
+    for (frame, record) in pool.records[..count].iter_mut().enumerate() {
+        let lost = rounds + u8::from(ahead(frame) < distance);
+        record.usage -= if any >> frame & 1 == 1 { lost } else { 0 };
+    }
+    pool.hand = if victim + 1 < count { victim as FrameIndex + 1 } else { 0 };
+    Some((victim as FrameIndex, u16::from(rounds) * pool.count + distance as u16 + 1))
+}
+
+/// The first frame of a mask at or after the hand, going round. The mask isn't empty.
+fn first_from(hand: usize, mask: u64) -> usize {
+    let ahead = mask >> hand << hand;
+    let from = if ahead == 0 { mask } else { ahead };
+    from.trailing_zeros() as usize
+}
+
+/// The frames open to eviction, as a mask for each usage: not the root's, not pinned, with no swizzled word.
+fn open_frames(records: &[FrameRecord]) -> [u64; MAX_USAGE as usize + 1] {
+    let (mut unpinned, mut low, mut high) = (0, 0, 0);
+    for (frame, record) in records.iter().enumerate() {
+        unpinned |= u64::from(record.used & (record.pins == 0)) << frame;
+        low |= u64::from(record.usage & 1) << frame;
+        high |= u64::from(record.usage >> 1) << frame;
+    }
+    let open = unpinned & !parents(records) & !1;
+    [open & !low & !high, open & low & !high, open & !low & high, open & low & high]
+}

@@ -1,0 +1,36 @@
+//! The copies of the records at the boundary, alone: functions that pass and answer them as the exported calls do.
+use pool_bench::tree::State;
+use pool_host::raw::{Done, Found};
+use pool_host::Pool;
+use std::hint::black_box;
+
+extern "C" fn done(pool: Pool) -> Done {
+    Done { refusal: 0, pool }
+}
+
+extern "C" fn found(_: Pool) -> Found {
+    Found { refusal: 0, present: false, frame: 0 }
+}
+
+extern "C" fn opened() -> Done {
+    Done { refusal: 0, pool: Pool::ZERO }
+}
+
+/// By value in, and in the answer out.
+pub fn in_and_out(state: &mut State) {
+    let call: extern "C" fn(Pool) -> Done = black_box(done);
+    state.pool = call(state.pool).pool;
+}
+
+/// By value in.
+pub fn only_in(state: &mut State) {
+    let call: extern "C" fn(Pool) -> Found = black_box(found);
+    black_box(call(state.pool));
+}
+
+/// In the answer out. The records aren't taken over, since open's are others.
+pub fn only_out(_: &mut State) {
+    let call: extern "C" fn() -> Done = black_box(opened);
+    let pool = call().pool;
+    black_box(&pool);
+}

@@ -1,0 +1,86 @@
+//! The deepest stack of each exported call: a thread's stack is painted, and what the call leaves of the paint tells.
+use crate::calls::{accept, dirtied, CHILD, ROOT};
+use pool_bench::tree::{State, FAN_OUT};
+use pool_host::PageNumber;
+use std::hint::black_box;
+use std::ptr;
+use std::thread::Builder;
+
+/// The deepest stack of a call, in bytes, its arguments and its answer included.
+pub struct Depth {
+    pub call: &'static str,
+    pub bytes: usize,
+}
+
+const THREAD_STACK: usize = 1 << 20;
+/// The painted part of it, below the frames of the functions that paint and look.
+const PAINTED: usize = 1 << 17;
+const MARGIN: usize = 512;
+const PAINT: u8 = 0xa5;
+
+type Call = fn(&mut State);
+
+const COUNT: usize = 64;
+const PAGES: usize = 4096;
+const LAST_PAGE: PageNumber = PAGES as PageNumber - 1;
+/// A page in the last frame, which has no swizzled word.
+const LAST_RESIDENT: PageNumber = COUNT as PageNumber;
+
+macro_rules! call {
+    ($name:ident($($argument:expr),*)) => {
+        (stringify!($name), |s| accept(pool_host::$name(&mut s.pool, &mut s.frames, &mut s.store $(, $argument)*)))
+    };
+}
+
+/// Each call on its longest way.
+const CALLS: [(&str, Call); 13] = [
+    ("open", |s| accept(pool_host::open(&mut s.frames, &s.store))),
+    call!(root()),
+    call!(fix(CHILD, 0)),
+    call!(unfix(CHILD)),
+    call!(show(CHILD)),
+    call!(peek(LAST_PAGE)),
+    call!(word(ROOT, 0)),
+    call!(write(CHILD, 0, &[7; 8])),
+    call!(link(CHILD, FAN_OUT, LAST_PAGE)),
+    call!(unlink(CHILD, 0)),
+    call!(evict(LAST_RESIDENT)),
+    call!(settle()),
+    call!(find(LAST_PAGE)),
+];
+
+/// At F = 64 and N = 4,096, every page dirty.
+pub fn measured() -> Vec<Depth> {
+    let state = dirtied(&State::filled(COUNT, PAGES));
+    CALLS.map(|(call, run)| Depth { call, bytes: depth_of(run, &state) }).into()
+}
+
+/// The depth of a call on a state, in a thread of its own.
+fn depth_of(run: Call, state: &State) -> usize {
+    let mut state = state.clone();
+    let thread = Builder::new().stack_size(THREAD_STACK).spawn(move || depth(run, &mut state));
+    thread.expect("a thread starts").join().expect("the call returns")
+}
+
+#[inline(never)]
+fn depth(run: Call, state: &mut State) -> usize {
+    let mark = 0u8;
+    let top = black_box(&mark) as *const u8 as usize;
+    paint(top);
+    black_box(run)(state);
+    top - lowest_change(top)
+}
+
+fn paint(top: usize) {
+    for at in top - PAINTED..top - MARGIN {
+        // SAFETY: the thread's own stack, below every frame in use.
+        unsafe { ptr::write_volatile(at as *mut u8, PAINT) };
+    }
+}
+
+/// The lowest place whose paint is gone.
+fn lowest_change(top: usize) -> usize {
+    // SAFETY: as in `paint`, which has written these bytes.
+    let painted = |at: &usize| unsafe { ptr::read_volatile(*at as *const u8) } == PAINT;
+    (top - PAINTED..top - MARGIN).find(|at| !painted(at)).unwrap_or(top - MARGIN)
+}

@@ -1,0 +1,225 @@
+//! The baseline answers and leaves exactly what the linked library does, on random calls, refused ones too.
+use pool_bench::random::Random;
+use pool_bench::tree::{self, State};
+use pool_bench::{baseline, tree::FAN_OUT};
+use pool_host::{Handle, PageNumber, Pool, Refusal, PAGE_SIZE, PAYLOAD_SIZE, SLOTS};
+use std::fmt::Debug;
+
+/// Makes a call in both, each on its own state, and compares answers and states.
+macro_rules! same {
+    ($a:ident, $b:ident, $name:ident($($argument:expr),*)) => {{
+        let library = pool_host::$name(&mut $a.pool, &mut $a.frames, &mut $a.store $(, $argument)*);
+        let baseline = baseline::$name(&mut $b.pool, &mut $b.frames, &mut $b.store $(, $argument)*);
+        agreed(stringify!($name), library, baseline)
+    }};
+}
+
+/// The same for a call that answers a part of a buffer.
+macro_rules! same_part {
+    ($a:ident, $b:ident, $name:ident($argument:expr)) => {{
+        let library = pool_host::$name(&$a.pool, &$a.frames, &$a.store, $argument);
+        let baseline = baseline::$name(&$b.pool, &$b.frames, &$b.store, $argument);
+        agreed(stringify!($name), library.map(|part| place(part, $a)), baseline.map(|part| place(part, $b)))
+    }};
+}
+
+/// The refusal that both gave.
+fn agreed<T: PartialEq + Debug>(
+    name: &str,
+    library: Result<T, Refusal>,
+    baseline: Result<T, Refusal>,
+) -> Refusal {
+    assert_eq!(library, baseline, "{name}");
+    library.err().unwrap_or(0)
+}
+
+/// Whether a part lies in the frames, and where.
+fn place(part: &[u8], state: &State) -> (bool, usize, usize) {
+    let in_frames = state.frames.as_ptr_range().contains(&part.as_ptr());
+    let buffer = if in_frames { &state.frames } else { &state.store };
+    (in_frames, part.as_ptr() as usize - buffer.as_ptr() as usize, part.len())
+}
+
+struct Trial {
+    random: Random,
+    /// How often each refusal was given.
+    given: [usize; 17],
+}
+
+impl Trial {
+    fn new(seed: u64) -> Trial {
+        Trial { random: Random::new(seed), given: [0; 17] }
+    }
+
+    /// So many calls on a pool over a tree of pages, some of them on a damaged state that is then dropped.
+    fn run(&mut self, count: usize, pages: usize, calls: usize) {
+        let mut library = opened(count, tree::store(pages));
+        let mut baseline = library.clone();
+        for _ in 0..calls {
+            if self.random.percent(20) {
+                let mut damaged = library.clone();
+                self.damage(&mut damaged);
+                self.call(&mut damaged.clone(), &mut damaged);
+            } else {
+                self.call(&mut library, &mut baseline);
+            }
+        }
+    }
+
+    fn call(&mut self, a: &mut State, b: &mut State) {
+        let refusal = self.any_call(a, b);
+        assert!(a == b, "states differ after refusal {refusal}");
+        self.given[usize::from(refusal)] += 1;
+    }
+
+    fn any_call(&mut self, a: &mut State, b: &mut State) -> Refusal {
+        let (handle, slot, page) = (self.handle(a), self.slot(), self.page(a));
+        match self.random.below(40) {
+            0 => self.open(a, b),
+            1 | 2 => same!(a, b, root()),
+            3..=14 => same!(a, b, fix(handle, slot)),
+            15..=22 => same!(a, b, unfix(handle)),
+            23 => same_part!(a, b, show(handle)),
+            24 => same_part!(a, b, peek(page)),
+            25 | 26 => same!(a, b, word(handle, slot)),
+            27..=29 => self.write(a, b, handle),
+            30 | 31 => same!(a, b, link(handle, slot, page)),
+            32 | 33 => same!(a, b, unlink(handle, slot)),
+            34..=36 => same!(a, b, evict(page)),
+            37 => same!(a, b, settle()),
+            _ => same!(a, b, find(page)),
+        }
+    }
+
+    /// An open that goes on with its records, where they are given, one time in ten.
+    fn open(&mut self, a: &mut State, b: &mut State) -> Refusal {
+        let before = (a.frames.clone(), a.pool);
+        let library = pool_host::open(&mut a.frames, &a.store);
+        let baseline = baseline::open(&mut b.frames, &b.store);
+        match library {
+            Ok(pool) if self.random.percent(10) => (a.pool, b.pool) = (pool, pool),
+            _ => {
+                assert!(a.frames == b.frames);
+                (a.frames, a.pool) = before.clone();
+                (b.frames, b.pool) = before;
+            }
+        }
+        agreed("open", library, baseline)
+    }
+
+    fn write(&mut self, a: &mut State, b: &mut State, handle: Handle) -> Refusal {
+        let offset = self.random.below(PAYLOAD_SIZE + 8);
+        let bytes = vec![self.random.below(256) as u8; self.random.below(20)];
+        same!(a, b, write(handle, offset, &bytes))
+    }
+
+    /// A handle of a pinned page most of the time, or any.
+    fn handle(&mut self, state: &State) -> Handle {
+        let pinned: Vec<u8> = (0..64).filter(|frame| state.pool.record(*frame).pins > 0).collect();
+        let frame = match pinned.len() {
+            0 => 0,
+            most => pinned[self.random.below(most)],
+        };
+        let page = state.pool.record(frame).page;
+        match self.random.below(20) {
+            0 => Handle { frame: self.random.below(256) as u8, page },
+            1 => Handle { frame, page: self.page(state) },
+            _ => Handle { frame, page },
+        }
+    }
+
+    fn slot(&mut self) -> usize {
+        self.random.below(SLOTS + 1)
+    }
+
+    /// A page number below N most of the time, as often as not of the last page or one that is resident.
+    fn page(&mut self, state: &State) -> PageNumber {
+        let pages = usize::from(state.pool.pages);
+        match self.random.below(20) {
+            0 => self.random.below(65_536) as PageNumber,
+            1..=3 => state.pool.pages.wrapping_sub(1),
+            4..=10 => state.pool.record(self.random.below(64) as u8).page,
+            _ => self.random.below(pages.max(1)) as PageNumber,
+        }
+    }
+
+    /// Alters a field, a word or a length.
+    fn damage(&mut self, state: &mut State) {
+        let (frames, pages) = (state.frames.len() / PAGE_SIZE, state.store.len() / PAGE_SIZE);
+        match self.random.below(8) {
+            0 => self.damage_sizes(state),
+            1..=3 => self.damage_record(state),
+            4 | 5 => self.damage_word(state, frames, |state| &mut state.frames),
+            _ => {
+                for _ in 0..pages {
+                    self.damage_word(state, pages, |state| &mut state.store);
+                }
+            }
+        }
+    }
+
+    fn damage_sizes(&mut self, state: &mut State) {
+        match self.random.below(5) {
+            0 => state.pool.count = self.random.below(70) as u16,
+            1 => state.pool.pages = self.random.below(4200) as u16,
+            2 => state.pool.hand = self.random.below(256) as u8,
+            3 => state.frames.truncate(PAGE_SIZE * 3 - 1),
+            _ => state.store.extend([0; PAGE_SIZE]),
+        }
+    }
+
+    fn damage_record(&mut self, state: &mut State) {
+        let frame = self.random.below(usize::from(state.pool.count) + 2).min(63);
+        let (small, page) = (self.random.below(80) as u8, self.page(state));
+        let record = &mut state.pool.records[frame];
+        match self.random.below(7) {
+            0 => record.used = !record.used,
+            1 => record.dirty = !record.dirty,
+            2 => record.usage = small % 5,
+            3 => record.slot = small % 18,
+            4 => record.parent = small,
+            5 => record.pins = u16::MAX,
+            _ => record.page = page,
+        }
+    }
+
+    /// Puts any word into a slot of one of the pages of a buffer.
+    fn damage_word(&mut self, state: &mut State, pages: usize, buffer: fn(&mut State) -> &mut Vec<u8>) {
+        let word = match self.random.below(3) {
+            0 => 1 << 31 | self.random.below(usize::from(state.pool.count) + 1) as u32,
+            1 => self.random.below(usize::from(state.pool.pages) + 2) as u32,
+            _ => 0,
+        };
+        let at = PAGE_SIZE * self.random.below(pages) + 4 * self.random.below(SLOTS);
+        buffer(state)[at..at + 4].copy_from_slice(&word.to_le_bytes());
+    }
+}
+
+fn opened(count: usize, store: Vec<u8>) -> State {
+    let mut frames = vec![0; PAGE_SIZE * count];
+    let pool: Pool = baseline::open(&mut frames, &store).expect("the store is sound");
+    State { pool, frames, store }
+}
+
+#[test]
+fn small_pools() {
+    let mut trial = Trial::new(1);
+    for turn in 0..60 {
+        let (count, pages) = (2 + turn % 7, 2 + FAN_OUT * (turn % 4));
+        trial.run(count, pages, 1000);
+    }
+    println!("{:?}", trial.given);
+    let never: Vec<usize> = (1..17).filter(|refusal| trial.given[*refusal] == 0).collect();
+    assert!(never.is_empty(), "refusals never given: {never:?}");
+}
+
+#[test]
+fn large_pools() {
+    let mut trial = Trial::new(2);
+    for count in [16, 64] {
+        for pages in [256, 4096] {
+            trial.run(count, pages, 5000);
+        }
+    }
+    println!("{:?}", trial.given);
+}
