@@ -108,16 +108,16 @@ struct pool_handle {
 /* ---- answers */
 
 struct pool_done {
-    uint8_t refusal;
     struct pool pool;
+    uint8_t refusal;
 };
 
 /* The handle of the page that was pinned, and the looks of the sweep that made room for it, 0 if none. */
 struct pool_fixed {
+    struct pool pool;
     uint8_t refusal;
     struct pool_handle handle;
     uint16_t looks;
-    struct pool pool;
 };
 
 /* The page number in a slot, 0 for none. */

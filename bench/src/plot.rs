@@ -69,7 +69,7 @@ impl<'a> Plot<'a> {
         )
     }
 
-    /// The axes with their marks: each size, and each power of ten among the costs.
+    /// The axes with their marks: each size, and 1, 2 and 5 times each power of ten among the costs.
     fn frame(&self) -> String {
         let (left, right, bottom) = (self.left, self.left + PLOT_WIDTH, TOP + PLOT_HEIGHT);
         let mut out = format!(
@@ -89,9 +89,8 @@ impl<'a> Plot<'a> {
                 bottom + 16.0
             );
         }
-        for cost in
-            (1..7).map(|power| 10f64.powi(power)).filter(|cost| (self.costs.0..=self.costs.1).contains(cost))
-        {
+        let marks = (1..7).flat_map(|power| [1.0, 2.0, 5.0].map(|digit| digit * 10f64.powi(power)));
+        for cost in marks.filter(|cost| (self.costs.0..=self.costs.1).contains(cost)) {
             let y = self.y(cost);
             let _ = writeln!(out, "<path d=\"M{left} {y:.1}H{right}\" stroke=\"#ddd\"/>");
             let _ = writeln!(

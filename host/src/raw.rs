@@ -4,17 +4,17 @@ use crate::records::{FrameIndex, Handle, PageNumber, Pool};
 #[repr(C)]
 #[derive(Clone, Copy, Debug)]
 pub struct Done {
-    pub refusal: u8,
     pub pool: Pool,
+    pub refusal: u8,
 }
 
 #[repr(C)]
 #[derive(Clone, Copy, Debug)]
 pub struct Fixed {
+    pub pool: Pool,
     pub refusal: u8,
     pub handle: Handle,
     pub looks: u16,
-    pub pool: Pool,
 }
 
 #[repr(C)]

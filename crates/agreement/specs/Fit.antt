@@ -4,15 +4,20 @@ use mathlib.Core.Path.{_≡_}
 use mathlib.Core.Logic.{_≢_}
 use mathlib.Core.Bool.{Bool, true, false}
 use mathlib.Core.List.{List}
+use mir.Val.{boolByte}
 use lib.Dec.{eqb, ltb, leb}
 use lib.ListN.{length, getD}
-use Rattle.page.specs.Figures.{pageSize, slotCount, recordCount, maxUsage, maxPins, wordSize}
+use Rattle.page.specs.Figures.{pageSize, slotCount, mostFrames, recordCount, maxUsage, maxPins, wordSize}
 use Rattle.page.specs.Word.{wordAt, frameWord}
 use Rattle.page.specs.Page.{slot}
 use Rattle.machine.specs.declared.FrameRecord.{FrameRecord}
+use Rattle.machine.specs.declared.Pool.{Pool}
 use Rattle.machine.specs.Tests.{pick, _and_}
 use Rattle.machine.specs.Machine.{recordAt, pageIn}
+use Rattle.machine.specs.Agreement.{agree}
 use Rattle.machine.specs.Parents.{climb}
+use Rattle.residents.specs.Table.{Table}
+use Rattle.residents.specs.Handed.{Handed}
 use Rattle.agreement.specs.Counting.{countIf}
 use Rattle.agreement.specs.Seen.{Passed, Progress}
 
@@ -28,14 +33,20 @@ pub record Blank (r : FrameRecord) : Type 0 where
   pub pins : r .pins ≡ 0
   pub page : r .page .0 ≡ 0
 
--- fields gathered from records are all 0
-pub record NoField (m : Bool) (p s l : ℕ) : Type 0 where
-  pub marks : m ≡ false
-  pub parent : p ≡ 0
-  pub small : s ≡ 0
-  pub large : l ≡ 0
+-- a record's fields before its parent, and those after it, as the digits of one number
+abbrev pub firstFields : Bool → Bool → ℕ → ℕ → ℕ
+firstFields used dirty usage slot = boolByte used + 256 * boolByte dirty + 65536 * usage + 16777216 * slot
 
--- after the record r was gathered, nothing is there where nothing was and r is all zero
+abbrev pub lastFields : ℕ → ℕ → ℕ
+lastFields pins page = pins + 65536 * page
+
+-- the fields, or those of several records or-ed together, are all 0
+pub record NoField (a p z : ℕ) : Type 0 where
+  pub first : a ≡ 0
+  pub parent : p ≡ 0
+  pub last : z ≡ 0
+
+-- with the fields of the record r too, nothing is there where nothing was and r is all zero
 pub record Gathers (r : FrameRecord) (before after : Type 0) : Type 0 where
   pub kept : after → before
   pub blank : after → Blank r
@@ -118,11 +129,26 @@ pub record FramesFit (rs : List FrameRecord) (fs : List ℕ) (F N : ℕ) : Type 
   pub once : (i j : ℕ) → i < j → j < perFrame * F → numbers rs fs N i ≡ numbers rs fs N j → numbers rs fs N i ≡ 0
   pub even : countIf (slotCount * F) (isOver rs fs N) + 1 ≡ countIf F (isUsed rs)
 
+-- ---- tables of numbers
+
+-- the table's entries as a function
+abbrev pub entry : List ℕ → ℕ → ℕ
+entry t f = getD t f 0
+
+-- the table has the row's numbers at its first n places
+abbrev pub Entries : (ℕ → ℕ) → ℕ → List ℕ → Type 0
+Entries row n t = (f : ℕ) → f < n → entry t f ≡ row f
+
 -- ---- what the functions of the pass tell of the table of seen numbers
 
 -- the row has the numbers of the words from `at` on, from place i on
 abbrev pub HasWords : List ℕ → ℕ → ℕ → (ℕ → ℕ) → ℕ → Type 0
 HasWords fs N at row i = (k : ℕ) → k < slotCount → row (i + k) ≡ numberBelow N (wordAt fs (at + wordSize * k))
+
+-- the numbers of the words from `at` on, one after the other
+pub record BelowOf (fs : List ℕ) (N at : ℕ) (ns : List ℕ) : Type 0 where
+  pub size : length ns ≡ slotCount
+  pub right : (k : ℕ) → k < slotCount → getD ns k 0 ≡ numberBelow N (wordAt fs (at + wordSize * k))
 
 -- the words from `at` on were noted: in any row that has them, the row goes on
 abbrev pub NotesWords : List ℕ → ℕ → ℕ → List Bool → List Bool → Bool → Type 0
@@ -175,25 +201,38 @@ pub record FrameNoted (fs : List ℕ) (F N f : ℕ) (r : FrameRecord) (above : B
 abbrev pub parentIn : List FrameRecord → ℕ → ℕ
 parentIn rs f = recordAt rs f .parent .0
 
--- the table's entries as a function
-abbrev pub entry : List ℕ → ℕ → ℕ
-entry t f = getD t f 0
-
 -- the table has the parent of each of F frames
 pub record HasParents (rs : List FrameRecord) (F : ℕ) (t : List ℕ) : Type 0 where
   pub size : F ≤ length t
-  pub parent : (f : ℕ) → f < F → entry t f ≡ parentIn rs f
+  pub parent : Entries (parentIn rs) F t
 
 -- following parents from each of F frames reaches frame 0
 abbrev pub AllLead : (ℕ → ℕ) → ℕ → Type 0
 AllLead up F = (f : ℕ) → f < F → (n : ℕ) × (climb up n f ≡ 0)
 
--- what the pass has settled before frame f
-pub record Before (rs : List FrameRecord) (fs : List ℕ) (F N f : ℕ) (seen : List Bool) (t : List ℕ) (occupied over : ℕ) : Type 0 where
+-- ---- what is settled on the way
+
+-- before frame f
+pub record Before (rs : List FrameRecord) (fs : List ℕ) (F N f : ℕ) (seen : List Bool) (t table : List ℕ) (occupied over : ℕ) : Type 0 where
   pub most : f ≤ F
   pub fits : (g : ℕ) → g < f → Fits fs F N g (recordAt rs g) (aboveUsed rs (recordAt rs g))
   pub passed : Passed N (numbers rs fs N) (perFrame * f) seen
   pub room : F ≤ length t
-  pub parents : (g : ℕ) → g < f → entry t g ≡ parentIn rs g
+  pub parents : Entries (parentIn rs) f t
+  pub size : length table ≡ mostFrames
+  pub pages : Entries (pageIn rs) f table
+  pub clear : (g : ℕ) → f ≤ g → entry table g ≡ 0
   pub counted : occupied ≡ countIf f (isUsed rs)
   pub named : over ≡ countIf (slotCount * f) (isOver rs fs N)
+
+-- before the parents are followed
+pub record Settled (rs : List FrameRecord) (fs : List ℕ) (F N : ℕ) (seen : List Bool) (t table : List ℕ) : Type 0 where
+  pub rest : RestBlank rs F
+  pub fit : FramesFit rs fs F N
+  pub parents : HasParents rs F t
+  pub passed : Passed N (numbers rs fs N) (perFrame * F) seen
+  pub pages : Table rs table
+
+-- the answer, and what it tells of the tables
+abbrev pub Outcome : Pool → List ℕ → List ℕ → List Bool → Bool → Type 0
+Outcome p fs pages seen r = (r ≡ agree p fs) × (r ≡ true → Handed p fs pages seen)

@@ -2,7 +2,7 @@
 use Prim.Native.Nat.{ℕ, _+_, _*_, _-_, _/_, _%_, _<_, _≤_}
 use mathlib.Core.Path.{_≡_, refl, sym, _∙_, ap}
 use mathlib.Core.Logic.{_≢_}
-use mathlib.Core.Bool.{Bool, true, false, not, _||_}
+use mathlib.Core.Bool.{Bool, true, false, not}
 use mathlib.Core.List.{List}
 use native.Mathlib.Omega.{arith}
 use native.Mathlib.Nat.{add-zero, add-assoc}
@@ -11,6 +11,8 @@ use borrow.Author.Count.{below-more}
 use borrow.Author.Tests.{lt-ltb, le-ltb, le-leb, lt-leb, eq-eqb, ne-eqb, eqb-true, not-true}
 use mir.Val.{boolByte}
 use lib.Dec.{eqb}
+use lib.ListN.{length, set}
+use lib.Seq.{getD-set-same, getD-set-other}
 use lib.Bits.{bitOr, bitAnd, or-add-and, and-le-l, and-le-r, or-zero-l}
 use Rattle.page.specs.Figures.{slotCount, pageSize, wordSize, mostPages}
 use Rattle.page.specs.Word.{wordAt}
@@ -21,7 +23,7 @@ use Rattle.machine.specs.TestLaws.{pick-yes, pick-no, both, and-true, and-yes, 
 use Rattle.machine.specs.Machine.{recordAt, pageIn}
 use Rattle.machine.specs.Agreement.{isBlank}
 use Rattle.agreement.specs.Counting.{countIf, count-zero, count-yes, count-no, count-add, count-ext, count-none, count-le}
-use Rattle.agreement.specs.Fit.{Blank, NoField, Gathers, RootFits, Resident, Linked, Fits, numberBelow, perFrame, numberIn, numbers, overFrom, isOver, HasWords, HasNumbers, overWeight, WordWeighs, SumsWords}
+use Rattle.agreement.specs.Fit.{Blank, firstFields, lastFields, NoField, Gathers, RootFits, Resident, Linked, Fits, numberBelow, perFrame, numberIn, numbers, overFrom, isOver, HasWords, HasNumbers, overWeight, entry, Entries, BelowOf, WordWeighs, SumsWords}
 
 -- ---- the all-zero record
 
@@ -50,7 +52,7 @@ of-blank r h =
     both _ _ (ap not (h .used)) (both _ _ (ap not (h .dirty)) (both _ _ (eq-eqb _ 0 (h .usage)) (both _ _ (eq-eqb _ 0 (h .slot))
     (both _ _ (eq-eqb _ 0 (h .parent)) (both _ _ (eq-eqb _ 0 (h .pins)) (eq-eqb _ 0 (h .page)))))))
 
--- ---- fields or-ed together
+-- ---- numbers or-ed together
 
 or-nothing : (a b : ℕ) → bitOr a b ≡ 0 → (a ≡ 0) × (b ≡ 0)
 or-nothing a b e = let s : bitOr a b + bitAnd a b ≡ a + b = or-add-and a b in (omega (arith, and-le-r a b), omega (arith, and-le-l a b))
@@ -58,37 +60,42 @@ or-nothing a b e = let s : bitOr a b + bitAnd a b ≡ a + b = or-add-and a b in 
 nothing-or : (a b : ℕ) → a ≡ 0 → b ≡ 0 → bitOr a b ≡ 0
 nothing-or a b x y = rw (x, y) (or-zero-l 0)
 
-no-mark : (a b c : Bool) → ((a || b) || c) ≡ false → (a ≡ false) × (b ≡ false) × (c ≡ false)
-no-mark false false false e = (refl, refl, refl)
-no-mark false false true e = absurd (clash e)
-no-mark false true c e = absurd (clash e)
-no-mark true b c e = absurd (clash e)
+-- ---- a record's fields as digits
 
-pub gathers : (r : FrameRecord) (m : Bool) (p s l : ℕ)
-    → Gathers r (NoField m p s l) (NoField ((m || r .used) || r .dirty) (bitOr p (r .parent .0)) (bitOr s (r .usage + 256 * r .slot)) (bitOr l (r .pins + 65536 * r .page .0)))
-gathers r m p s l = record {
-  kept = λ z. record {
-    marks = no-mark m (r .used) (r .dirty) (z .marks) .0;
-    parent = or-nothing p (r .parent .0) (z .parent) .0;
-    small = or-nothing s _ (z .small) .0;
-    large = or-nothing l _ (z .large) .0;
-  };
-  blank = λ z.
-      let u = no-mark m (r .used) (r .dirty) (z .marks) in
-      let x : r .usage + 256 * r .slot ≡ 0 = or-nothing s _ (z .small) .1 in
-      let y : r .pins + 65536 * r .page .0 ≡ 0 = or-nothing l _ (z .large) .1 in
-      record { used = u .1; dirty = u .2; usage = omega arith; slot = omega arith; parent = or-nothing p (r .parent .0) (z .parent) .1; pins = omega arith; page = omega arith };
-  nothing = λ n b. record {
-    marks = rw (n .marks, b .used, b .dirty);
-    parent = nothing-or p _ (n .parent) (b .parent);
-    small = nothing-or s _ (n .small) (omega (arith, b .usage, b .slot));
-    large = nothing-or l _ (n .large) (omega (arith, b .pins, b .page));
-  };
-}
+no-byte : (b : Bool) → boolByte b ≡ 0 → b ≡ false
+no-byte false e = refl
+no-byte true e = absurd (omega arith)
+
+module _ (r : FrameRecord) (x y : ℕ) (first : x ≡ firstFields (r .used) (r .dirty) (r .usage) (r .slot)) (last : y ≡ lastFields (r .pins) (r .page .0)) where
+  fields-blank : NoField x (r .parent .0) y → Blank r
+  fields-blank n =
+      let a : firstFields (r .used) (r .dirty) (r .usage) (r .slot) ≡ 0 = sym first ∙ n .first in
+      let z : lastFields (r .pins) (r .page .0) ≡ 0 = sym last ∙ n .last in
+      record { used = no-byte (r .used) (omega arith); dirty = no-byte (r .dirty) (omega arith); usage = omega arith; slot = omega arith; parent = n .parent; pins = omega arith; page = omega arith }
+
+  blank-fields : Blank r → NoField x (r .parent .0) y
+  blank-fields b = record { first = first ∙ rw (b .used, b .dirty) (omega (arith, b .usage, b .slot)); parent = b .parent; last = omega (arith, b .pins, b .page) }
+
+  pub gathers : (a p z : ℕ) → Gathers r (NoField a p z) (NoField (bitOr a x) (bitOr p (r .parent .0)) (bitOr z y))
+  gathers a p z = record {
+    kept = λ n. record { first = or-nothing a _ (n .first) .0; parent = or-nothing p _ (n .parent) .0; last = or-nothing z _ (n .last) .0 };
+    blank = λ n. fields-blank (record { first = or-nothing a _ (n .first) .1; parent = or-nothing p _ (n .parent) .1; last = or-nothing z _ (n .last) .1 });
+    nothing = λ n b.
+        let m = blank-fields b in
+        record { first = nothing-or a _ (n .first) (m .first); parent = nothing-or p _ (n .parent) (m .parent); last = nothing-or z _ (n .last) (m .last) };
+  }
 
 pub bool-small : (b : Bool) → boolByte b ≤ 1
 bool-small true = omega arith
 bool-small false = omega arith
+
+-- ---- a table filled place by place
+
+pub entries-more : (row : ℕ → ℕ) (t : List ℕ) (n x : ℕ) → n < length t → x ≡ row n → Entries row n t → Entries row (n + 1) (set t n x)
+entries-more row t n x l e h f m = elim (ℕ-discrete f n) [
+  | yes q ↦ rw q (getD-set-same t n x 0 l ∙ e)
+  | no q ↦ getD-set-other t n f x 0 q ∙ h f (omega arith)
+]
 
 -- ---- the numbers in a row
 
@@ -100,11 +107,14 @@ pub below-high : (N w : ℕ) → N ≤ w → numberBelow N w ≡ 0
 unfolding numberBelow
 below-high N w l = sym (pick-no w (le-ltb w N l) refl)
 
-pub below-lt : (N w : ℕ) → 1 ≤ N → numberBelow N w < N
+below-lt : (N w : ℕ) → 1 ≤ N → numberBelow N w < N
 below-lt N w o = elim (decLt w N) [
   | yes l ↦ rw (below-low N w l) l
   | no l ↦ rw (below-high N w (omega arith)) (omega arith)
 ]
+
+pub numbers-lt : (fs : List ℕ) (N at : ℕ) (ns : List ℕ) → 1 ≤ N → BelowOf fs N at ns → (k : ℕ) → k < slotCount → entry ns k < N
+numbers-lt fs N at ns o B k h = rw (B .right k h) (below-lt N _ o)
 
 -- the word in slot k of frame f, from where the frame starts
 pub slot-from : (fs : List ℕ) (f k : ℕ) → slot fs f k ≡ wordAt fs (pageSize * f + wordSize * k)

@@ -7,3 +7,4 @@ pub mod FitLaws
 pub mod PassLaws
 pub mod Steps
 pub mod Same
+pub mod Hands

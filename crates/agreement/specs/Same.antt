@@ -22,7 +22,7 @@ use Rattle.machine.specs.Parents.{climb-zero, climb-suc, climb-reach, reach-cli
 use Rattle.agreement.specs.Sizes.{Sizes}
 use Rattle.agreement.specs.Deciding.{Decides, holds, fails}
 use Rattle.agreement.specs.Counting.{countIf, without, without-of, without-other, count-without, Into, into-le, into-all}
-use Rattle.agreement.specs.Fit.{Blank, RootFits, Resident, Linked, Fits, RestBlank, perFrame, numbers, numberBelow, isOver, isUsed, aboveUsed, FramesFit, parentIn, entry, HasParents, AllLead}
+use Rattle.agreement.specs.Fit.{Blank, RootFits, Resident, Linked, Fits, RestBlank, perFrame, numbers, numberBelow, isOver, isUsed, aboveUsed, FramesFit, parentIn, entry, AllLead, Settled, Outcome}
 use Rattle.agreement.specs.FitLaws.{blank-of, of-blank, below-low, below-high, numbers-page, numbers-word, numbers-empty}
 use Rattle.agreement.specs.Steps.{Below, climb-same}
 
@@ -248,7 +248,7 @@ module _ (p : Pool) (fs : List ℕ) (S : Sizes (p .count) (p .pages) fs) where
     }
 
     -- what stands at a place of the row
-    data At (i : ℕ) : Type 0 where
+    pub data At (i : ℕ) : Type 0 where
       nothing : numbers (p .records) fs (p .pages) i ≡ 0 → At i
       page : (f : ℕ) → occupied p f ≡ true → i ≡ perFrame * f → numbers (p .records) fs (p .pages) i ≡ pageIn (p .records) f → At i
       loose : (f k : ℕ) → occupied p f ≡ true → k < slotCount → i ≡ perFrame * f + (1 + k) → slot fs f k < swizzleBit → slot fs f k ≢ 0 → numbers (p .records) fs (p .pages) i ≡ slot fs f k → At i
@@ -276,7 +276,7 @@ module _ (p : Pool) (fs : List ℕ) (S : Sizes (p .count) (p .pages) fs) where
       ]
     ]
 
-    at : (i : ℕ) → i < perFrame * p .count → At i
+    pub at : (i : ℕ) → i < perFrame * p .count → At i
     at i l = at-frame i (i / perFrame) (i % perFrame) (omega arith) (omega arith) (omega arith)
 
     once-at : (i j : ℕ) → i < j → At i → At j → numbers (p .records) fs (p .pages) i ≡ numbers (p .records) fs (p .pages) j → numbers (p .records) fs (p .pages) i ≡ 0
@@ -339,33 +339,38 @@ module _ (p : Pool) (fs : List ℕ) (S : Sizes (p .count) (p .pages) fs) where
   disagree h = sym (is-off (agree p fs) (λ t. h (facts p fs t)))
 
   module _ (count : ℕ) (e : count ≡ p .count) where
-    pub end-hand : (h : ℕ) → h ≡ p .hand .0 → count ≤ h → false ≡ agree p fs
-    end-hand h q l = disagree (λ A. omega (arith, A .hand))
+    -- where a test fails, whatever the tables are
+    module _ (table : List ℕ) (seen : List Bool) where
+      refused : (Agreed p fs → ⊥) → Outcome p fs table seen false
+      refused h = (disagree h, λ z. absurd (clash (sym z)))
 
-    pub end-rest : (RestBlank (p .records) count → ⊥) → false ≡ agree p fs
-    end-rest h = disagree (λ A. h (rw e (is-rest p fs S A)))
+      pub end-hand : (h : ℕ) → h ≡ p .hand .0 → count ≤ h → Outcome p fs table seen false
+      end-hand h q l = refused (λ A. omega (arith, A .hand))
 
-    pub end-frames : (FramesFit (p .records) fs count (p .pages) → ⊥) → false ≡ agree p fs
-    end-frames h = disagree (λ A. h (rw e (is-frames p fs S A)))
+      pub end-rest : (RestBlank (p .records) count → ⊥) → Outcome p fs table seen false
+      end-rest h = refused (λ A. h (rw e (is-rest p fs S A)))
 
-    module _ (rest : RestBlank (p .records) count) (fit : FramesFit (p .records) fs count (p .pages)) (t : List ℕ) (has : HasParents (p .records) count t) where
+      pub end-frames : (FramesFit (p .records) fs count (p .pages) → ⊥) → Outcome p fs table seen false
+      end-frames h = refused (λ A. h (rw e (is-frames p fs S A)))
+
+    module _ (seen : List Bool) (t table : List ℕ) (Z : Settled (p .records) fs count (p .pages) seen t table) where
       below : (f : ℕ) → f < count → parentIn (p .records) f < count
-      below f l = rw e (parent-below p fs S (rw e at rest) (rw e at fit) f (omega arith))
+      below f l = rw e (parent-below p fs S (rw e at (Z .rest)) (rw e at (Z .fit)) f (omega arith))
 
       pub table-below : Below count t
-      table-below = record { size = has .size; lt = λ f l. rw (has .parent f l) (below f l) }
+      table-below = record { size = Z .parents .size; lt = λ f l. rw (Z .parents .parent f l) (below f l) }
 
       pub table-root : entry t 0 ≡ 0
-      table-root = has .parent 0 (omega (arith, S .least)) ∙ fit .fits 0 (omega (arith, S .least)) .root refl .parent
+      table-root = Z .parents .parent 0 (omega (arith, S .least)) ∙ Z .fit .fits 0 (omega (arith, S .least)) .root refl .parent
 
       lead-in : AllLead (entry t) count → AllLead (parentIn (p .records)) count
-      lead-in lead f l = let a = lead f l in (a .0, sym (climb-same (entry t) (parentIn (p .records)) count (has .parent) (table-below .lt) (a .0) f l) ∙ a .1)
+      lead-in lead f l = let a = lead f l in (a .0, sym (climb-same (entry t) (parentIn (p .records)) count (Z .parents .parent) (table-below .lt) (a .0) f l) ∙ a .1)
 
       lead-out : AllLead (parentIn (p .records)) count → AllLead (entry t) count
-      lead-out lead f l = let a = lead f l in (a .0, climb-same (entry t) (parentIn (p .records)) count (has .parent) (table-below .lt) (a .0) f l ∙ a .1)
+      lead-out lead f l = let a = lead f l in (a .0, climb-same (entry t) (parentIn (p .records)) count (Z .parents .parent) (table-below .lt) (a .0) f l ∙ a .1)
 
       pub end-lead : (h : ℕ) → h ≡ p .hand .0 → h < count → (r : Bool) → Decides r (AllLead (entry t) count) → r ≡ agree p fs
       end-lead h q l r d = elim (case r) [
-        | on z ↦ z ∙ sym (tests p fs (code-facts p fs S (rw e at rest) (rw e at fit) (omega arith) (rw e at (lead-in (holds r _ d z)))))
+        | on z ↦ z ∙ sym (tests p fs (code-facts p fs S (rw e at (Z .rest)) (rw e at (Z .fit)) (omega arith) (rw e at (lead-in (holds r _ d z)))))
         | off z ↦ z ∙ disagree (λ A. fails r (AllLead (entry t) count) d z (lead-out (rw e (is-lead p fs S A))))
       ]

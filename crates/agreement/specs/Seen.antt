@@ -11,11 +11,13 @@ use borrow.Author.Tests.{eq-eqb, ne-eqb}
 use lib.Dec.{eqb}
 use lib.ListN.{length, getD, set, replicate, length-set, length-replicate, getD-replicate, List·getD-eq-default}
 use lib.Seq.{getD-set-same, getD-set-other, set-getD, set-set}
+use Rattle.page.specs.Figures.{mostPages}
 use Rattle.machine.specs.TestLaws.{clash, case, on, off}
 
 -- no number but 0 stands at two of the first n places, and the table has exactly the numbers there, 0 apart
 pub record Passed (N : ℕ) (row : ℕ → ℕ) (n : ℕ) (seen : List Bool) : Type 0 where
-  pub size : N ≤ length seen
+  pub size : length seen ≡ mostPages
+  pub few : N ≤ mostPages
   pub zero : getD seen 0 false ≡ false
   pub known : (i : ℕ) → i < n → row i ≢ 0 → getD seen (row i) false ≡ true
   pub found : (x : ℕ) → getD seen x false ≡ true → (i : ℕ) × (i < n) × (row i ≡ x)
@@ -35,18 +37,19 @@ abbrev pub Progress : ℕ → (ℕ → ℕ) → ℕ → List Bool → Bool → T
 Progress N row n seen true = Passed N row n seen
 Progress N row n seen false = Twice row n
 
-none-seen : (m x : ℕ) → getD (replicate m false) x false ≡ false
-none-seen m x = elim (decLt x m) [
-  | yes l ↦ getD-replicate m x false false l
-  | no l ↦ List·getD-eq-default (replicate m false) false (let e : length (replicate m false) ≡ m = length-replicate m false in omega arith)
+pub clear-at : {A : Type 0} (m : ℕ) (v : A) (x : ℕ) → getD (replicate m v) x v ≡ v
+clear-at m v x = elim (decLt x m) [
+  | yes l ↦ getD-replicate m x v v l
+  | no l ↦ List·getD-eq-default (replicate m v) v (let e : length (replicate m v) ≡ m = length-replicate m v in omega arith)
 ]
 
-pub pass-none : (N : ℕ) (row : ℕ → ℕ) (m : ℕ) → N ≤ m → Passed N row 0 (replicate m false)
-pass-none N row m h = record {
-  size = let e : length (replicate m false) ≡ m = length-replicate m false in omega arith;
-  zero = none-seen m 0;
+pub pass-none : (N : ℕ) (row : ℕ → ℕ) → N ≤ mostPages → Passed N row 0 (replicate mostPages false)
+pass-none N row h = record {
+  size = length-replicate mostPages false;
+  few = h;
+  zero = clear-at mostPages false 0;
   known = λ i l. absurd (omega arith);
-  found = λ x e. absurd (clash (sym e ∙ none-seen m x));
+  found = λ x e. absurd (clash (sym e ∙ clear-at mostPages false x));
   once = λ i j l m. absurd (omega arith);
 }
 
@@ -61,6 +64,7 @@ module _ (N : ℕ) (row : ℕ → ℕ) (n : ℕ) (seen : List Bool) where
   pub pass-zero : row n ≡ 0 → Passed N row n seen → Passed N row (n + 1) seen
   pass-zero z t = record {
     size = t .size;
+    few = t .few;
     zero = t .zero;
     known = λ i l nz. elim (ℕ-discrete i n) [ yes e ↦ absurd (nz (ap row e ∙ z)) | no e ↦ t .known i (omega arith) nz ];
     found = λ x e. let r = t .found x e in (r .0, omega (arith, r .1), r .2);
@@ -84,7 +88,8 @@ module _ (N : ℕ) (row : ℕ → ℕ) (n : ℕ) (seen : List Bool) where
     -- a new number
     pub pass-new : x < N → x ≢ 0 → getD seen x false ≡ false → Passed N row n seen → Passed N row (n + 1) (set seen x true)
     pass-new l nz u t = record {
-      size = let e : length (set seen x true) ≡ length seen = length-set seen x true in omega (arith, t .size);
+      size = length-set seen x true ∙ t .size;
+      few = t .few;
       zero = getD-set-other seen x 0 true false (λ z. nz (sym z)) ∙ t .zero;
       known = λ i h nzi. elim (ℕ-discrete (row i) x) [
         | yes e ↦ ap (λ (k : ℕ). getD (set seen x true) k false) e ∙ now
@@ -104,7 +109,7 @@ module _ (N : ℕ) (row : ℕ → ℕ) (n : ℕ) (seen : List Bool) where
     }
       where
         now : getD (set seen x true) x false ≡ true
-        now = getD-set-same seen x true false (omega (arith, t .size))
+        now = getD-set-same seen x true false (omega (arith, t .size, t .few))
 
     -- the number noted, 0 or another
     pub pass-noted : x < N → (seen' : List Bool) → seen' ≡ set seen x (not (eqb x 0)) → getD seen x false ≡ false → Passed N row n seen → Passed N row (n + 1) seen'

@@ -9,21 +9,27 @@ use machine::Pool;
 use page::FrameIndex;
 use page::PageNumber;
 ghost use mathlib.Core.Path.{_≡_};
+ghost use mathlib.Core.Bool.{true};
 ghost use Rattle.machine.specs.Agreement.{agree};
+ghost use Rattle.residents.specs.Handed.{Clear, Handed};
 ghost use Rattle.agreement.specs.Sizes.{Sizes};
 
-// Do records and frames agree, once their sizes were found right.
-pub fn agrees(pool: Pool, frames: &[u8]) -> bool
-    requires { ⌜ Sizes (pool .count) (pool .pages) (now frames) ⌝ }
-    ensures { λ r. ⌜ r ≡ agree pool (now (frames .entry)) ⌝ }
+// Do records and frames agree, once their sizes were found right. Where they do, the tables tell the page in each frame, and which pages resident pages name.
+pub fn agrees(
+    pool: Pool,
+    frames: &[u8],
+    pages: &mut [u16; FrameIndex::MOST],
+    seen: &mut [bool; PageNumber::MOST],
+) -> bool
+    requires { ⌜ Sizes (pool .count) (pool .pages) (now frames) × Clear (now pages) (now seen) ⌝ }
+    ensures { λ r. ⌜ (r ≡ agree pool (now (frames .entry))) × (r ≡ true → Handed pool (now (frames .entry)) (now (pages .exit)) (now (seen .exit))) ⌝ }
 {
     let records = pool.records;
     let count = wide::from_u16(pool.count);
-    let pages = pool.pages as u32;
+    let n = pool.pages as u32;
     if count <= wide::from_u8(pool.hand.0) {
         return false;
     }
-    let mut seen = [false; PageNumber::MOST];
     let mut parents = [0u8; FrameIndex::MOST];
     let mut occupied: u32 = 0;
     // Words that aren't below N. Each occupied frame but the root's has one of its own; where there are no more of them, each is swizzled to a frame that points back to it.
@@ -33,22 +39,39 @@ pub fn agrees(pool: Pool, frames: &[u8]) -> bool
         let rec = records[f];
         let above = records[wide::from_u8(rec.parent.0) % FrameIndex::MOST];
         let frame = FrameIndex(f as u8);
-        let noted = frame::note(frames, frame, rec, above.used, count, pages, &mut seen);
+        let noted = frame::note(frames, frame, rec, above.used, count, n, seen);
         if !noted.fits {
             return false;
         }
         over += noted.over;
         occupied += rec.used as u32;
         parents[f] = rec.parent.0;
+        pages[f] = rec.page.0;
         f += 1;
     }
-    let mut rest = record::no_fields();
+    // The fields of the records from F on, or-ed together. They are read where they lie: from a copy of the record the compiler would not read neighbours at once.
+    let mut first: u32 = 0;
+    let mut parent: u8 = 0;
+    let mut last: u32 = 0;
     while f < FrameIndex::MOST {
-        let blank = records[f];
-        rest = record::gather(rest, blank);
+        first = first
+            | record::first_fields(
+                records[f].used,
+                records[f].dirty,
+                records[f].usage,
+                records[f].slot,
+            );
+        parent = parent | records[f].parent.0;
+        last = last | record::last_fields(records[f].pins, records[f].page.0);
         f += 1;
     }
-    if !record::is_nothing(rest) {
+    if first != 0 {
+        return false;
+    }
+    if parent != 0 {
+        return false;
+    }
+    if last != 0 {
         return false;
     }
     if over + 1 != occupied {

@@ -4,7 +4,7 @@ ghost use mathlib.Core.Path.{_≡_};
 ghost use Prim.Native.Nat.{_+_, _≤_};
 ghost use lib.ListN.{length};
 ghost use Rattle.page.specs.Figures.{payloadStart, mostPages};
-ghost use Rattle.agreement.specs.Fit.{numberBelow, WordWeighs, SumsWords, NotesWords, NumbersNoted};
+ghost use Rattle.agreement.specs.Fit.{numberBelow, WordWeighs, SumsWords, BelowOf, NotesWords, NumbersNoted};
 
 // What a word that isn't below N counts for in a sum of words: more than 16 numbers below 4,096 add up to.
 const OVER: u32 = 65536;
@@ -51,16 +51,31 @@ fn word_sum(frames: &[u8], start: usize, pages: u32) -> u32
     sum
 }
 
-// Notes the numbers below N among the 16 words from `start` on: were they all new. No word is branched on: any other stands for number 0, whose mark is taken back.
+// The numbers below N among the 16 words from `start` on, 0 in place of any other. No word is branched on, so that the compiler takes them side by side.
+fn numbers_below(frames: &[u8], start: usize, pages: u32) -> [u32; PageNumber::SLOTS]
+    requires { ⌜ start + payloadStart ≤ length (now frames) ⌝ }
+    ensures { λ r. ⌜ BelowOf (now (frames .entry)) pages start r ⌝ }
+{
+    let mut numbers: [u32; PageNumber::SLOTS] = [0; PageNumber::SLOTS];
+    let mut k: usize = 0;
+    while k < PageNumber::SLOTS {
+        let w = page::word::word_at(frames, start + page::word::SIZE * k);
+        numbers[k] = number_below(pages, w);
+        k += 1;
+    }
+    numbers
+}
+
+// Notes the numbers below N among the 16 words from `start` on: were they all new. The mark of number 0, which stands for any other word, is taken back.
 fn mark_words(frames: &[u8], start: usize, pages: u32, seen: &mut [bool; PageNumber::MOST]) -> bool
     requires { ⌜ (1 ≤ pages) × (pages ≤ mostPages) × (start + payloadStart ≤ length (now frames)) ⌝ }
     ensures { λ r. ⌜ NotesWords (now (frames .entry)) pages start (now (seen .entry)) (now (seen .exit)) r ⌝ }
 {
+    let numbers = numbers_below(frames, start, pages);
     let mut fresh = true;
     let mut k: usize = 0;
     while k < PageNumber::SLOTS {
-        let w = page::word::word_at(frames, start + page::word::SIZE * k);
-        let x = number_below(pages, w) as usize;
+        let x = numbers[k] as usize;
         if seen[x] {
             fresh = false;
         }

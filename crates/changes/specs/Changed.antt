@@ -1,5 +1,5 @@
 -- What write, link and unlink leave, from what the code put where. Assumes nothing.
-use Prim.Native.Nat.{ℕ, _+_, _-_, _≤_}
+use Prim.Native.Nat.{ℕ, _+_, _-_, _≤_, _<_}
 use mathlib.Core.Path.{_≡_, refl, sym, _∙_, ap}
 use mathlib.Core.List.{List, [], _∷_, append-assoc}
 use native.Mathlib.Omega.{arith}
@@ -10,8 +10,9 @@ use lib.Dec.{leb}
 use lib.ListN.{length, take, drop}
 use lib.Seq.{take-all, drop-drop, set-getD}
 use Rattle.page.specs.declared.PageNumber.{PageNumber}
-use Rattle.page.specs.Figures.{payloadSize}
+use Rattle.page.specs.Figures.{payloadSize, mostFrames}
 use Rattle.page.specs.Page.{payloadAt, putPayload, putPayload-none, putSlot}
+use Rattle.machine.specs.declared.FrameRecord.{FrameRecord}
 use Rattle.machine.specs.declared.Handle.{Handle}
 use Rattle.machine.specs.declared.Pool.{Pool}
 use Rattle.machine.specs.Tests.{firstBroken}
@@ -19,17 +20,13 @@ use Rattle.machine.specs.TestLaws.{and-true, first-kept, pick-yes, pick-no}
 use Rattle.machine.specs.Machine.{State, state, blank, recordAt, withRecord, withRecords, dirtied}
 use Rattle.machine.specs.Rules.{rangeFits, wordOf, rule5, rule6-link, rule7, rule8, rule9, rule10}
 use Rattle.machine.specs.Answers.{out, doneAnswer}
-use Rattle.machine.specs.Calls.{writeRules, linkRules, unlinkRules, written, writeCall, linkCall, unlinkCall}
+use Rattle.machine.specs.Calls.{writeRules, linkRules, unlinkRules, written, relinked, writeCall, linkCall, unlinkCall}
 use Rattle.machine.specs.RuleLaws.{HandleKept, SlotKept, handle-parts, slot-parts, done-yes}
+use Rattle.guard.specs.Held.{recordPlace}
 
 -- the records with the page in frame f marked dirty
-abbrev pub madeDirty : Pool → ℕ → Pool
+abbrev madeDirty : Pool → ℕ → Pool
 madeDirty p f = withRecord p f (dirtied (recordAt (p .records) f))
-
--- r and gs are p and fs with the word w in slot k of frame f, whose page is then dirty
-pub record SlotPut (p : Pool) (fs : List ℕ) (f k w : ℕ) (r : Pool) (gs : List ℕ) : Type 0 where
-  pub dirty : r ≡ madeDirty p f
-  pub word : gs ≡ putSlot fs f k w
 
 -- ---- no rule is broken
 
@@ -57,6 +54,12 @@ unlinkable s h k e z = slot-parts s h k (rule7 (wordOf s h k) ∷ rule10 (wordOf
 same-state : {p q : Pool} {fs gs : List ℕ} (st : List ℕ) → p ≡ q → fs ≡ gs → state p fs st ≡ state q gs st
 same-state st e h = cc
 
+-- a record put at the handle's place, where its frame is one of F: it is that frame's record, now dirty
+put-dirty : (p : Pool) (h : Handle) {at : ℕ} {r : FrameRecord} → p .count ≤ mostFrames → h .frame .0 < p .count → at ≡ recordPlace h → r ≡ dirtied (recordAt (p .records) at) → withRecord p at r ≡ madeDirty p (h .frame .0)
+put-dirty p h {at} m l e d =
+    let i : at ≡ h .frame .0 = omega arith in
+    ap (withRecord p at) d ∙ ap (madeDirty p) i
+
 -- the part of the frames from a payload offset on, lent for n bytes and come back as ys
 pub put-back : (fs : List ℕ) (f offset : ℕ) (ys bytes : List ℕ) → ys ≡ bytes
     → putMid (payloadAt f + offset) (payloadAt f + offset + length bytes - (payloadAt f + offset)) fs ys ≡ putPayload fs f offset bytes
@@ -80,23 +83,31 @@ bytes-written s f offset bytes n e h =
     let r = recordAt (s .pool .records) f in
     same-state (s .store) (e ∙ ap (withRecord (s .pool) f) (pick-no r (ne-eqb (length bytes) 0 n) refl)) h
 
--- ---- the accepted calls, where m is the refusal that the code computed
+-- ---- the accepted calls, where m is the refusal that the code computed, and r the record that it put at the handle's place
 
 module _ (s : State) (h : Handle) (offset : ℕ) (bytes : List ℕ) {m : ℕ} where
   pub write-nothing : m ≡ firstBroken (writeRules s h offset (length bytes)) → m ≡ 0 → length bytes ≡ 0 → out (doneAnswer 0) s ≡ writeCall s h offset bytes
   unfolding writeCall
   write-nothing e z n = done-yes s (writeRules s h offset (length bytes)) e z (nothing-written s (h .frame .0) offset bytes n)
 
-  pub write-bytes : {p : Pool} {fs : List ℕ} → m ≡ firstBroken (writeRules s h offset (length bytes)) → m ≡ 0 → (length bytes ≡ 0 → ⊥)
-      → p ≡ madeDirty (s .pool) (h .frame .0) → fs ≡ putPayload (s .frames) (h .frame .0) offset bytes → out (doneAnswer 0) (state p fs (s .store)) ≡ writeCall s h offset bytes
+  pub write-bytes : {at : ℕ} {r : FrameRecord} {fs : List ℕ} → m ≡ firstBroken (writeRules s h offset (length bytes)) → m ≡ 0 → (length bytes ≡ 0 → ⊥)
+      → at ≡ recordPlace h → r ≡ dirtied (recordAt (s .pool .records) at) → fs ≡ putPayload (s .frames) (h .frame .0) offset bytes
+      → out (doneAnswer 0) (state (withRecord (s .pool) at r) fs (s .store)) ≡ writeCall s h offset bytes
   unfolding writeCall
-  write-bytes e z n i j = done-yes s (writeRules s h offset (length bytes)) e z (bytes-written s (h .frame .0) offset bytes n i j)
+  write-bytes e z n i d j =
+      let k = writable s h offset (length bytes) e z .kept in
+      done-yes s (writeRules s h offset (length bytes)) e z (bytes-written s (h .frame .0) offset bytes n (put-dirty (s .pool) h (k .kept .sized .most) (k .held .below) i d) j)
 
-module _ (s : State) (h : Handle) (k : ℕ) {m : ℕ} {p : Pool} {fs : List ℕ} where
-  pub link-done : (q : PageNumber) {w : ℕ} → m ≡ firstBroken (linkRules s h k q) → m ≡ 0 → SlotPut (s .pool) (s .frames) (h .frame .0) k w p fs → w ≡ q .0 → out (doneAnswer 0) (state p fs (s .store)) ≡ linkCall s h k q
+module _ (s : State) (h : Handle) (k : ℕ) {at : ℕ} {r : FrameRecord} {fs : List ℕ} where
+  slot-put : (w : ℕ) → SlotKept s h k → at ≡ recordPlace h → r ≡ dirtied (recordAt (s .pool .records) at) → fs ≡ putSlot (s .frames) (h .frame .0) k w → state (withRecord (s .pool) at r) fs (s .store) ≡ relinked s (h .frame .0) k w
+  slot-put w a i d j = same-state (s .store) (put-dirty (s .pool) h (a .kept .sized .most) (a .held .below) i d) j
+
+  pub link-done : (q : PageNumber) {m w : ℕ} → m ≡ firstBroken (linkRules s h k q) → m ≡ 0 → at ≡ recordPlace h → r ≡ dirtied (recordAt (s .pool .records) at) → fs ≡ putSlot (s .frames) (h .frame .0) k w → w ≡ q .0
+      → out (doneAnswer 0) (state (withRecord (s .pool) at r) fs (s .store)) ≡ linkCall s h k q
   unfolding linkCall
-  link-done q e z c i = done-yes s (linkRules s h k q) e z (same-state (s .store) (c .dirty) (c .word ∙ ap (putSlot (s .frames) (h .frame .0) k) i))
+  link-done q e z i d j n = done-yes s (linkRules s h k q) e z (slot-put (q .0) (linkable s h k q e z) i d (j ∙ ap (putSlot (s .frames) (h .frame .0) k) n))
 
-  pub unlink-done : m ≡ firstBroken (unlinkRules s h k) → m ≡ 0 → SlotPut (s .pool) (s .frames) (h .frame .0) k 0 p fs → out (doneAnswer 0) (state p fs (s .store)) ≡ unlinkCall s h k
+  pub unlink-done : {m : ℕ} → m ≡ firstBroken (unlinkRules s h k) → m ≡ 0 → at ≡ recordPlace h → r ≡ dirtied (recordAt (s .pool .records) at) → fs ≡ putSlot (s .frames) (h .frame .0) k 0
+      → out (doneAnswer 0) (state (withRecord (s .pool) at r) fs (s .store)) ≡ unlinkCall s h k
   unfolding unlinkCall
-  unlink-done e z c = done-yes s (unlinkRules s h k) e z (same-state (s .store) (c .dirty) (c .word))
+  unlink-done e z i d j = done-yes s (unlinkRules s h k) e z (slot-put 0 (unlinkable s h k e z) i d j)

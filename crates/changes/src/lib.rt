@@ -2,6 +2,7 @@
 mod refusals;
 
 use machine::Done;
+use machine::FrameRecord;
 use machine::Handle;
 use machine::Pool;
 use page::FrameIndex;
@@ -9,22 +10,18 @@ use page::PageNumber;
 ghost use mathlib.Core.Path.{_≡_};
 ghost use Prim.Native.Nat.{_+_, _*_, _≤_, _<_};
 ghost use lib.ListN.{length};
-ghost use Rattle.page.specs.Figures.{pageSize, slotCount, recordCount};
-ghost use Rattle.machine.specs.Machine.{state};
+ghost use Rattle.page.specs.Figures.{pageSize, slotCount};
+ghost use Rattle.page.specs.Page.{putSlot};
+ghost use Rattle.machine.specs.Machine.{state, dirtied as dirty};
 ghost use Rattle.machine.specs.Answers.{out, doneAnswer};
 ghost use Rattle.machine.specs.Calls.{writeCall, linkCall, unlinkCall};
-ghost use Rattle.changes.specs.Changed.{madeDirty, SlotPut};
 
-// The records with the page in a frame marked dirty.
-fn mark_dirty(pool: Pool, frame: FrameIndex) -> Pool
-    requires { ⌜ frame .0 < recordCount ⌝ }
-    ensures { λ r. ⌜ r ≡ madeDirty pool (frame .0) ⌝ }
+// The record of a page that is now dirty.
+fn dirtied(rec: FrameRecord) -> FrameRecord
+    ensures { λ r. ⌜ r ≡ dirty rec ⌝ }
 {
-    let f = frame.0 as usize;
-    let mut rec = pool.records[f];
-    rec.dirty = true;
-    let mut next = pool;
-    next.records[f] = rec;
+    let mut next = rec;
+    next.dirty = true;
     next
 }
 
@@ -40,31 +37,45 @@ pub fn write(
     ensures { λ r. ⌜ out (doneAnswer (r .refusal)) (state (r .pool) (now (frames .exit)) (now (store .entry))) ≡ writeCall (state pool (now (frames .entry)) (now (store .entry))) handle offset (now (bytes .entry)) ⌝ }
 {
     let n = bytes.len();
-    let refusal = refusals::write_refusal(pool, frames, store, handle, offset, n);
+    let mut pages: [u16; FrameIndex::MOST] = [0; FrameIndex::MOST];
+    let mut seen = [false; PageNumber::MOST];
+    let mut next = pool;
+    let at = guard::record_place(handle);
+    let held = next.records[at];
+    let refusal = refusals::write_refusal(
+        pool,
+        held,
+        frames,
+        store,
+        handle,
+        offset,
+        n,
+        &mut pages,
+        &mut seen,
+    );
     if refusal != 0 {
-        return Done { refusal, pool };
+        return Done { pool, refusal };
     }
     if n == 0 {
-        return Done { refusal: 0, pool };
+        return Done { pool, refusal: 0 };
     }
     let f = handle.frame.0 as usize;
     let start = PageNumber::SIZE * f + PageNumber::PAYLOAD_START + offset;
     page::copy::copy_into(&mut frames[start..start + n], bytes);
-    let next = mark_dirty(pool, handle.frame);
+    next.records[at] = dirtied(held);
     Done {
-        refusal: 0,
         pool: next,
+        refusal: 0,
     }
 }
 
-// Puts a word into a slot of a frame, and gives the records with its page marked dirty.
-fn put_in_slot(pool: Pool, frames: &mut [u8], frame: FrameIndex, slot: usize, w: u32) -> Pool
-    requires { ⌜ (frame .0 < recordCount) × (pageSize * frame .0 + pageSize ≤ length (now frames)) × (slot < slotCount) ⌝ }
-    ensures { λ r. ⌜ SlotPut pool (now (frames .entry)) (frame .0) slot w r (now (frames .exit)) ⌝ }
+// Puts a word into a slot of a frame.
+fn put_in_slot(frames: &mut [u8], frame: FrameIndex, slot: usize, w: u32)
+    requires { ⌜ (pageSize * frame .0 + pageSize ≤ length (now frames)) × (slot < slotCount) ⌝ }
+    ensures { λ _. ⌜ now (frames .exit) ≡ putSlot (now (frames .entry)) (frame .0) slot w ⌝ }
 {
     let f = frame.0 as usize;
     page::word::put_word(frames, PageNumber::SIZE * f + page::word::SIZE * slot, w);
-    mark_dirty(pool, frame)
 }
 
 // Stores a page number, unswizzled, in an empty slot of the handle's page.
@@ -78,14 +89,30 @@ pub fn link(
 ) -> Done
     ensures { λ r. ⌜ out (doneAnswer (r .refusal)) (state (r .pool) (now (frames .exit)) (now (store .entry))) ≡ linkCall (state pool (now (frames .entry)) (now (store .entry))) handle slot page ⌝ }
 {
-    let refusal = refusals::link_refusal(pool, frames, store, handle, slot, page);
+    let mut pages: [u16; FrameIndex::MOST] = [0; FrameIndex::MOST];
+    let mut seen = [false; PageNumber::MOST];
+    let mut next = pool;
+    let at = guard::record_place(handle);
+    let held = next.records[at];
+    let refusal = refusals::link_refusal(
+        pool,
+        held,
+        frames,
+        store,
+        handle,
+        slot,
+        page,
+        &mut pages,
+        &mut seen,
+    );
     if refusal != 0 {
-        return Done { refusal, pool };
+        return Done { pool, refusal };
     }
-    let next = put_in_slot(pool, frames, handle.frame, slot, PageNumber::word(page));
+    put_in_slot(frames, handle.frame, slot, PageNumber::word(page));
+    next.records[at] = dirtied(held);
     Done {
-        refusal: 0,
         pool: next,
+        refusal: 0,
     }
 }
 
@@ -93,13 +120,28 @@ pub fn link(
 pub fn unlink(pool: Pool, frames: &mut [u8], store: &[u8], handle: Handle, slot: usize) -> Done
     ensures { λ r. ⌜ out (doneAnswer (r .refusal)) (state (r .pool) (now (frames .exit)) (now (store .entry))) ≡ unlinkCall (state pool (now (frames .entry)) (now (store .entry))) handle slot ⌝ }
 {
-    let refusal = refusals::unlink_refusal(pool, frames, store, handle, slot);
+    let mut pages: [u16; FrameIndex::MOST] = [0; FrameIndex::MOST];
+    let mut seen = [false; PageNumber::MOST];
+    let mut next = pool;
+    let at = guard::record_place(handle);
+    let held = next.records[at];
+    let refusal = refusals::unlink_refusal(
+        pool,
+        held,
+        frames,
+        store,
+        handle,
+        slot,
+        &mut pages,
+        &mut seen,
+    );
     if refusal != 0 {
-        return Done { refusal, pool };
+        return Done { pool, refusal };
     }
-    let next = put_in_slot(pool, frames, handle.frame, slot, 0);
+    put_in_slot(frames, handle.frame, slot, 0);
+    next.records[at] = dirtied(held);
     Done {
-        refusal: 0,
         pool: next,
+        refusal: 0,
     }
 }

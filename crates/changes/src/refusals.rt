@@ -1,12 +1,16 @@
-// The refusals of write, link and unlink: the number of the first broken rule, 0 for none.
+// The refusals of write, link and unlink: the number of the first broken rule, 0 for none. `held` is the record at the handle's place.
+use machine::FrameRecord;
 use machine::Handle;
 use machine::Pool;
+use page::FrameIndex;
 use page::PageNumber;
 ghost use mathlib.Core.Path.{_≡_};
 ghost use Rattle.machine.specs.Tests.{firstBroken};
-ghost use Rattle.machine.specs.Machine.{state};
+ghost use Rattle.machine.specs.Machine.{state, recordAt};
 ghost use Rattle.machine.specs.Rules.{rangeFits};
 ghost use Rattle.machine.specs.Calls.{writeRules, linkRules, unlinkRules};
+ghost use Rattle.residents.specs.Handed.{Clear};
+ghost use Rattle.guard.specs.Held.{recordPlace};
 
 // Rule 5: does a payload have room for so many bytes from the offset on.
 fn range_fits(offset: usize, n: usize) -> bool
@@ -21,15 +25,19 @@ fn range_fits(offset: usize, n: usize) -> bool
 // Rules 1 to 3 and 5.
 pub fn write_refusal(
     pool: Pool,
+    held: FrameRecord,
     frames: &[u8],
     store: &[u8],
     handle: Handle,
     offset: usize,
     n: usize,
+    pages: &mut [u16; FrameIndex::MOST],
+    seen: &mut [bool; PageNumber::MOST],
 ) -> u8
+    requires { ⌜ (held ≡ recordAt (pool .records) (recordPlace handle)) × Clear (now pages) (now seen) ⌝ }
     ensures { λ r. ⌜ r ≡ firstBroken (writeRules (state pool (now (frames .entry)) (now (store .entry))) handle offset n) ⌝ }
 {
-    let refusal = guard::handle_refusal(pool, frames, store, handle);
+    let refusal = guard::handle_refusal(pool, held, frames, store, handle, pages, seen);
     if refusal != 0 {
         return refusal;
     }
@@ -42,38 +50,53 @@ pub fn write_refusal(
 // Rules 1 to 4, 6, 8 and 9.
 pub fn link_refusal(
     pool: Pool,
+    held: FrameRecord,
     frames: &[u8],
     store: &[u8],
     handle: Handle,
     slot: usize,
     page: PageNumber,
+    pages: &mut [u16; FrameIndex::MOST],
+    seen: &mut [bool; PageNumber::MOST],
 ) -> u8
+    requires { ⌜ (held ≡ recordAt (pool .records) (recordPlace handle)) × Clear (now pages) (now seen) ⌝ }
     ensures { λ r. ⌜ r ≡ firstBroken (linkRules (state pool (now (frames .entry)) (now (store .entry))) handle slot page) ⌝ }
 {
-    let refusal = guard::slot_refusal(pool, frames, store, handle, slot);
+    let refusal = guard::slot_refusal(pool, held, frames, store, handle, slot, pages, seen);
     if refusal != 0 {
         return refusal;
     }
     if page.0 == 0 {
         return 6;
     }
-    if pool.pages <= page.0 {
+    let n = store.len() / PageNumber::SIZE;
+    if n <= page.0 as usize {
         return 6;
     }
     if guard::slot_word(frames, handle.frame, slot) != 0 {
         return 8;
     }
-    if naming::is_named(pool, frames, store, page) {
+    if naming::is_named(pages, seen, store, n, page) {
         return 9;
     }
     0
 }
 
 // Rules 1 to 4, 7 and 10.
-pub fn unlink_refusal(pool: Pool, frames: &[u8], store: &[u8], handle: Handle, slot: usize) -> u8
+pub fn unlink_refusal(
+    pool: Pool,
+    held: FrameRecord,
+    frames: &[u8],
+    store: &[u8],
+    handle: Handle,
+    slot: usize,
+    pages: &mut [u16; FrameIndex::MOST],
+    seen: &mut [bool; PageNumber::MOST],
+) -> u8
+    requires { ⌜ (held ≡ recordAt (pool .records) (recordPlace handle)) × Clear (now pages) (now seen) ⌝ }
     ensures { λ r. ⌜ r ≡ firstBroken (unlinkRules (state pool (now (frames .entry)) (now (store .entry))) handle slot) ⌝ }
 {
-    let refusal = guard::slot_refusal(pool, frames, store, handle, slot);
+    let refusal = guard::slot_refusal(pool, held, frames, store, handle, slot, pages, seen);
     if refusal != 0 {
         return refusal;
     }

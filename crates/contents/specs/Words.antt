@@ -1,29 +1,63 @@
--- The words of resident pages: each is a page number or names a frame. Assumes nothing.
-use Prim.Native.Nat.{ℕ, _<_, _≤_}
+-- The words of resident pages: each is a page number or names a frame, and what word answers by the table of pages. Assumes nothing.
+use Prim.Native.Nat.{ℕ, _+_, _*_, _<_, _≤_}
+use mathlib.Core.Path.{_≡_, sym, _∙_, ap}
+use mathlib.Core.Bool.{Bool}
+use mathlib.Core.List.{List}
 use native.Mathlib.Omega.{arith}
 use native.Mathlib.Decide.{ℕ-discrete}
-use Rattle.page.specs.Figures.{mostPages, mostFrames, swizzleBit}
+use lib.ListN.{length}
+use Rattle.page.specs.declared.PageNumber.{PageNumber}
+use Rattle.page.specs.Figures.{pageSize, slotCount, mostPages, mostFrames, swizzleBit}
 use Rattle.page.specs.Word.{frameIn}
 use Rattle.machine.specs.declared.Handle.{Handle}
-use Rattle.machine.specs.Machine.{State}
+use Rattle.machine.specs.Tests.{firstBroken}
+use Rattle.machine.specs.Machine.{State, pageNumber, pageIn}
 use Rattle.machine.specs.AgreementFacts.{occupied-lt}
+use Rattle.machine.specs.Moves.{plain}
+use Rattle.machine.specs.PlainLaws.{plain-low, plain-high, reading, low, high}
+use Rattle.machine.specs.Answers.{number}
 use Rattle.machine.specs.Rules.{wordOf}
-use Rattle.machine.specs.RuleLaws.{SlotKept, held-occupied}
+use Rattle.machine.specs.Calls.{wordRules, wordCall}
+use Rattle.machine.specs.RuleLaws.{SlotKept, slot-kept, held-occupied, answer-yes}
+use Rattle.residents.specs.Table.{pageBy}
+use Rattle.residents.specs.Handed.{Handed}
 
 -- a page number below the largest N, or swizzled to one of the largest F frames
 pub record Resolvable (w : ℕ) : Type 0 where
   pub number : w < swizzleBit → w < mostPages
   pub frame : swizzleBit ≤ w → frameIn w < mostFrames
 
-pub resolvable : (s : State) (h : Handle) (k : ℕ) → SlotKept s h k → Resolvable (wordOf s h k)
-resolvable s h k K =
-    let o = held-occupied (s .pool) h (K .held) in
-    let A = K .kept .agreed in
-    let z = K .kept .sized in
-    record {
-      number = λ l. elim (ℕ-discrete (wordOf s h k) 0) [
-        | yes e ↦ omega arith
-        | no e ↦ let b = A .below (h .frame .0) k o (K .slot) l e in omega arith
-      ];
-      frame = λ l. let b = occupied-lt (s .pool) _ (A .back (h .frame .0) k o (K .slot) l .at) in omega arith;
-    }
+-- n is the refusal by rules 1 to 4, and w the word that the code read
+module _ (s : State) (h : Handle) (k : ℕ) {pages : List ℕ} {seen : List Bool} {n : ℕ} (e : (n ≡ firstBroken (wordRules s h k)) × (n ≡ 0 → Handed (s .pool) (s .frames) pages seen)) (z : n ≡ 0) where
+  kept : SlotKept s h k
+  kept = slot-kept s h k (sym (e .0) ∙ z)
+
+  pub slot-within : (pageSize * h .frame .0 + pageSize ≤ length (s .frames)) × (k < slotCount)
+  slot-within = let m = kept in (omega arith, m .slot)
+
+  module _ {w : ℕ} (i : w ≡ wordOf s h k) where
+    pub resolvable : Resolvable w
+    resolvable =
+        let o = held-occupied (s .pool) h (kept .held) in
+        let A = kept .kept .agreed in
+        let m = kept .kept .sized in
+        rw i record {
+          number = λ l. elim (ℕ-discrete (wordOf s h k) 0) [
+            | yes y ↦ omega arith
+            | no y ↦ let b = A .below (h .frame .0) k o (kept .slot) l y in omega arith
+          ];
+          frame = λ l. let b = occupied-lt (s .pool) _ (A .back (h .frame .0) k o (kept .slot) l .at) in omega arith;
+        }
+
+    -- the table tells the page in the frame that a swizzled word names
+    by-table : plain (pageBy pages) w ≡ plain (pageIn (s .pool .records)) w
+    by-table = elim (reading w) [
+      | low l ↦ plain-low _ w l ∙ sym (plain-low _ w l)
+      | high g y ↦
+          let l = resolvable .frame (omega arith) in
+          rw y (plain-high _ g ∙ e .1 z .table .right g (omega arith) ∙ sym (plain-high _ g))
+    ]
+
+    pub word-names : {p : PageNumber} → p ≡ pageNumber (plain (pageBy pages) w) → number (p .0) ≡ wordCall s h k .answer
+    unfolding wordCall
+    word-names y = answer-yes s _ s (e .0) z (ap (λ (p : PageNumber). number (p .0)) y ∙ ap number (by-table ∙ ap (plain (pageIn (s .pool .records))) i))

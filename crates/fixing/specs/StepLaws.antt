@@ -1,5 +1,5 @@
 -- How the steps of root and fix make up the two calls. Assumes nothing.
-use Prim.Native.Nat.{ℕ, _≤_, _<_}
+use Prim.Native.Nat.{ℕ, _+_, _/_, _≤_, _<_}
 use mathlib.Core.Path.{_≡_, refl, sym, subst, _∙_, ap}
 use mathlib.Core.Logic.{_≢_}
 use mathlib.Core.Bool.{Bool, true, false, not}
@@ -7,27 +7,36 @@ use mathlib.Core.List.{List, [], _∷_, _++_}
 use native.Mathlib.Omega.{arith}
 use borrow.Author.Tests.{eq-eqb, ne-eqb, lt-ltb, le-ltb, ltb-true, ltb-false}
 use lib.Dec.{ltb}
-use Rattle.page.specs.Figures.{slotCount, mostFrames, maxPins, swizzleBit}
+use lib.ListN.{length, getD, set}
+use lib.Seq.{set-set}
+use Rattle.page.specs.Figures.{pageSize, slotCount, mostFrames, maxPins, swizzleBit}
 use Rattle.page.specs.Word.{isNumber, frameIn}
 use Rattle.page.specs.Page.{slot}
+use Rattle.machine.specs.declared.FrameRecord.{FrameRecord}
 use Rattle.machine.specs.declared.Pool.{Pool}
 use Rattle.machine.specs.declared.Handle.{Handle}
 use Rattle.machine.specs.declared.Fix.{Fix}
 use Rattle.machine.specs.declared.Swept.{Swept}
 use Rattle.machine.specs.Tests.{pick, Rule, firstBroken, verdict}
 use Rattle.machine.specs.TestLaws.{pick-yes, pick-no, or-left, or-skip, kept-then, broken-here, none-broken}
-use Rattle.machine.specs.Machine.{State, state, withPool, recordAt, pageIn, withRecord, pinned}
+use Rattle.machine.specs.Machine.{State, state, withPool, recordAt, pageIn, withRecords, withRecord, pinned, loadedRecord}
 use Rattle.machine.specs.Answers.{refused, handle, Out, out}
-use Rattle.machine.specs.Sweep.{firstEmpty, sweep, withSwept}
-use Rattle.machine.specs.Moves.{evicted, loaded}
+use Rattle.machine.specs.Sweep.{childless, firstEmpty, sweep, withSwept}
+use Rattle.machine.specs.Moves.{vacate, evicted}
 use Rattle.machine.specs.Naming.{loadable}
 use Rattle.machine.specs.Rules.{wordOf, rule7, rule13, rule14, rule15}
 use Rattle.machine.specs.Calls.{decide, poolRules, wordRules, loadedOut, missOut, rootCall, fixCall}
-use Rattle.machine.specs.Ready.{Ready, Sized, ready}
+use Rattle.machine.specs.Ready.{Kept, Ready, Sized, ready}
 use Rattle.machine.specs.RuleLaws.{SlotKept, held-occupied, decide-no, decide-yes, pool-stops, pool-passes, slot-stops, slot-passes}
-use Rattle.machine.specs.SweepLaws.{sweep-sound, swept-ready}
-use Rattle.machine.specs.MoveLaws.{evicted-counts, evicted-sized}
-use Rattle.fixing.specs.Steps.{refusedFix, givenFix, fixOut, pinDecided, Pins, missDecided, sweptDecided}
+use Rattle.machine.specs.SweepLaws.{open-childless, sweep-sound, swept-ready}
+use Rattle.machine.specs.MoveLaws.{evicted-sized}
+use Rattle.residents.specs.Handed.{Handed}
+use Rattle.naming.specs.ByTable.{loadableBy, loadable-by}
+use Rattle.scan.specs.declared.Walk.{Walk}
+use Rattle.scan.specs.ByTable.{emptyBy, empty-by}
+use Rattle.scan.specs.Walk.{cooledTo, Sees, Walked, Cools, Few, cools-none, cools-next, same-end, same-sweep}
+use Rattle.moves.specs.InAndOut.{Removable, TakenOut, Fitting, broughtIn, removable, is-evicted, fitting, is-loaded}
+use Rattle.fixing.specs.Steps.{refusedFix, givenFix, fixOut, pinDecided, missDecided, sweptDecided}
 
 -- ---- rules
 
@@ -44,46 +53,118 @@ one-broken n h = sym (broken-here n [] h)
 
 -- ---- a resident page
 
-module _ (p : Pool) (f : ℕ) {r : Fix} where
-  pub pin-denied : recordAt (p .records) f .pins ≡ maxPins → r ≡ refusedFix p 13 → Pins p f r
+module _ (s : State) (f : ℕ) {r : Fix} where
+  pub pin-denied : recordAt (s .pool .records) f .pins ≡ maxPins → r ≡ refusedFix (s .pool) 13 → fixOut r (s .frames) (s .store) ≡ pinDecided s f
   unfolding pinDecided
-  pin-denied h e fs st = rw e (decide-no (state p fs st) _ _ (one-broken 13 (ap not (eq-eqb _ maxPins h))) (λ z. omega arith))
+  pin-denied h e = rw e (decide-no s _ _ (one-broken 13 (ap not (eq-eqb _ maxPins h))) (λ z. omega arith))
 
-  pub pin-given : recordAt (p .records) f .pins ≢ maxPins → r ≡ givenFix (withRecord p f (pinned (recordAt (p .records) f))) f (pageIn (p .records) f) 0 → Pins p f r
+  pub pin-given : {q : FrameRecord} → recordAt (s .pool .records) f .pins ≢ maxPins → q ≡ pinned (recordAt (s .pool .records) f) → r ≡ givenFix (withRecord (s .pool) f q) f (pageIn (s .pool .records) f) 0
+      → fixOut r (s .frames) (s .store) ≡ pinDecided s f
   unfolding pinDecided
-  pin-given h e fs st = rw e (decide-yes (state p fs st) _ (one-kept 13 (ap not (ne-eqb _ maxPins h))) refl refl)
+  pin-given h i e = rw (e, i) (decide-yes s _ (one-kept 13 (ap not (ne-eqb _ maxPins h))) refl refl)
 
 -- ---- a page that comes in
 
--- into frame e after so many looks
-pub load-given : (s : State) (f k e q looks : ℕ) {r : Fix} {p : Pool} {fs st : List ℕ} → r ≡ givenFix p e q looks → state p fs st ≡ loaded s f k e q → fixOut r fs st ≡ loadedOut s f k e q looks
-load-given s f k e q looks h l = rw h (ap (out (handle e q looks)) l)
+-- into frame e after so many looks, where a is the record that the code put
+pub load-given : (s : State) (f k e q looks : ℕ) {a : FrameRecord} {gs : List ℕ} {r : Fix} → a ≡ loadedRecord q f k → gs ≡ broughtIn (s .frames) (s .store) f k e q
+    → r ≡ givenFix (withRecord (s .pool) e a) e q looks → fixOut r gs (s .store) ≡ loadedOut s f k e q looks
+load-given s f k e q looks i b g = rw (g, i) (ap (out (handle e q looks)) (is-loaded s f k e q refl b))
 
--- where a sweep ended with a frame taken: what the eviction asks for, and then the load
-module _ (s : State) (R : Ready s) {v : Swept} (e : v ≡ sweep (s .pool) (s .frames)) (t : v .taken ≡ true) where
-  pub victim-ready : Ready (withPool s (withSwept (s .pool) v)) × (v .frame .0 < s .pool .count)
-  victim-ready = rw e (swept-ready s R, sweep-sound (s .pool) (s .frames) (R .hand) (ap (λ (x : Swept). x .taken) (sym e) ∙ t) .0)
+-- ---- a sweep over what it sees of the frames
 
-  pub load-ready : {f k q : ℕ} {p : Pool} {fs st : List ℕ} → f < s .pool .count → k < slotCount → q < s .pool .pages → state p fs st ≡ evicted (withPool s (withSwept (s .pool) v)) (v .frame .0)
-      → Sized (state p fs st) × (f < p .count) × (k < slotCount) × (v .frame .0 < p .count) × (q < p .pages)
-  load-ready lf lk lq h =
-      let u : State = withPool s (withSwept (s .pool) v) in
-      let r = victim-ready in
-      let c = evicted-counts u (v .frame .0) in
-      let n : _ ≡ s .pool .count = ap (λ (x : State). x .pool .count) h ∙ c .0 in
-      let m : _ ≡ s .pool .pages = ap (λ (x : State). x .pool .pages) h ∙ c .1 in
-      (subst (λ (x : State). Sized x) (sym h) (evicted-sized u (v .frame .0) (r .0) (r .1)), rw n lf, lk, rw n (r .1), rw m lq)
+-- m is the pool p with what a sweep left of the first n frames
+pub record Cooling (p m : Pool) (vs : List ℕ) (n : ℕ) : Type 0 where
+  pub rest : m ≡ withRecords p (m .records)
+  pub cools : Cools (p .records) (m .records) vs n
+
+pub cooling-none : (p : Pool) (vs : List ℕ) → Cooling p p vs 0
+cooling-none p vs = record { rest = refl; cools = cools-none (p .records) vs }
+
+pub cooling-next : {p m : Pool} {vs : List ℕ} {n : ℕ} {r : FrameRecord} → Cooling p m vs n → r ≡ cooledTo (recordAt (m .records) n) (getD vs n 0) → Cooling p (withRecord m n r) vs (n + 1)
+cooling-next {m = m} {n = n} {r = r} c e = record { rest = ap (λ (x : Pool). withRecords x (set (m .records) n r)) (c .rest); cools = cools-next (c .cools) e }
+
+-- a walk's end with the records that it leaves
+abbrev sweptAs : Walk → List FrameRecord → Swept
+sweptAs r ts = record { taken = r .taken; frame = r .frame; looks = r .looks; records = ts; hand = r .hand }
+
+-- the sweep ended as r with a frame taken, and m is the pool with the records that it leaves
+pub record Took (s : State) (r : Walk) (m : Pool) : Type 0 where
+  pub ready : Ready s
+  pub taken : r .taken ≡ true
+  pub rest : m ≡ withRecords (s .pool) (m .records)
+  pub swept : sweptAs r (m .records) ≡ sweep (s .pool) (s .frames)
+
+module _ (s : State) (R : Ready s) {us vs : List ℕ} {r : Walk} (S : Sees (s .pool .records) (s .frames) us (s .pool .count)) (W : Walked (s .pool .count) (s .pool .hand .0) us vs r) where
+  few : Few (s .pool .records) (s .pool .count)
+  few g l = R .inRange g l .usage
+
+  swept-as : {ts : List FrameRecord} → Cools (s .pool .records) ts vs (s .pool .count) → sweptAs r ts ≡ sweep (s .pool) (s .frames)
+  swept-as {ts} C = sym (same-sweep (s .pool) (s .frames) us vs ts r (R .sized .most) (R .hand) few S W C)
+
+  pub swept-denied : (f k q : ℕ) {x : Fix} → r .taken ≡ false → x ≡ refusedFix (s .pool) 15 → fixOut x (s .frames) (s .store) ≡ sweptDecided s f k q
+  unfolding sweptDecided
+  swept-denied f k q t h =
+      let e = same-end (s .pool) (s .frames) us vs r (R .sized .most) (R .hand) few S W in
+      let u : sweep (s .pool) (s .frames) .taken ≡ false = sym (ap (λ (x : Walk). x .taken) e) ∙ t in
+      rw h (decide-no s _ _ (one-broken 15 u) (λ z. omega arith))
+
+  pub took : {m : Pool} → r .taken ≡ true → Cooling (s .pool) m vs (s .pool .count) → Took s r m
+  took t C = record { ready = R; taken = t; rest = C .rest; swept = swept-as (C .cools) }
+
+-- the page of the frame taken is taken out, and page q is loaded for slot k of frame f
+module _ (s : State) {r : Walk} {m : Pool} (T : Took s r m) where
+  abbrev ended : Swept
+  ended = sweptAs r (m .records)
+
+  abbrev swept : State
+  swept = withPool s (withSwept (s .pool) ended)
+
+  ready-still : Ready swept
+  ready-still = rw (T .swept) (swept-ready s (T .ready))
+
+  victim-open : (r .frame .0 < s .pool .count) × (childless (s .frames) (r .frame .0) ≡ true)
+  victim-open =
+      let h = sweep-sound (s .pool) (s .frames) (T .ready .hand) (ap (λ (x : Swept). x .taken) (sym (T .swept)) ∙ T .taken) in
+      let e : r .frame ≡ sweep (s .pool) (s .frames) .frame = ap (λ (x : Swept). x .frame) (T .swept) in
+      rw e (h .0, open-childless _ _ _ (h .1))
+
+  pub victim-below : r .frame .0 < mostFrames
+  victim-below = let l = victim-open .0 in omega (arith, T .ready .sized .most)
+
+  pub victim-removable : Removable (recordAt (m .records) (r .frame .0)) (s .frames) (s .store) (r .frame .0)
+  victim-removable = let h = victim-open in removable swept (r .frame .0) ready-still (h .0) (h .1)
+
+  module _ {gs ts : List ℕ} (o : TakenOut (recordAt (m .records) (r .frame .0)) (s .frames) (s .store) (r .frame .0) gs ts) where
+    abbrev left : State
+    left = state (vacate (withSwept (s .pool) ended) (r .frame .0)) gs ts
+
+    left-is : left ≡ evicted swept (r .frame .0)
+    left-is = is-evicted swept (r .frame .0) refl o
+
+    pub victim-fitting : {f k q : ℕ} → f < s .pool .count → k < slotCount → q < s .pool .pages → Fitting gs ts f k (r .frame .0) q
+    victim-fitting {f} {k} {q} lf lk lq =
+        fitting left f k (r .frame .0) q (subst (λ (x : State). Sized x) (sym left-is) (evicted-sized swept (r .frame .0) ready-still (victim-open .0))) lf lk (victim-open .0) lq
+
+    -- the record is put once, over that of the page taken out
+    pub swept-given : (f k q : ℕ) {hs : List ℕ} {a : FrameRecord} {x : Fix} → a ≡ loadedRecord q f k → hs ≡ broughtIn gs ts f k (r .frame .0) q
+        → x ≡ givenFix (withRecord (withSwept m ended) (r .frame .0) a) (r .frame .0) q (r .looks) → fixOut x hs ts ≡ sweptDecided s f k q
+    unfolding sweptDecided
+    swept-given f k q {a = a} i b g =
+        let p : withRecord (withSwept m ended) (r .frame .0) a ≡ withRecord (left .pool) (r .frame .0) a = ap (λ (x : Pool). withRecord (withSwept x ended) (r .frame .0) a) (T .rest) ∙ rw set-set in
+        let l = load-given left f k (r .frame .0) q (r .looks) i b (g ∙ rw p) in
+        rw (← T .swept) (decide-yes s _ (one-kept 15 (T .taken)) refl (l ∙ rw left-is))
+
+-- what the tables tell, N by the store's length
+module _ (s : State) (K : Kept s) {pages : List ℕ} {seen : List Bool} (H : Handed (s .pool) (s .frames) pages seen) where
+  pub loadable-told : (q : ℕ) {b : Bool} → b ≡ loadableBy seen (s .store) (length (s .store) / pageSize) q → b ≡ loadable s q
+  loadable-told q e =
+      let N : length (s .store) / pageSize ≡ s .pool .pages = omega (arith, K .sized .store) in
+      e ∙ ap (λ (n : ℕ). loadableBy seen (s .store) n q) N ∙ loadable-by s K H q
+
+  pub empty-told : {e : ℕ} → e ≡ emptyBy pages (s .pool .count) (s .pool .count) (s .pool .hand .0) → e ≡ firstEmpty (s .pool)
+  empty-told h = h ∙ empty-by s K H
 
 module _ (s : State) (f k q : ℕ) where
-  pub swept-given : {v : Swept} {t : State} {x : Out} → v ≡ sweep (s .pool) (s .frames) → v .taken ≡ true → t ≡ evicted (withPool s (withSwept (s .pool) v)) (v .frame .0)
-      → x ≡ loadedOut t f k (v .frame .0) q (v .looks) → x ≡ sweptDecided s f k q
-  unfolding sweptDecided
-  swept-given e t h i = rw (← e) (decide-yes s _ (one-kept 15 t) refl (i ∙ rw h))
-
-  pub swept-denied : {v : Swept} {r : Fix} → v ≡ sweep (s .pool) (s .frames) → v .taken ≡ false → r ≡ refusedFix (s .pool) 15 → fixOut r (s .frames) (s .store) ≡ sweptDecided s f k q
-  unfolding sweptDecided
-  swept-denied e t h = rw (h, ← e) (decide-no s _ _ (one-broken 15 t) (λ z. omega arith))
-
   pub miss-denied : {r : Fix} → loadable s q ≡ false → r ≡ refusedFix (s .pool) 14 → fixOut r (s .frames) (s .store) ≡ missDecided s f k q
   unfolding missDecided
   miss-denied l h = rw h (decide-no s _ _ (sym (broken-here 14 _ l)) (λ z. omega arith))

@@ -1,6 +1,5 @@
 -- What the steps of root and fix answer and leave.
 use Prim.Native.Nat.{ℕ}
-use mathlib.Core.Path.{_≡_}
 use mathlib.Core.List.{List, [], _∷_}
 use Rattle.machine.specs.declared.Pool.{Pool}
 use Rattle.machine.specs.declared.Fix.{Fix}
@@ -27,10 +26,6 @@ fixOut r fs st = out (fixAnswer (r .answer)) (state (r .pool) fs st)
 -- a resident page, in frame f, is pinned: rule 13
 unfoldable pub pinDecided : State → ℕ → Out
 pinDecided s f = decide s (rule13 s f ∷ []) (pinnedOut s f)
-
--- the same from the records alone, whatever frames and store hold
-abbrev pub Pins : Pool → ℕ → Fix → Type 0
-Pins p f r = (fs st : List ℕ) → fixOut r fs st ≡ pinDecided (state p fs st) f
 
 -- page q, which isn't resident, comes in for slot k of frame f: rules 14 and 15
 unfoldable pub missDecided : State → ℕ → ℕ → ℕ → Out

@@ -13,8 +13,8 @@ pub fn refused(pool: Pool, number: u8) -> Fix
     ensures { λ r. ⌜ r ≡ refusedFix pool number ⌝ }
 {
     Fix {
-        answer: FixAnswer::Refused(number),
         pool,
+        answer: FixAnswer::Refused(number),
     }
 }
 
@@ -24,7 +24,7 @@ pub fn given(pool: Pool, frame: FrameIndex, page: PageNumber, looks: u16) -> Fix
 {
     let handle = Handle { frame, page };
     Fix {
-        answer: FixAnswer::Fixed(handle, looks),
         pool,
+        answer: FixAnswer::Fixed(handle, looks),
     }
 }

@@ -22,14 +22,35 @@ pub fn root(pool: Pool, frames: &[u8], store: &[u8]) -> Fix
     if refusal != 0 {
         return answer::refused(pool, refusal);
     }
-    pin::pin_frame(pool, FrameIndex(0))
+    let mut next = pool;
+    let rec = next.records[0];
+    if rec.pins == FrameIndex::MAX_PINS {
+        return answer::refused(pool, 13);
+    }
+    let page = rec.page;
+    next.records[0] = pin::pinned(rec);
+    answer::given(next, FrameIndex(0), page, 0)
 }
 
 // Pins the page that a slot of a handle's page names.
 pub fn fix(pool: Pool, frames: &mut [u8], store: &mut [u8], handle: Handle, slot: usize) -> Fix
     ensures { λ r. ⌜ out (fixAnswer (r .answer)) (state (r .pool) (now (frames .exit)) (now (store .exit))) ≡ fixCall (state pool (now (frames .entry)) (now (store .entry))) handle slot ⌝ }
 {
-    let refusal = guard::slot_refusal(pool, frames, store, handle, slot);
+    let mut pages: [u16; FrameIndex::MOST] = [0; FrameIndex::MOST];
+    let mut seen = [false; PageNumber::MOST];
+    let mut next = pool;
+    let at = guard::record_place(handle);
+    let held = next.records[at];
+    let refusal = guard::slot_refusal(
+        pool,
+        held,
+        frames,
+        store,
+        handle,
+        slot,
+        &mut pages,
+        &mut seen,
+    );
     if refusal != 0 {
         return answer::refused(pool, refusal);
     }
@@ -39,7 +60,15 @@ pub fn fix(pool: Pool, frames: &mut [u8], store: &mut [u8], handle: Handle, slot
         return answer::refused(pool, 7);
     }
     if word::is_number(w) {
-        return load::bring_in(pool, frames, store, parent, slot, PageNumber(w as u16));
+        let page = PageNumber(w as u16);
+        return load::bring_in(pool, frames, store, parent, slot, page, &pages, &mut seen);
     }
-    pin::pin_frame(pool, FrameIndex(word::frame_in(w) as u8))
+    let g = word::frame_in(w);
+    let child = next.records[g];
+    if child.pins == FrameIndex::MAX_PINS {
+        return answer::refused(pool, 13);
+    }
+    let page = child.page;
+    next.records[g] = pin::pinned(child);
+    answer::given(next, FrameIndex(g as u8), page, 0)
 }

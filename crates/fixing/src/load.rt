@@ -8,68 +8,11 @@ ghost use mathlib.Core.Path.{_≡_};
 ghost use Prim.Native.Nat.{_<_};
 ghost use Rattle.page.specs.Figures.{slotCount};
 ghost use Rattle.machine.specs.Machine.{state};
-ghost use Rattle.machine.specs.Ready.{Kept, Ready, Sized};
-ghost use Rattle.machine.specs.Calls.{loadedOut};
-ghost use Rattle.fixing.specs.Steps.{fixOut, missDecided, sweptDecided};
+ghost use Rattle.machine.specs.Ready.{Kept};
+ghost use Rattle.residents.specs.Handed.{Handed};
+ghost use Rattle.fixing.specs.Steps.{fixOut, missDecided};
 
-// Loads a page into a frame after so many looks, for a slot of its parent's frame.
-fn load_into(
-    pool: Pool,
-    frames: &mut [u8],
-    store: &[u8],
-    parent: FrameIndex,
-    slot: usize,
-    frame: FrameIndex,
-    page: PageNumber,
-    looks: u16,
-) -> Fix
-    requires { ⌜ Sized (state pool (now frames) (now store)) × (parent .0 < pool .count) × (slot < slotCount) × (frame .0 < pool .count) × (page .0 < pool .pages) ⌝ }
-    ensures { λ r. ⌜ fixOut r (now (frames .exit)) (now (store .entry)) ≡ loadedOut (state pool (now (frames .entry)) (now (store .entry))) (parent .0) slot (frame .0) (page .0) looks ⌝ }
-{
-    let next = moves::load_page(pool, frames, store, parent, slot, frame, page);
-    answer::given(next, frame, page, looks)
-}
-
-// Loads a page into the frame that a sweep takes, whose page is evicted: rule 15 where no frame is empty.
-fn replace(
-    pool: Pool,
-    frames: &mut [u8],
-    store: &mut [u8],
-    parent: FrameIndex,
-    slot: usize,
-    page: PageNumber,
-) -> Fix
-    requires { ⌜ Ready (state pool (now frames) (now store)) × (parent .0 < pool .count) × (slot < slotCount) × (page .0 < pool .pages) ⌝ }
-    ensures { λ r. ⌜ fixOut r (now (frames .exit)) (now (store .exit)) ≡ sweptDecided (state pool (now (frames .entry)) (now (store .entry))) (parent .0) slot (page .0) ⌝ }
-{
-    let swept = scan::sweep(pool, frames);
-    let taken = swept.taken;
-    if !taken {
-        return answer::refused(pool, 15);
-    }
-    let records = swept.records;
-    let hand = swept.hand;
-    let cooled = Pool {
-        records,
-        count: pool.count,
-        pages: pool.pages,
-        hand,
-    };
-    let victim = swept.frame;
-    let vacated = moves::evict_page(cooled, frames, store, victim);
-    load_into(
-        vacated,
-        frames,
-        store,
-        parent,
-        slot,
-        victim,
-        page,
-        swept.looks,
-    )
-}
-
-// Brings in a page that is not resident, for a slot of its parent's frame: rules 14 and 15.
+// Brings in a page that is not resident, for a slot of its parent's frame: rules 14 and 15. One copy of the records is worked on throughout.
 pub fn bring_in(
     pool: Pool,
     frames: &mut [u8],
@@ -77,25 +20,52 @@ pub fn bring_in(
     parent: FrameIndex,
     slot: usize,
     page: PageNumber,
+    pages: &[u16; FrameIndex::MOST],
+    seen: &mut [bool; PageNumber::MOST],
 ) -> Fix
-    requires { ⌜ Kept (state pool (now frames) (now store)) × (parent .0 < pool .count) × (slot < slotCount) × (page .0 < pool .pages) ⌝ }
+    requires { ⌜ Kept (state pool (now frames) (now store)) × Handed pool (now frames) (now pages) (now seen) × (parent .0 < pool .count) × (slot < slotCount) × (page .0 < pool .pages) ⌝ }
     ensures { λ r. ⌜ fixOut r (now (frames .exit)) (now (store .exit)) ≡ missDecided (state pool (now (frames .entry)) (now (store .entry))) (parent .0) slot (page .0) ⌝ }
 {
-    if !naming::is_loadable(pool, frames, store, page) {
+    let mut next = pool;
+    let n = store.len() / PageNumber::SIZE;
+    if !naming::is_loadable(store, n, page, seen) {
         return answer::refused(pool, 14);
     }
-    let empty = scan::first_empty(pool);
-    if empty < pool.count as usize {
-        return load_into(
-            pool,
-            frames,
-            store,
-            parent,
-            slot,
-            FrameIndex(empty as u8),
-            page,
-            0,
-        );
+    let hand = next.hand;
+    let count = next.count;
+    let most = count as usize;
+    let empty = scan::first_empty(pages, count, hand);
+    if empty < most {
+        let frame = FrameIndex(empty as u8);
+        next.records[empty] = moves::load_page(frames, store, parent, slot, frame, page);
+        return answer::given(next, frame, page, 0);
     }
-    replace(pool, frames, store, parent, slot, page)
+    // No frame is empty: the sweep, over what it sees of the frames.
+    let mut usages: [u8; FrameIndex::MOST] = [0; FrameIndex::MOST];
+    let mut f: usize = 0;
+    while f < most {
+        let rec = next.records[f];
+        usages[f] = scan::open_usage(rec, frames, FrameIndex(f as u8));
+        f += 1;
+    }
+    let walk = scan::sweep(&mut usages, count, hand);
+    let taken = walk.taken;
+    if !taken {
+        return answer::refused(pool, 15);
+    }
+    // What it left of the usages goes to the records; the page of the frame that it took goes, and the other comes in.
+    let mut g: usize = 0;
+    while g < most {
+        let rec = next.records[g];
+        next.records[g] = scan::cooled(rec, usages[g]);
+        g += 1;
+    }
+    let hand_after = walk.hand;
+    next.hand = hand_after;
+    let victim = walk.frame;
+    let v = victim.0 as usize;
+    let evicted = next.records[v];
+    moves::take_out(evicted, frames, store, victim);
+    next.records[v] = moves::load_page(frames, store, parent, slot, victim, page);
+    answer::given(next, victim, page, walk.looks)
 }

@@ -1,4 +1,7 @@
 // The rules that calls share, tested in their order: the number of the first broken one, 0 for none. And the word that calls with a slot look at.
+// Counts are taken from the lengths of frames and store where rule 1 was kept: the records are then passed on and not read, which spares a copy of them.
+// The tables are the caller's: cleared before the caller copies the records, they give the host's own copy the time to arrive.
+use machine::FrameRecord;
 use machine::Handle;
 use machine::Pool;
 use page::FrameIndex;
@@ -6,12 +9,14 @@ use page::PageNumber;
 ghost use mathlib.Core.Path.{_≡_};
 ghost use Prim.Native.Nat.{_+_, _*_, _≤_, _<_};
 ghost use lib.ListN.{length};
-ghost use Rattle.page.specs.Figures.{pageSize, slotCount, mostFrames};
+ghost use Rattle.page.specs.Figures.{pageSize, slotCount};
 ghost use Rattle.page.specs.Page.{slot as slotWord};
 ghost use Rattle.machine.specs.Tests.{firstBroken};
-ghost use Rattle.machine.specs.Machine.{state};
-ghost use Rattle.machine.specs.Rules.{lengthsFit, handleFits};
+ghost use Rattle.machine.specs.Machine.{state, recordAt};
+ghost use Rattle.machine.specs.Rules.{lengthsFit};
 ghost use Rattle.machine.specs.Calls.{poolRules, handleRules, wordRules, pageRules};
+ghost use Rattle.residents.specs.Handed.{Clear, Handed};
+ghost use Rattle.guard.specs.Held.{recordPlace, heldFits};
 
 // Rule 1: are F and N in their ranges, and have frames and store so many pages.
 pub fn lengths_fit(count: usize, pages: usize, frames: &[u8], store: &[u8]) -> bool
@@ -35,59 +40,98 @@ pub fn lengths_fit(count: usize, pages: usize, frames: &[u8], store: &[u8]) -> b
     store.len() == PageNumber::SIZE * pages
 }
 
-// Rule 3: is the handle's frame one of the F frames, does it hold the handle's page, and is that pinned.
-fn handle_fits(pool: Pool, handle: Handle) -> bool
-    requires { ⌜ pool .count ≤ mostFrames ⌝ }
-    ensures { λ r. ⌜ r ≡ handleFits pool handle ⌝ }
+// Where the record of a handle's frame stands: taken round, since the frame's range isn't tested yet.
+pub fn record_place(handle: Handle) -> usize
+    ensures { λ r. ⌜ r ≡ recordPlace handle ⌝ }
 {
-    let f = handle.frame.0 as usize;
-    if pool.count as usize <= f {
+    handle.frame.0 as usize % FrameIndex::MOST
+}
+
+// Rule 3: is the handle's frame one of the F frames, does it hold the handle's page, and is that pinned. `held` is its record.
+fn handle_fits(count: usize, held: FrameRecord, handle: Handle) -> bool
+    ensures { λ r. ⌜ r ≡ heldFits count held handle ⌝ }
+{
+    if count <= handle.frame.0 as usize {
         return false;
     }
-    let rec = pool.records[f];
-    if rec.used {
-        if rec.page.0 != handle.page.0 {
+    if held.used {
+        if held.page.0 != handle.page.0 {
             return false;
         }
-        return 0 < rec.pins;
+        return 0 < held.pins;
     }
     false
 }
 
-// Rules 1 and 2.
-pub fn pool_refusal(pool: Pool, frames: &[u8], store: &[u8]) -> u8
-    ensures { λ r. ⌜ r ≡ firstBroken (poolRules (state pool (now (frames .entry)) (now (store .entry)))) ⌝ }
+// Rules 1 and 2. Where they are kept, the tables tell the page in each frame, and which pages resident pages name.
+pub fn table_refusal(
+    pool: Pool,
+    frames: &[u8],
+    store: &[u8],
+    pages: &mut [u16; FrameIndex::MOST],
+    seen: &mut [bool; PageNumber::MOST],
+) -> u8
+    requires { ⌜ Clear (now pages) (now seen) ⌝ }
+    ensures { λ r. ⌜ (r ≡ firstBroken (poolRules (state pool (now (frames .entry)) (now (store .entry))))) × (r ≡ 0 → Handed pool (now (frames .entry)) (now (pages .exit)) (now (seen .exit))) ⌝ }
 {
     let count = pool.count as usize;
-    let pages = pool.pages as usize;
-    if !lengths_fit(count, pages, frames, store) {
+    let n = pool.pages as usize;
+    if !lengths_fit(count, n, frames, store) {
         return 1;
     }
-    if !agreement::agrees(pool, frames) {
+    if !agreement::agrees(pool, frames, pages, seen) {
         return 2;
     }
     0
 }
 
-// Rules 1 to 3.
-pub fn handle_refusal(pool: Pool, frames: &[u8], store: &[u8], handle: Handle) -> u8
-    ensures { λ r. ⌜ r ≡ firstBroken (handleRules (state pool (now (frames .entry)) (now (store .entry))) handle) ⌝ }
+// Rules 1 and 2, for a call that asks nothing of the tables.
+pub fn pool_refusal(pool: Pool, frames: &[u8], store: &[u8]) -> u8
+    ensures { λ r. ⌜ r ≡ firstBroken (poolRules (state pool (now (frames .entry)) (now (store .entry)))) ⌝ }
 {
-    let refusal = pool_refusal(pool, frames, store);
+    let mut pages: [u16; FrameIndex::MOST] = [0; FrameIndex::MOST];
+    let mut seen = [false; PageNumber::MOST];
+    table_refusal(pool, frames, store, &mut pages, &mut seen)
+}
+
+// Rules 1 to 3, with the record at the handle's place, and the tables.
+pub fn handle_refusal(
+    pool: Pool,
+    held: FrameRecord,
+    frames: &[u8],
+    store: &[u8],
+    handle: Handle,
+    pages: &mut [u16; FrameIndex::MOST],
+    seen: &mut [bool; PageNumber::MOST],
+) -> u8
+    requires { ⌜ (held ≡ recordAt (pool .records) (recordPlace handle)) × Clear (now pages) (now seen) ⌝ }
+    ensures { λ r. ⌜ (r ≡ firstBroken (handleRules (state pool (now (frames .entry)) (now (store .entry))) handle)) × (r ≡ 0 → Handed pool (now (frames .entry)) (now (pages .exit)) (now (seen .exit))) ⌝ }
+{
+    let refusal = table_refusal(pool, frames, store, pages, seen);
     if refusal != 0 {
         return refusal;
     }
-    if !handle_fits(pool, handle) {
+    if !handle_fits(frames.len() / PageNumber::SIZE, held, handle) {
         return 3;
     }
     0
 }
 
-// Rules 1 to 4.
-pub fn slot_refusal(pool: Pool, frames: &[u8], store: &[u8], handle: Handle, slot: usize) -> u8
-    ensures { λ r. ⌜ r ≡ firstBroken (wordRules (state pool (now (frames .entry)) (now (store .entry))) handle slot) ⌝ }
+// Rules 1 to 4, with the record at the handle's place, and the tables.
+pub fn slot_refusal(
+    pool: Pool,
+    held: FrameRecord,
+    frames: &[u8],
+    store: &[u8],
+    handle: Handle,
+    slot: usize,
+    pages: &mut [u16; FrameIndex::MOST],
+    seen: &mut [bool; PageNumber::MOST],
+) -> u8
+    requires { ⌜ (held ≡ recordAt (pool .records) (recordPlace handle)) × Clear (now pages) (now seen) ⌝ }
+    ensures { λ r. ⌜ (r ≡ firstBroken (wordRules (state pool (now (frames .entry)) (now (store .entry))) handle slot)) × (r ≡ 0 → Handed pool (now (frames .entry)) (now (pages .exit)) (now (seen .exit))) ⌝ }
 {
-    let refusal = handle_refusal(pool, frames, store, handle);
+    let refusal = handle_refusal(pool, held, frames, store, handle, pages, seen);
     if refusal != 0 {
         return refusal;
     }
@@ -97,15 +141,23 @@ pub fn slot_refusal(pool: Pool, frames: &[u8], store: &[u8], handle: Handle, slo
     0
 }
 
-// Rules 1, 2 and 6.
-pub fn page_refusal(pool: Pool, frames: &[u8], store: &[u8], page: PageNumber) -> u8
-    ensures { λ r. ⌜ r ≡ firstBroken (pageRules (state pool (now (frames .entry)) (now (store .entry))) page) ⌝ }
+// Rules 1, 2 and 6, with the tables.
+pub fn page_refusal(
+    pool: Pool,
+    frames: &[u8],
+    store: &[u8],
+    page: PageNumber,
+    pages: &mut [u16; FrameIndex::MOST],
+    seen: &mut [bool; PageNumber::MOST],
+) -> u8
+    requires { ⌜ Clear (now pages) (now seen) ⌝ }
+    ensures { λ r. ⌜ (r ≡ firstBroken (pageRules (state pool (now (frames .entry)) (now (store .entry))) page)) × (r ≡ 0 → Handed pool (now (frames .entry)) (now (pages .exit)) (now (seen .exit))) ⌝ }
 {
-    let refusal = pool_refusal(pool, frames, store);
+    let refusal = table_refusal(pool, frames, store, pages, seen);
     if refusal != 0 {
         return refusal;
     }
-    if pool.pages <= page.0 {
+    if store.len() / PageNumber::SIZE <= page.0 as usize {
         return 6;
     }
     0

@@ -10,13 +10,13 @@ use pool::WordAnswer;
 ghost use mathlib.Core.Path.{_≡_};
 ghost use Rattle.host.specs.Structs.{fixedOf, namedOf, foundOf};
 
-// The answer of root and fix: the handle, the looks of the sweep and the records.
+// The answer of root and fix: the records, the handle and the looks of the sweep.
 #[repr(C)]
 pub struct Fixed {
+    pub pool: Pool,
     pub refusal: u8,
     pub handle: Handle,
     pub looks: u16,
-    pub pool: Pool,
 }
 
 // The answer of word: the page number in the slot, 0 for none.

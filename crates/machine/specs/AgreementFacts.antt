@@ -1,19 +1,18 @@
 -- What `agree` says, as facts: the test holds exactly where all of them hold. Assumes nothing.
-use Prim.Native.Nat.{ℕ, _+_, _*_, _-_, _<_, _≤_}
-use mathlib.Core.Path.{_≡_, refl, sym, _∙_, ap}
+use Prim.Native.Nat.{ℕ, _+_, _-_, _<_, _≤_}
+use mathlib.Core.Path.{_≡_, ap}
 use mathlib.Core.Logic.{_≢_}
 use mathlib.Core.Bool.{Bool, true, false, not}
 use mathlib.Core.List.{List}
-use native.Mathlib.Omega.{arith}
-use borrow.Author.Tests.{eq-eqb, ne-eqb, lt-ltb, le-ltb, le-leb, eqb-true, eqb-false, ltb-true, ltb-false, leb-true, not-true, not-false}
+use borrow.Author.Tests.{eq-eqb, ne-eqb, lt-ltb, le-ltb, le-leb, eqb-true, eqb-false, ltb-true, ltb-false, leb-true, not-true}
 use lib.Dec.{eqb, ltb, leb}
 use Rattle.page.specs.Figures.{slotCount, recordCount, maxUsage, maxPins, swizzleBit}
 use Rattle.page.specs.Word.{frameIn, frameWord}
 use Rattle.page.specs.Page.{slot}
 use Rattle.machine.specs.declared.FrameRecord.{FrameRecord}
 use Rattle.machine.specs.declared.Pool.{Pool}
-use Rattle.machine.specs.Tests.{_and_, _or_, _⇒_, every}
-use Rattle.machine.specs.TestLaws.{Case, case, on, off, use⇒, make⇒, both, and-true, or-second, or-left, or-right, every-true, true-every}
+use Rattle.machine.specs.Tests.{_and_, _or_, _⇒_}
+use Rattle.machine.specs.TestLaws.{case, on, off, use⇒, make⇒, both, and-true, or-second, or-left, or-right, every-true, true-every}
 use Rattle.machine.specs.Machine.{recordAt, pageIn, occupied}
 use Rattle.machine.specs.Agreement.{parentOf, parentSlotOf, isBlank, rootInPlace, pagesApart, handInRange, fieldsInRange, allInRange, emptyBlank, parentsName, pointsBack, swizzledPointBack, absent, numbersAbsent, givesPage, numbersOnce, reachesRoot, allReachRoot, agree}
 

@@ -1,10 +1,8 @@
 -- What a call answers, and document 01's number and values for each answer in code.
-use Prim.Native.Nat.{ℕ, zero, suc, _+_}
+use Prim.Native.Nat.{ℕ, _+_}
 use mathlib.Core.Bool.{Bool, true, false}
 use mathlib.Core.List.{List}
 use denote.Ref.{RefT}
-use lib.ListN.{take, drop}
-use Rattle.machine.specs.declared.Handle.{Handle}
 use Rattle.machine.specs.declared.Place.{Place}
 use Rattle.machine.specs.declared.FixAnswer.{FixAnswer}
 use Rattle.machine.specs.declared.FixAnswer.the-variants.{Fixed, Refused}
@@ -13,7 +11,7 @@ use Rattle.machine.specs.declared.WordAnswer.the-variants.{Names, Refuse
 use Rattle.machine.specs.declared.FindAnswer.{FindAnswer}
 use Rattle.machine.specs.declared.FindAnswer.the-variants.{At, Absent, Refused as RefusedFind}
 use Rattle.page.specs.Page.{bytesFrom}
-use Rattle.machine.specs.Tests.{pick, verdict}
+use Rattle.machine.specs.Tests.{verdict}
 use Rattle.machine.specs.Machine.{State}
 
 -- the lent buffer that a payload lies in

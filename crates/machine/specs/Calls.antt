@@ -1,13 +1,12 @@
 -- The thirteen calls: each names its rules in checking order, and says what it answers and leaves where none is broken.
-use Prim.Native.Nat.{ℕ, _+_, _*_, _-_, _/_}
-use mathlib.Core.Bool.{Bool, true, false}
+use Prim.Native.Nat.{ℕ, _+_, _-_, _/_}
 use mathlib.Core.List.{List, [], _∷_, _++_}
 use lib.Dec.{eqb, ltb}
 use lib.ListN.{length}
 use Rattle.page.specs.declared.PageNumber.{PageNumber}
 use Rattle.page.specs.Figures.{pageSize, payloadSize}
 use Rattle.page.specs.Word.{isNumber, frameIn, numberWord}
-use Rattle.page.specs.Page.{slot, putSlot, pageOf, putPage, payloadAt, putPayload}
+use Rattle.page.specs.Page.{putSlot, pageOf, putPage, payloadAt, putPayload}
 use Rattle.machine.specs.declared.FrameRecord.{FrameRecord}
 use Rattle.machine.specs.declared.Handle.{Handle}
 use Rattle.machine.specs.declared.Swept.{Swept}

@@ -1,8 +1,8 @@
 -- Demand 3: what holds at every point of every list of calls from an accepted open. The proof stands in specs/Theorem.
-use Prim.Native.Nat.{ℕ, _+_, _*_, _≤_, _<_}
+use Prim.Native.Nat.{ℕ, _+_, _≤_, _<_}
 use mathlib.Core.Path.{_≡_}
 use mathlib.Core.Logic.{_≢_, _⊎_, _↔_}
-use mathlib.Core.Bool.{Bool, true, false}
+use mathlib.Core.Bool.{true}
 use mathlib.Core.List.{List, [], _∷_, _++_}
 use Rattle.page.specs.Figures.{pageSize, slotCount, payloadStart}
 use Rattle.page.specs.Word.{isNumber, frameWord}
@@ -11,7 +11,7 @@ use Rattle.page.specs.Octets.{Octets}
 use Rattle.machine.specs.declared.Handle.{Handle}
 use Rattle.machine.specs.Tests.{firstBroken}
 use Rattle.machine.specs.Machine.{State, pageNumber, recordAt, blank}
-use Rattle.machine.specs.Answers.{Answer, refused, done, handle, payload, number, frame, nowhere, Buffer, inFrames, inStore}
+use Rattle.machine.specs.Answers.{Answer, refused, done, handle, payload, number, frame, Buffer, inFrames, inStore}
 use Rattle.machine.specs.Rules.{rule14}
 use Rattle.machine.specs.Calls.{openCall, rootCall, fixCall, showCall, peekCall, wordCall, settleCall, findCall, fixEntryRules}
 use Rattle.machine.specs.History.{Call, root, fix, Point, isPinned, accepted, row, next, start, run, AllBytes}

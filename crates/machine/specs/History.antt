@@ -1,6 +1,5 @@
 -- Lists of calls, the plain map, and the balance of pins: what demand 3 speaks of.
 use Prim.Native.Nat.{ℕ, _+_}
-use mathlib.Core.Path.{_≡_}
 use mathlib.Core.Bool.{Bool, true, false}
 use mathlib.Core.List.{List, [], _∷_}
 use lib.Dec.{eqb, ltb}

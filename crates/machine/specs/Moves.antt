@@ -1,7 +1,6 @@
 -- Images, writing out, and a page that leaves its frame or comes into one.
-use Prim.Native.Nat.{ℕ, zero, suc, _+_, _*_, _-_}
-use mathlib.Core.Bool.{Bool, true, false}
-use mathlib.Core.List.{List, [], _∷_}
+use Prim.Native.Nat.{ℕ, zero, suc}
+use mathlib.Core.List.{List}
 use lib.ListN.{set}
 use Rattle.page.specs.Figures.{slotCount}
 use Rattle.page.specs.Word.{isNumber, frameIn, frameWord, numberWord}

@@ -1,20 +1,19 @@
 -- What rules 1 and 2 give to the code: counts, lengths, ranges, and where swizzled words lead. Assumes nothing.
 use Prim.Native.Nat.{ℕ, _+_, _*_, _-_, _<_, _≤_}
-use mathlib.Core.Path.{_≡_, refl, sym, _∙_, ap}
-use mathlib.Core.Bool.{Bool, true, false, not}
-use mathlib.Core.List.{List, [], _∷_}
+use mathlib.Core.Path.{_≡_, sym, _∙_}
+use mathlib.Core.Bool.{true, false, not}
+use mathlib.Core.List.{List, []}
 use native.Mathlib.Omega.{arith}
 use native.Mathlib.Decide.{decLt}
 use borrow.Author.Tests.{eqb-true, leb-true, le-leb, eq-eqb, not-true}
-use lib.Dec.{eqb, ltb, leb}
+use lib.Dec.{eqb, leb}
 use lib.ListN.{length}
 use Rattle.page.specs.Figures.{pageSize, slotCount, leastFrames, mostFrames, mostPages, swizzleBit}
 use Rattle.page.specs.Word.{frameIn}
 use Rattle.page.specs.Page.{slot}
 use Rattle.machine.specs.declared.FrameRecord.{FrameRecord}
-use Rattle.machine.specs.declared.Pool.{Pool}
 use Rattle.machine.specs.Tests.{_and_, firstBroken}
-use Rattle.machine.specs.TestLaws.{clash, and-true, both, first-kept, Case, case, on, off}
+use Rattle.machine.specs.TestLaws.{clash, and-true, both, first-kept, case, on, off}
 use Rattle.machine.specs.Machine.{State, recordAt, occupied}
 use Rattle.machine.specs.Agreement.{isBlank, agree}
 use Rattle.machine.specs.AgreementFacts.{InRange, Points, Agreed, facts, make-occupied, occupied-lt, occupied-used}

@@ -1,6 +1,6 @@
 -- "The sweep": the frame that a load uses.
-use Prim.Native.Nat.{ℕ, zero, suc, _+_, _*_, _-_}
-use mathlib.Core.Bool.{Bool, true, false, not}
+use Prim.Native.Nat.{ℕ, zero, suc, _+_, _*_}
+use mathlib.Core.Bool.{Bool, true, false}
 use mathlib.Core.List.{List}
 use lib.Dec.{eqb, ltb}
 use lib.ListN.{set}
@@ -11,7 +11,7 @@ use Rattle.machine.specs.declared.FrameRecord.{FrameRecord}
 use Rattle.machine.specs.declared.Pool.{Pool}
 use Rattle.machine.specs.declared.Swept.{Swept}
 use Rattle.machine.specs.Tests.{pick, _and_, every}
-use Rattle.machine.specs.Machine.{recordAt, frameIndex, cooled, withRecords, withHand}
+use Rattle.machine.specs.Machine.{recordAt, frameIndex, cooled}
 
 -- the frame after h: "by one, from F − 1 to 0"
 unfoldable pub after : ℕ → ℕ → ℕ

@@ -19,7 +19,7 @@ use Rattle.machine.specs.Tests.{pick, _and_, _or_, some}
 use Rattle.machine.specs.TestLaws.{clash, case, on, off, is-off, same, and-left, both, or-none, or-off, true-some, some-true, pick-either}
 use Rattle.machine.specs.Machine.{State, withPool, blank, cooled, recordAt}
 use Rattle.machine.specs.AgreementFacts.{InRange}
-use Rattle.machine.specs.Sweep.{after, emptyFrom, firstEmpty, isOpen, lookLeaves, lookTakes, sweepFrom, mostLooks, sweep, withSwept}
+use Rattle.machine.specs.Sweep.{after, emptyFrom, firstEmpty, childless, isOpen, lookLeaves, lookTakes, sweepFrom, mostLooks, sweep, withSwept}
 use Rattle.machine.specs.Rules.{rule15}
 use Rattle.machine.specs.Ready.{Ready}
 
@@ -70,6 +70,13 @@ away-left F h d hF e = elim (decLt (h + 1) F) [
 ]
 
 -- ---- one look
+
+-- a frame open to eviction has no swizzled word
+pub open-childless : (r : FrameRecord) (fs : List ℕ) (f : ℕ) → isOpen r fs f ≡ true → childless fs f ≡ true
+unfolding isOpen
+open-childless r fs f =
+    let P : Bool → Type 0 = λ b. b ≡ true → childless fs f ≡ true in
+    pick-either P (eqb f 0) false _ (λ e. absurd (clash (sym e))) (pick-either P (eqb (r .pins) 0) (childless fs f) false (λ e. e) (λ e. absurd (clash (sym e))))
 
 -- q is r with a usage count that may have fallen
 pub record Cooler (r q : FrameRecord) : Type 0 where

@@ -32,11 +32,11 @@ pub struct Handle {
     pub page: PageNumber,
 }
 
-// What a call without an answer of its own gives: the refusal's number, 0 where it was accepted, and the records.
+// What a call without an answer of its own gives: the records, and the refusal's number, 0 where it was accepted. The records come first in an answer, so that they are copied out before anything else is written there.
 #[repr(C)]
 pub struct Done {
-    pub refusal: u8,
     pub pool: Pool,
+    pub refusal: u8,
 }
 
 // The answer of root and fix: the handle and the looks of the sweep, or the refusal's number.
@@ -46,8 +46,8 @@ pub enum FixAnswer {
 }
 
 pub struct Fix {
-    pub answer: FixAnswer,
     pub pool: Pool,
+    pub answer: FixAnswer,
 }
 
 // The answer of word: the page number in the slot, 0 for none.

@@ -1,2 +1,3 @@
 pub mod WriteOut
 pub mod Steps
+pub mod InAndOut

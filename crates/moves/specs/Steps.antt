@@ -5,22 +5,32 @@ use mathlib.Core.Bool.{true, false}
 use mathlib.Core.List.{List}
 use native.Mathlib.Omega.{arith}
 use native.Mathlib.Numerals.{add-one}
-use lib.ListN.{length, take, drop, length-take, length-drop}
+use lib.ListN.{length, take, drop}
+use borrow.Author.Tests.{ltb-true}
 use borrow.Rule.Slice.PartMut.{putMid}
-use Rattle.page.specs.Figures.{pageSize, slotCount, wordSize}
-use Rattle.page.specs.Word.{putWord, frameWord, numberWord}
-use Rattle.page.specs.Page.{pageOf, putSlot, putPage, pageOf-length, slot-pageOf, part-is-page, put-part}
+use Rattle.page.specs.Figures.{pageSize, slotCount, wordSize, swizzleBit}
+use Rattle.page.specs.Word.{putWord, isNumber}
+use Rattle.page.specs.Octets.{Octets}
+use Rattle.page.specs.Page.{slot, pageOf, putSlot, putPage, slot-pageOf, pageOf-whole, part-is-page, put-part}
 use Rattle.machine.specs.declared.FrameRecord.{FrameRecord}
 use Rattle.machine.specs.declared.Pool.{Pool}
-use Rattle.machine.specs.TestLaws.{pick-yes, pick-no}
-use Rattle.machine.specs.Machine.{State, state, cleaned, loadedRecord, recordAt, pageIn, withRecord, withRecords}
-use Rattle.machine.specs.Moves.{imageTo, writtenOutBy, writtenOut, writtenOutTo, cleanedTo, settled, vacate, evicted, loaded}
-use Rattle.machine.specs.MoveLaws.{image-length, writtenOutBy-ext, writtenOutTo-zero, writtenOutTo-suc, cleanedTo-zero, cleanedTo-suc, cleanedTo-above}
-use Rattle.machine.specs.Ready.{Sized, Ready}
+use Rattle.machine.specs.TestLaws.{every-true, pick-yes, pick-no}
+use Rattle.machine.specs.Machine.{State, state, cleaned, recordAt, pageIn, withRecord, withRecords}
+use Rattle.machine.specs.Moves.{imageTo, writtenOutBy, writtenOutTo, cleanedTo, settled}
+use Rattle.machine.specs.Sweep.{childless}
+use Rattle.machine.specs.MoveLaws.{image-length, image-own, writtenOutBy-ext, writtenOutTo-zero, writtenOutTo-suc, cleanedTo-zero, cleanedTo-suc, cleanedTo-above}
+use Rattle.machine.specs.Ready.{Ready}
 use Rattle.residents.specs.Table.{pageBy, Table}
 use Rattle.moves.specs.WriteOut.{Named, Writable}
 
--- ---- a page's bytes lent as a part of the frames, and the store's part that comes back as an image
+-- ---- a page's image, and the image put where a part of the store was lent
+
+-- a page without a swizzled word is its own image
+pub own-image : (page : ℕ → ℕ) (fs : List ℕ) (f : ℕ) → pageSize * f + pageSize ≤ length fs → Octets (pageOf fs f) → childless fs f ≡ true → imageTo page (pageOf fs f) slotCount ≡ pageOf fs f
+unfolding childless
+own-image page fs f h o c =
+    image-own page (pageOf fs f) (pageOf-whole fs f h) o
+    (λ k l. rw (slot-pageOf fs f k l) (ltb-true _ swizzleBit (every-true slotCount (λ j. isNumber (slot fs f j)) c k l)))
 
 pub part-named : (fs : List ℕ) (f : ℕ) → Named fs f → Named (take (pageSize * f + pageSize - pageSize * f) (drop (pageSize * f) fs)) 0
 part-named fs f h k l = rw (part-is-page fs f, slot-pageOf fs f k l) (h k l)
@@ -28,11 +38,14 @@ part-named fs f h k l = rw (part-is-page fs f, slot-pageOf fs f k l) (h k l)
 pub image-back : (page : ℕ → ℕ) (fs st ys : List ℕ) (f q : ℕ) → pageSize * f + pageSize ≤ length fs
     → ys ≡ imageTo page (take (pageSize * f + pageSize - pageSize * f) (drop (pageSize * f) fs)) slotCount
     → putMid (pageSize * q) (pageSize * q + pageSize - pageSize * q) st ys ≡ putPage st q (imageTo page (pageOf fs f) slotCount)
-unfolding pageOf
 image-back page fs st ys f q h e =
-    let e2 : ys ≡ imageTo page (pageOf fs f) slotCount = e ∙ ap (λ (g : List ℕ). imageTo page g slotCount) (part-is-page fs f) in
-    let l : length (take pageSize (drop (pageSize * f) fs)) ≡ pageSize = simp (length-take, length-drop) (omega arith) in
-    put-part st q ys (ap length e2 ∙ image-length page (pageOf fs f) slotCount ∙ l) ∙ ap (putPage st q) e2
+    put-part st q ys (imageTo page (pageOf fs f) slotCount) (e ∙ ap (λ (g : List ℕ). imageTo page g slotCount) (part-is-page fs f))
+    (image-length page (pageOf fs f) slotCount ∙ pageOf-whole fs f h)
+
+-- a parent's word that code put
+pub word-put : (b c d : List ℕ) (f k w v : ℕ) → c ≡ b → w ≡ v → d ≡ putWord c (pageSize * f + wordSize * k) w → d ≡ putSlot b f k v
+unfolding putSlot
+word-put b c d f k w v same e p = rw (p, same, e)
 
 -- ---- writing out
 
@@ -46,7 +59,7 @@ unfolding writtenOutBy
 written-dirty page r fs st ts f d e = pick-yes _ d e
 
 -- the pages by the table are those by the records
-pub written-by-table : (rs : List FrameRecord) (t : List ℕ) (r : FrameRecord) (fs st : List ℕ) (f : ℕ) → Table rs t → (r .dirty ≡ true → Named fs f)
+written-by-table : (rs : List FrameRecord) (t : List ℕ) (r : FrameRecord) (fs st : List ℕ) (f : ℕ) → Table rs t → (r .dirty ≡ true → Named fs f)
     → writtenOutBy (pageBy t) r fs st f ≡ writtenOutBy (pageIn rs) r fs st f
 written-by-table rs t r fs st f h n = writtenOutBy-ext (pageBy t) (pageIn rs) r fs st f n (h .right)
 
@@ -55,29 +68,6 @@ writable s f h l =
     let z = h .sized in
     let r = h .inRange f l in
     record { placed = record { frame = omega arith; bytes = omega arith; place = omega arith }; words = λ d k. h .words f k l (h .dirtyUsed f l d) }
-
--- ---- the moves
-
-pub parent-word : (s : State) (f : ℕ) → Ready s → f < s .pool .count
-    → pageSize * recordAt (s .pool .records) f .parent .0 + wordSize * recordAt (s .pool .records) f .slot + wordSize ≤ length (s .frames)
-parent-word s f h l = let z = h .sized in let r = h .inRange f l in omega arith
-
-pub is-evicted : (p r : Pool) (fs st gs ts : List ℕ) (f w : ℕ) → w ≡ numberWord (pageIn (p .records) f)
-    → gs ≡ putWord fs (pageSize * recordAt (p .records) f .parent .0 + wordSize * recordAt (p .records) f .slot) w → ts ≡ writtenOut (p .records) fs st f → r ≡ vacate p f
-    → state r gs ts ≡ evicted (state p fs st) f
-unfolding evicted putSlot
-is-evicted p r fs st gs ts f w hw hg ht hr = rw (hg, hw, ht, hr)
-
-pub is-loaded : (p : Pool) (fs st gs hs ys : List ℕ) (f k e q w : ℕ) → Sized (state p fs st) → q < p .pages
-    → ys ≡ take (pageSize * q + pageSize - pageSize * q) (drop (pageSize * q) st) → gs ≡ putMid (pageSize * e) (pageSize * e + pageSize - pageSize * e) fs ys
-    → w ≡ frameWord e → hs ≡ putWord gs (pageSize * f + wordSize * k) w
-    → state (withRecord p e (loadedRecord q f k)) hs st ≡ loaded (state p fs st) f k e q
-unfolding loaded putSlot
-is-loaded p fs st gs hs ys f k e q w z h hy hg hw hh =
-    let y : ys ≡ pageOf st q = hy ∙ part-is-page st q in
-    let l : length ys ≡ pageSize = ap length y ∙ pageOf-length st q _ (z .store) h in
-    let g : gs ≡ putPage fs e (pageOf st q) = hg ∙ put-part fs e ys l ∙ ap (putPage fs e) y in
-    rw (hh, hw, g)
 
 -- ---- settling, frame by frame
 

@@ -1,12 +1,13 @@
--- What writing out asks of frames, store and records.
+-- What writing out asks of frames, store and records, and what it leaves of a page without a swizzled word.
 use Prim.Native.Nat.{ℕ, _+_, _*_, _<_, _≤_}
 use mathlib.Core.Bool.{true}
 use mathlib.Core.List.{List}
 use mathlib.Core.Path.{_≡_}
 use lib.ListN.{length}
 use Rattle.page.specs.Figures.{pageSize, slotCount, mostFrames, swizzleBit}
-use Rattle.page.specs.Page.{slot}
+use Rattle.page.specs.Page.{slot, pageOf, putPage}
 use Rattle.machine.specs.declared.FrameRecord.{FrameRecord}
+use Rattle.machine.specs.Moves.{imageTo, writtenOutBy}
 
 -- every swizzled word of frame f names one of 64 frames
 abbrev pub Named : List ℕ → ℕ → Type 0
@@ -22,3 +23,11 @@ pub record Placed (q : ℕ) (fs st : List ℕ) (f : ℕ) : Type 0 where
 pub record Writable (r : FrameRecord) (fs st : List ℕ) (f : ℕ) : Type 0 where
   pub placed : Placed (r .page .0) fs st f
   pub words : r .dirty ≡ true → Named fs f
+
+-- page q in the store is now the page in frame f as it is: its image, whatever page is in which frame
+abbrev pub StoredAsIs : ℕ → List ℕ → ℕ → List ℕ → List ℕ → Type 0
+StoredAsIs q fs f st ts = (page : ℕ → ℕ) → ts ≡ putPage st q (imageTo page (pageOf fs f) slotCount)
+
+-- the page in frame f, whose record is r, was written out as it is, if dirty
+abbrev pub WrittenAsIs : FrameRecord → List ℕ → ℕ → List ℕ → List ℕ → Type 0
+WrittenAsIs r fs f st ts = (page : ℕ → ℕ) → ts ≡ writtenOutBy page r fs st f

@@ -1,5 +1,4 @@
 // The image of a page: its bytes with each swizzled word replaced by the number of the page in that frame.
-use machine::FrameRecord;
 use page::FrameIndex;
 use page::PageNumber;
 ghost use mathlib.Core.Path.{_≡_};
@@ -8,7 +7,7 @@ ghost use Rattle.page.specs.Figures.{pageSize, slotCount};
 ghost use Rattle.page.specs.Word.{isNumber};
 ghost use Rattle.machine.specs.Tests.{pick};
 ghost use Rattle.machine.specs.Moves.{imageTo};
-ghost use Rattle.residents.specs.Table.{Table, pageBy};
+ghost use Rattle.residents.specs.Table.{pageBy};
 ghost use Rattle.moves.specs.WriteOut.{Named};
 
 // The page number that a word stands for, where `held` is what the frame that it may name holds.

@@ -3,15 +3,25 @@ use crate::image;
 use machine::FrameRecord;
 use page::FrameIndex;
 use page::PageNumber;
+use scan::look;
 ghost use mathlib.Core.Path.{_≡_};
+ghost use mathlib.Core.Bool.{true};
 ghost use Rattle.page.specs.Figures.{slotCount};
 ghost use Rattle.page.specs.Page.{pageOf, putPage};
-ghost use Rattle.machine.specs.Machine.{pageIn};
+ghost use Rattle.machine.specs.Sweep.{childless};
 ghost use Rattle.machine.specs.Moves.{imageTo, writtenOutBy};
 ghost use Rattle.residents.specs.Table.{pageBy};
-ghost use Rattle.moves.specs.WriteOut.{Named, Placed, Writable};
+ghost use Rattle.moves.specs.WriteOut.{Named, Placed, Writable, StoredAsIs, WrittenAsIs};
 
-// Writes the image of the page in a frame to its place in the store.
+// Copies the page in a frame to its place in the store: its image, where no word of it is swizzled.
+fn store_bytes(page: PageNumber, frames: &[u8], store: &mut [u8], frame: FrameIndex)
+    requires { ⌜ Placed (page .0) (now frames) (now store) (frame .0) × (childless (now frames) (frame .0) ≡ true) ⌝ }
+    ensures { λ _. ⌜ StoredAsIs (page .0) (now (frames .entry)) (frame .0) (now (store .entry)) (now (store .exit)) ⌝ }
+{
+    page::copy::copy_page(store, page.0 as usize, frames, frame.0 as usize);
+}
+
+// Writes the image of the page in a frame to its place in the store. The table gives each frame's page.
 fn store_image(
     page: PageNumber,
     table: &[u16; FrameIndex::MOST],
@@ -22,6 +32,10 @@ fn store_image(
     requires { ⌜ Placed (page .0) (now frames) (now store) (frame .0) × Named (now frames) (frame .0) ⌝ }
     ensures { λ _. ⌜ now (store .exit) ≡ putPage (now (store .entry)) (page .0) (imageTo (pageBy (now (table .entry))) (pageOf (now (frames .entry)) (frame .0)) slotCount) ⌝ }
 {
+    if look::childless(frames, frame) {
+        store_bytes(page, frames, store, frame);
+        return;
+    }
     let to = PageNumber::SIZE * page.0 as usize;
     let from = PageNumber::SIZE * frame.0 as usize;
     image::put_image(
@@ -32,7 +46,7 @@ fn store_image(
 }
 
 // Writes the image of the page in a frame to the store, if its record is dirty. The table gives each frame's page.
-pub fn write_out_by_table(
+pub fn write_out(
     rec: FrameRecord,
     table: &[u16; FrameIndex::MOST],
     frames: &[u8],
@@ -50,22 +64,15 @@ pub fn write_out_by_table(
     store_image(page, table, frames, store, frame);
 }
 
-// The same for a single page: the table is made of the records, and only for a dirty page.
-pub fn write_out(
-    rec: FrameRecord,
-    records: [FrameRecord; FrameIndex::MOST],
-    frames: &[u8],
-    store: &mut [u8],
-    frame: FrameIndex,
-)
-    requires { ⌜ Writable rec (now frames) (now store) (frame .0) ⌝ }
-    ensures { λ _. ⌜ now (store .exit) ≡ writtenOutBy (pageIn records) rec (now (frames .entry)) (now (store .entry)) (frame .0) ⌝ }
+// The same for a page without a swizzled word, which needs no table.
+pub fn write_bytes_out(rec: FrameRecord, frames: &[u8], store: &mut [u8], frame: FrameIndex)
+    requires { ⌜ Writable rec (now frames) (now store) (frame .0) × (childless (now frames) (frame .0) ≡ true) ⌝ }
+    ensures { λ _. ⌜ WrittenAsIs rec (now (frames .entry)) (frame .0) (now (store .entry)) (now (store .exit)) ⌝ }
 {
     let dirty = rec.dirty;
     if !dirty {
         return;
     }
-    let table = residents::page_table(records);
     let page = rec.page;
-    store_image(page, &table, frames, store, frame);
+    store_bytes(page, frames, store, frame);
 }

@@ -1,5 +1,4 @@
-pub mod Table
-pub mod TableLaws
-pub mod Resident
+pub mod Stored
 pub mod Named
 pub mod Loadable
+pub mod ByTable

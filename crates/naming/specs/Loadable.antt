@@ -1,27 +1,21 @@
--- A stored page may come in exactly where its words are fresh beside those that resident pages name. Assumes nothing.
+-- Rule 14: a stored page may come in exactly where its words are fresh beside those that resident pages name. Assumes nothing.
 use Prim.Native.Nat.{ℕ, _<_}
 use mathlib.Core.Path.{_≡_, sym, _∙_, ap}
 use mathlib.Core.Logic.{_≢_}
-use mathlib.Core.Bool.{Bool, true, false, not}
-use mathlib.Core.List.{List}
+use mathlib.Core.Bool.{true, false, not}
 use native.Mathlib.Omega.{arith}
 use native.Mathlib.Decide.{decLt, ℕ-discrete}
 use borrow.Author.Tests.{eq-eqb, ne-eqb, lt-ltb, eqb-true, eqb-false, ltb-true, not-true}
 use lib.Dec.{eqb, ltb}
-use lib.ListN.{replicate}
-use Rattle.page.specs.Figures.{slotCount, mostPages}
+use Rattle.page.specs.Figures.{slotCount}
 use Rattle.page.specs.Page.{slot}
-use Rattle.machine.specs.Tests.{_or_, every}
-use Rattle.machine.specs.TestLaws.{clash, same, is-off, both, and-true, or-left, or-right, or-second, or-skip, every-true, true-every, every-ext, some-true, true-some}
+use Rattle.machine.specs.Tests.{every}
+use Rattle.machine.specs.TestLaws.{clash, same, is-off, both, and-true, or-left, or-right, or-second, every-true, true-every, some-true, true-some}
 use Rattle.machine.specs.Machine.{State}
 use Rattle.machine.specs.Naming.{namedByResident, repeated, wordLoadable, loadable}
-use Rattle.machine.specs.Ready.{Kept}
-use Rattle.soundness.specs.Seen.{hasWord, fresh, told, Adds, Marked}
-use Rattle.soundness.specs.SeenLaws.{Fresh, fresh-zero, fresh-new, fresh-is, fresh-ext, not-among, none-among, no-word, tells-none}
+use Rattle.soundness.specs.Seen.{fresh}
+use Rattle.soundness.specs.SeenLaws.{Fresh, fresh-zero, fresh-new, fresh-is, not-among, none-among}
 use Rattle.soundness.specs.Pages.{pageWords}
-use Rattle.residents.specs.Table.{Table}
-use Rattle.naming.specs.Table.{inTable, inFrames}
-use Rattle.naming.specs.Resident.{by-table}
 
 module _ (s : State) (q : ℕ) where
   abbrev w : ℕ → ℕ
@@ -79,29 +73,8 @@ module _ (s : State) (q : ℕ) where
       | no z ↦ or-right (eqb (w k) 0) (both _ _ (lt-ltb (w k) (s .pool .pages) (is-fresh k l z .below)) (both _ _ (ap not (single k l z)) (ap not (is-fresh k l z .unseen))))
     ]
 
-  by-fresh : loadable s q ≡ every slotCount (fresh (namedByResident s) w (s .pool .pages))
+  pub by-fresh : loadable s q ≡ every slotCount (fresh (namedByResident s) w (s .pool .pages))
   unfolding loadable
   by-fresh = same _ _
       (λ t. true-every slotCount _ (λ k l. word-fresh k l (every-true slotCount _ t k l)))
       (λ t. true-every slotCount _ (fresh-word (every-true slotCount _ t)))
-
-  -- ---- a page without a word but 0
-
-  pub loadable-empty : hasWord (pageWords (s .store) q) ≡ false → true ≡ loadable s q
-  loadable-empty t = sym (by-fresh ∙ true-every slotCount _ (λ k l. fresh-zero (namedByResident s) w (s .pool .pages) k (no-word w t k l)))
-
-  -- ---- what the code does: the table of numbers seen has the resident pages and the numbers in their words
-
-  module _ (K : Kept s) (table : List ℕ) (T : Table (s .pool .records) table) where
-    pub loadable-by : (seen1 seen2 seen3 : List Bool) (r : Bool) → Adds (replicate mostPages false) seen1 (inTable table)
-        → Adds seen1 seen2 (inFrames table (s .frames) (s .pool .count))
-        → Marked (pageWords (s .store) q) (s .pool .pages) seen2 seen3 r → r ≡ loadable s q
-    loadable-by seen1 seen2 seen3 r a b m =
-        m .answer ∙ every-ext slotCount _ _ (λ k l. fresh-ext (told seen2) (namedByResident s) w (s .pool .pages) known k) ∙ sym by-fresh
-      where
-        known : (x : ℕ) → 0 < x → x < s .pool .pages → told seen2 x ≡ namedByResident s x
-        known x p l =
-            let n : x < mostPages = omega (arith, K .sized .pages) in
-            b .tells .right x p n
-            ∙ ap (λ (t : Bool). t or inFrames table (s .frames) (s .pool .count) x) (a .tells .right x p n ∙ or-skip _ (tells-none .right x p n))
-            ∙ sym (by-table s K table T x p (omega arith))

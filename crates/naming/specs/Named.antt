@@ -1,28 +1,26 @@
--- A page is named by a resident page, or by a stored page that isn't resident: what is asked of the table says what `named` says. Assumes nothing.
+-- Rule 9: a page is named by a resident page, or by a stored page that is in no frame. Assumes nothing.
 use Prim.Native.Nat.{ℕ, _<_, _≤_}
 use mathlib.Core.Path.{_≡_, refl, sym, _∙_, ap}
-use mathlib.Core.Bool.{Bool, true, false, not}
+use mathlib.Core.Bool.{true}
 use mathlib.Core.List.{List}
 use native.Mathlib.Omega.{arith}
 use native.Mathlib.Decide.{decLt}
-use borrow.Author.Tests.{eq-eqb, eqb-true, lt-ltb, le-ltb, not-true}
+use borrow.Author.Tests.{eq-eqb, eqb-true, lt-ltb, le-ltb}
 use lib.Dec.{eqb}
-use Rattle.page.specs.Figures.{slotCount, swizzleBit}
+use Rattle.page.specs.Figures.{slotCount}
 use Rattle.page.specs.Page.{slot}
-use Rattle.machine.specs.Tests.{_and_, _or_}
-use Rattle.machine.specs.TestLaws.{case, on, off, same, is-off, both, and-true, or-left, or-right, or-second, or-skip, or-off, some-true, true-some, pick-yes, pick-no}
+use Rattle.machine.specs.Tests.{_or_}
+use Rattle.machine.specs.TestLaws.{case, on, off, same, is-off, or-left, or-right, or-second, some-true, true-some, pick-yes, pick-no}
 use Rattle.machine.specs.Machine.{State, pageIn, occupied, found}
 use Rattle.machine.specs.AgreementFacts.{occupied-lt}
 use Rattle.machine.specs.FoundLaws.{found-holds, found-is, none-found}
 use Rattle.machine.specs.Moves.{plain}
 use Rattle.machine.specs.Naming.{currentWord, named, namedByResident}
 use Rattle.machine.specs.Ready.{Kept}
-use Rattle.soundness.specs.Seen.{among}
-use Rattle.soundness.specs.SeenLaws.{is-among, among-is}
 use Rattle.soundness.specs.Pages.{pageWords}
 use Rattle.residents.specs.Table.{Table}
-use Rattle.naming.specs.Table.{inTable, inFrames, inStore}
-use Rattle.naming.specs.Resident.{Names, names-of, of-names, table-in, not-in-table, by-table}
+use Rattle.residents.specs.TableLaws.{Names, names-of, of-names, table-in, not-in-table}
+use Rattle.naming.specs.Stored.{inStore, Stored, stored-of, of-stored}
 
 module _ (s : State) where
   -- the words of a page that is found, and of one that isn't
@@ -35,28 +33,6 @@ module _ (s : State) where
   word-stored q k l = sym (pick-no _ (le-ltb _ _ l) refl)
 
 module _ (s : State) (K : Kept s) (table : List ℕ) (T : Table (s .pool .records) table) (x : ℕ) where
-  record Stored : Type 0 where
-    page : ℕ
-    slot : ℕ
-    lt : page < s .pool .pages
-    inPage : slot < slotCount
-    absent : inTable table page ≡ false
-    word : pageWords (s .store) page slot ≡ x
-
-  stored-of : inStore table (s .store) (s .pool .pages) x ≡ true → Stored
-  unfolding inStore
-  stored-of t =
-      let a = some-true (s .pool .pages) (λ p. among (pageWords (s .store) p) slotCount x and not (inTable table p)) t in
-      let b = and-true (among (pageWords (s .store) (a .0)) slotCount x) _ (a .2) in
-      let c = among-is (pageWords (s .store) (a .0)) slotCount x (b .0) in
-      record { page = a .0; slot = c .0; lt = a .1; inPage = c .1; absent = not-true _ (b .1); word = c .2 }
-
-  of-stored : Stored → inStore table (s .store) (s .pool .pages) x ≡ true
-  unfolding inStore
-  of-stored h = true-some (s .pool .pages) _ (h .page) (h .lt) (both _ _ (is-among (pageWords (s .store) (h .page)) slotCount x (h .slot) (h .inPage) (h .word)) (ap not (h .absent)))
-
-  -- ---- from `named` to where the word stands, and back
-
   make-named : (p k : ℕ) → p < s .pool .pages → k < slotCount → currentWord s p k ≡ x → named s x ≡ true
   unfolding named
   make-named p k lp lk e = true-some (s .pool .pages) _ p lp (true-some slotCount _ k lk (eq-eqb _ x e))
@@ -70,9 +46,9 @@ module _ (s : State) (K : Kept s) (table : List ℕ) (T : Table (s .pool .record
       make-named q (n .slot) (K .agreed .inRange f (omega (arith, K .sized .most)) .page) (n .inPage)
       (word-found s q (n .slot) (omega arith) ∙ ap (λ (g : ℕ). plain (pageIn (s .pool .records)) (pageWords (s .frames) g (n .slot))) e ∙ n .word)
 
-  store-names : Stored → named s x ≡ true
+  store-names : Stored table (s .store) (s .pool .pages) x → named s x ≡ true
   store-names h =
-      let e : found (s .pool) (h .page) ≡ s .pool .count = none-found (s .pool) (h .page) (not-in-table s K table T (h .page) (h .absent)) in
+      let e : found (s .pool) (h .page) ≡ s .pool .count = none-found (s .pool) (h .page) (not-in-table s (K .sized .most) (K .agreed) table T (h .page) (h .absent)) in
       make-named (h .page) (h .slot) (h .lt) (h .inPage) (word-stored s (h .page) (h .slot) (omega arith) ∙ h .word)
 
   named-where : named s x ≡ true → (namedByResident s x or inStore table (s .store) (s .pool .pages) x) ≡ true
@@ -83,12 +59,12 @@ module _ (s : State) (K : Kept s) (table : List ℕ) (T : Table (s .pool .record
       let e : currentWord s (a .0) (b .0) ≡ x = eqb-true _ x (b .2) in
       elim (decLt (found (s .pool) (a .0)) (s .pool .count)) [
         | yes l ↦ or-left _ (of-names s x (record { frame = found (s .pool) (a .0); slot = b .0; at = found-holds (s .pool) (a .0) l .0; inPage = b .1; word = sym (word-found s (a .0) (b .0) l) ∙ e }))
-        | no l ↦ or-right (namedByResident s x) (of-stored (record {
+        | no l ↦ or-right (namedByResident s x) (of-stored table (s .store) x (s .pool .pages) (record {
           page = a .0;
           slot = b .0;
           lt = a .1;
           inPage = b .1;
-          absent = is-off _ (λ i. let g = table-in s K table T (a .0) i in absurd-found (a .0) l (g .0) (g .1) (g .2));
+          absent = is-off _ (λ i. let g = table-in s (K .sized .most) (K .agreed) table T (a .0) i in absurd-found (a .0) l (g .0) (g .1) (g .2));
           word = sym (word-stored s (a .0) (b .0) (omega arith)) ∙ e;
         }))
       ]
@@ -96,24 +72,8 @@ module _ (s : State) (K : Kept s) (table : List ℕ) (T : Table (s .pool .record
       absurd-found : (q : ℕ) → (found (s .pool) q < s .pool .count → ⊥) → (f : ℕ) → occupied (s .pool) f ≡ true → pageIn (s .pool .records) f ≡ q → ⊥
       absurd-found q l f o e = let h : found (s .pool) (pageIn (s .pool .records) f) ≡ f = found-is (s .pool) (s .frames) (K .agreed) f o in l (rw (← e) (omega (arith, occupied-lt (s .pool) f o)))
 
-  named-parts : named s x ≡ (namedByResident s x or inStore table (s .store) (s .pool .pages) x)
+  pub named-parts : named s x ≡ (namedByResident s x or inStore table (s .store) (s .pool .pages) x)
   named-parts = same _ _ named-where (λ t. elim (case (namedByResident s x)) [
     | on i ↦ resident-names (names-of s x i)
-    | off i ↦ store-names (stored-of (or-second (namedByResident s x) _ t i))
+    | off i ↦ store-names (stored-of table (s .store) x (s .pool .pages) (or-second (namedByResident s x) _ t i))
   ])
-
-  -- ---- what the code finds
-
-  module _ (positive : 0 < x) (number : x < swizzleBit) where
-    parts : named s x ≡ ((inTable table x or inFrames table (s .frames) (s .pool .count) x) or inStore table (s .store) (s .pool .pages) x)
-    parts = named-parts ∙ ap (λ (b : Bool). b or inStore table (s .store) (s .pool .pages) x) (by-table s K table T x positive number)
-
-    pub named-resident : inTable table x ≡ true → true ≡ named s x
-    named-resident t = sym (parts ∙ or-left _ (or-left _ t))
-
-    -- w is the word that gives x
-    pub named-in-frames : (w : ℕ) → w ≡ x → inFrames table (s .frames) (s .pool .count) w ≡ true → true ≡ named s x
-    named-in-frames w e t = sym (parts ∙ or-left _ (or-right (inTable table x) (rw e at t)))
-
-    pub named-in-store : (w : ℕ) → w ≡ x → inTable table x ≡ false → inFrames table (s .frames) (s .pool .count) w ≡ false → inStore table (s .store) (s .pool .pages) w ≡ named s x
-    named-in-store w e t u = rw e (sym (parts ∙ or-skip _ (or-off t (rw e at u))))

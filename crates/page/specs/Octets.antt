@@ -1,5 +1,5 @@
 -- Lists of bytes: what is put into one leaves one, and words and payload bytes decide it. Assumes nothing.
-use mathlib.Core.Path.{_≡_, refl, sym, ap, _∙_}
+use mathlib.Core.Path.{_≡_, sym, ap, _∙_}
 use mathlib.Core.List.{List, [], _∷_, _++_}
 use Prim.Native.Nat.{ℕ, zero, suc, _+_, _*_, _/_, _%_, _≤_, _<_}
 use native.Mathlib.Omega.{arith}
@@ -8,7 +8,7 @@ use lib.ListN.{length, take, drop, getD, set}
 use lib.Seq.{ext-getD, paste}
 use Rattle.page.specs.Figures.{pageSize, slotCount, payloadStart, byteRadix, wordRadix}
 use Rattle.page.specs.Word.{wordAt, putWord, wordAt-inj, wordAt-lt}
-use Rattle.page.specs.Page.{slot, byte, putSlot, pageOf, putPage, payloadAt, putPayload}
+use Rattle.page.specs.Page.{slot, byte, putSlot, pageOf, putPage, putPayload}
 
 -- every element is a byte (0 past the end)
 abbrev pub Octets : List ℕ → Type 0

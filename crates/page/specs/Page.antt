@@ -1,7 +1,7 @@
 -- A buffer of pages: slot, byte, page and payload, and what is read after one of them was put. Assumes nothing.
-use mathlib.Core.Path.{_≡_, refl, sym, ap, _∙_}
+use mathlib.Core.Path.{_≡_, sym, ap, _∙_}
 use mathlib.Core.Logic.{_≢_}
-use mathlib.Core.List.{List, [], _∷_, _++_, append-assoc}
+use mathlib.Core.List.{List, _++_, append-assoc}
 use Prim.Native.Nat.{ℕ, _+_, _*_, _-_, _≤_, _<_}
 use native.Mathlib.Omega.{arith}
 use native.Mathlib.Nat.{add-assoc, zero-add, le-refl}
@@ -117,9 +117,13 @@ paste-after d at s n i hd hs h =
 
 -- ---- after a page was put
 
-pub pageOf-length : (b : List ℕ) (p n : ℕ) → length b ≡ pageSize * n → p < n → length (pageOf b p) ≡ pageSize
+-- a page that lies within the buffer
+pub pageOf-whole : (b : List ℕ) (p : ℕ) → pageSize * p + pageSize ≤ length b → length (pageOf b p) ≡ pageSize
 unfolding pageOf
-pageOf-length b p n l h = simp (length-take, length-drop) (omega arith)
+pageOf-whole b p h = simp (length-take, length-drop) (omega arith)
+
+pub pageOf-length : (b : List ℕ) (p n : ℕ) → length b ≡ pageSize * n → p < n → length (pageOf b p) ≡ pageSize
+pageOf-length b p n l h = pageOf-whole b p (omega arith)
 
 pub putPage-length : (b : List ℕ) (p : ℕ) (g : List ℕ) (n : ℕ) → length b ≡ pageSize * n → length g ≡ pageSize → p < n → length (putPage b p g) ≡ length b
 unfolding putPage
@@ -228,12 +232,13 @@ pub part-is-page : (l : List ℕ) (q : ℕ) → take (pageSize * q + pageSize - 
 unfolding pageOf
 part-is-page l q = let k : 256 * q + 256 - 256 * q ≡ 256 = omega arith in rw k
 
-pub put-part : (l : List ℕ) (q : ℕ) (ys : List ℕ) → length ys ≡ pageSize → putMid (pageSize * q) (pageSize * q + pageSize - pageSize * q) l ys ≡ putPage l q ys
+-- and what code made of it, put back
+pub put-part : (l : List ℕ) (q : ℕ) (ys g : List ℕ) → ys ≡ g → length g ≡ pageSize → putMid (pageSize * q) (pageSize * q + pageSize - pageSize * q) l ys ≡ putPage l q g
 unfolding putPage
-put-part l q ys h =
+put-part l q ys g e h =
     let k : 256 * q + 256 - 256 * q ≡ 256 = omega arith in
-    let t : take 256 ys ≡ ys = take-all 256 ys (omega arith) in
-    rw (k, drop-drop 256 (256 * q) l, t, append-assoc (take (256 * q) l) ys (drop (256 * q + 256) l))
+    let t : take 256 g ≡ g = take-all 256 g (omega arith) in
+    rw (e, k, drop-drop 256 (256 * q) l, t, append-assoc (take (256 * q) l) g (drop (256 * q + 256) l))
 
 -- a word of a page that is a list of its own
 pub slot-first : (b : List ℕ) (k : ℕ) → slot b 0 k ≡ wordAt b (wordSize * k)

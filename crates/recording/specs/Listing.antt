@@ -1,6 +1,5 @@
 -- "Call listing": a record of 16 bytes, the call that it makes, and the four numbers of its line.
 use Prim.Native.Nat.{ℕ, _+_, _*_}
-use mathlib.Core.Bool.{Bool, true, false}
 use mathlib.Core.List.{List, [], _∷_}
 use lib.Dec.{eqb, leb}
 use lib.ListN.{getD}

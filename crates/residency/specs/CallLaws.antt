@@ -1,27 +1,34 @@
--- How the tests of open and evict, in their order, make up the two calls. Assumes nothing.
+-- How the tests of open, unfix and evict, in their order, make up the calls. Assumes nothing.
 use Prim.Native.Nat.{ℕ, _/_, _≤_, _<_}
 use mathlib.Core.Path.{_≡_, refl, sym, _∙_, ap}
-use mathlib.Core.Bool.{true, false}
+use mathlib.Core.Bool.{Bool, true, false}
 use mathlib.Core.List.{List, [], _∷_}
 use native.Mathlib.Omega.{arith}
 use borrow.Author.Tests.{lt-ltb, le-ltb}
 use lib.Dec.{ltb}
-use lib.ListN.{length, take, drop}
-use borrow.Rule.Slice.PartMut.{putMid}
+use lib.ListN.{length}
 use Rattle.page.specs.declared.PageNumber.{PageNumber}
 use Rattle.page.specs.Figures.{pageSize}
-use Rattle.page.specs.Page.{pageOf, putPage, part-is-page, put-part}
+use Rattle.page.specs.Page.{pageOf, putPage}
+use Rattle.machine.specs.declared.FrameRecord.{FrameRecord}
+use Rattle.machine.specs.declared.Handle.{Handle}
 use Rattle.machine.specs.declared.Pool.{Pool}
 use Rattle.machine.specs.Tests.{Rule, firstBroken}
 use Rattle.machine.specs.TestLaws.{kept-then, broken-here, none-broken}
-use Rattle.machine.specs.Machine.{State, state, recordAt, zeroPool, openedPool, found}
+use Rattle.machine.specs.Machine.{State, state, blank, unpinned, recordAt, withRecord, zeroPool, openedPool, found}
 use Rattle.machine.specs.Soundness.{sound}
 use Rattle.machine.specs.Sweep.{isOpen}
+use Rattle.machine.specs.SweepLaws.{open-childless}
 use Rattle.machine.specs.Moves.{evicted}
 use Rattle.machine.specs.Answers.{out, doneAnswer}
 use Rattle.machine.specs.Rules.{lengthsFit, rule11, rule12}
-use Rattle.machine.specs.Calls.{pageRules, openCall, evictCall}
-use Rattle.machine.specs.RuleLaws.{done-no, done-yes, page-passes}
+use Rattle.machine.specs.Calls.{changeRecord, openCall, handleRules, unfixCall, pageRules, evictCall}
+use Rattle.machine.specs.Ready.{ready}
+use Rattle.machine.specs.RuleLaws.{done-no, done-yes, HandleKept, handle-kept, page-passes}
+use Rattle.residents.specs.Handed.{Handed}
+use Rattle.guard.specs.Held.{recordPlace}
+use Rattle.scan.specs.ByTable.{foundBy, kept, counted, at-found}
+use Rattle.moves.specs.InAndOut.{Removable, TakenOut, removable, is-evicted}
 use Rattle.residency.specs.Opening.{blankPool}
 
 -- ---- open
@@ -41,28 +48,53 @@ module _ (fs st : List ℕ) {p : Pool} where
     unfolding openCall
     open-done h e g = done-yes _ _ (sym (kept-then 1 _ fit ∙ kept-then 16 _ h ∙ none-broken)) refl (rw (e, g))
 
--- page 0 of the store copied over the first page of the frames
-pub copied-first : (fs st g : List ℕ) → length g ≡ pageSize → g ≡ take pageSize (drop 0 st) → putMid 0 pageSize fs g ≡ putPage fs 0 (pageOf st 0)
-copied-first fs st g l e = put-part fs 0 g l ∙ ap (putPage fs 0) (e ∙ part-is-page st 0)
+-- ---- unfix, where n is the refusal by rules 1 to 3, and a the place of the handle's record
 
--- ---- evict, where n is the refusal by rules 1, 2 and 6, and f the frame that the code found
+module _ (s : State) (h : Handle) {n a : ℕ} (e : n ≡ firstBroken (handleRules s h)) (z : n ≡ 0) (i : a ≡ recordPlace h) where
+  held : HandleKept s h
+  held = handle-kept s h (sym e ∙ z)
 
-module _ (s : State) (q : PageNumber) {n f : ℕ} (e : n ≡ firstBroken (pageRules s q)) (z : n ≡ 0) (i : f ≡ found (s .pool) (q .0)) where
+  own-place : a ≡ h .frame .0
+  own-place = let k = held in omega arith
+
+  pub unfix-pinned : 0 < recordAt (s .pool .records) a .pins
+  unfix-pinned = rw own-place (held .held .pins)
+
+  pub unfix-done : out (doneAnswer 0) (changeRecord s a unpinned) ≡ unfixCall s h
+  unfolding unfixCall
+  unfix-done = done-yes s _ e z (ap (λ (f : ℕ). changeRecord s f unpinned) own-place)
+
+-- ---- evict, where n is the refusal by rules 1, 2 and 6, F the count that the frames' length gives, and f the frame that the code found
+
+module _ (s : State) (q : PageNumber) {pages : List ℕ} {seen : List Bool} {n F : ℕ} (e : (n ≡ firstBroken (pageRules s q)) × (n ≡ 0 → Handed (s .pool) (s .frames) pages seen)) (z : n ≡ 0) (c : F ≡ length (s .frames) / pageSize) where
   rest : List Rule
   rest = rule11 s (q .0) ∷ rule12 s (q .0) ∷ []
 
-  pub evict-absent : s .pool .count ≤ f → out (doneAnswer 11) s ≡ evictCall s q
-  unfolding evictCall rest
-  evict-absent l = done-no s _ _ (page-passes s q rest e z (sym (broken-here 11 _ (rw (← i) (le-ltb f _ l))))) (λ y. omega arith)
+  module _ {f : ℕ} (i : f ≡ foundBy pages (q .0) F 0) where
+    here : f ≡ found (s .pool) (q .0)
+    here = at-found s q e z c i
 
-  module _ (l : f < s .pool .count) where
-    at-found : ltb (found (s .pool) (q .0)) (s .pool .count) ≡ true
-    at-found = rw (← i) (lt-ltb f _ l)
-
-    pub evict-shut : isOpen (recordAt (s .pool .records) f) (s .frames) f ≡ false → out (doneAnswer 12) s ≡ evictCall s q
+    pub evict-absent : F ≤ f → out (doneAnswer 11) s ≡ evictCall s q
     unfolding evictCall rest
-    evict-shut h = done-no s _ _ (page-passes s q rest e z (sym (kept-then 11 _ at-found ∙ broken-here 12 _ (rw (← i) h)))) (λ y. omega arith)
+    evict-absent l = done-no s _ _ (page-passes s q rest (e .0) z (sym (broken-here 11 _ (rw (← here) (le-ltb f _ (omega (arith, counted s q e z c))))))) (λ y. omega arith)
 
-    pub evict-done : {t : State} → isOpen (recordAt (s .pool .records) f) (s .frames) f ≡ true → t ≡ evicted s f → out (doneAnswer 0) t ≡ evictCall s q
-    unfolding evictCall rest
-    evict-done h j = done-yes s _ (page-passes s q rest e z (sym (kept-then 11 _ at-found ∙ kept-then 12 _ (rw (← i) h) ∙ none-broken))) refl (j ∙ ap (evicted s) i)
+    module _ (l : f < F) where
+      below : f < s .pool .count
+      below = omega (arith, counted s q e z c)
+
+      resident : ltb (found (s .pool) (q .0)) (s .pool .count) ≡ true
+      resident = rw (← here) (lt-ltb f _ below)
+
+      pub evict-shut : isOpen (recordAt (s .pool .records) f) (s .frames) f ≡ false → out (doneAnswer 12) s ≡ evictCall s q
+      unfolding evictCall rest
+      evict-shut h = done-no s _ _ (page-passes s q rest (e .0) z (sym (kept-then 11 _ resident ∙ broken-here 12 _ (rw (← here) h)))) (λ y. omega arith)
+
+      module _ (h : isOpen (recordAt (s .pool .records) f) (s .frames) f ≡ true) where
+        pub evict-removable : Removable (recordAt (s .pool .records) f) (s .frames) (s .store) f
+        evict-removable = removable s f (ready s (kept s q e z c)) below (open-childless _ _ _ h)
+
+        pub evict-done : {r : FrameRecord} {gs ts : List ℕ} → r ≡ blank → TakenOut (recordAt (s .pool .records) f) (s .frames) (s .store) f gs ts → out (doneAnswer 0) (state (withRecord (s .pool) f r) gs ts) ≡ evictCall s q
+        unfolding evictCall rest
+        evict-done b t =
+            done-yes s _ (page-passes s q rest (e .0) z (sym (kept-then 11 _ resident ∙ kept-then 12 _ (rw (← here) h) ∙ none-broken))) refl
+            (is-evicted s f (ap (withRecord (s .pool) f) b) t ∙ ap (evicted s) here)

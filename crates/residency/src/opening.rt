@@ -1,6 +1,5 @@
 // Open: the records of a pool, and page 0 in its frame.
 use machine::Done;
-use machine::FrameRecord;
 use machine::Pool;
 use page::FrameIndex;
 use page::PageNumber;
@@ -14,15 +13,7 @@ ghost use Rattle.residency.specs.Opening.{blankPool};
 fn blank_pool(count: u16, pages: u16) -> Pool
     ensures { λ r. ⌜ r ≡ blankPool count pages ⌝ }
 {
-    let blank = FrameRecord {
-        used: false,
-        dirty: false,
-        usage: 0,
-        slot: 0,
-        parent: FrameIndex(0),
-        pins: 0,
-        page: PageNumber(0),
-    };
+    let blank = moves::empty_record();
     let records = [blank; FrameIndex::MOST];
     Pool {
         records,
@@ -49,22 +40,19 @@ pub fn open(frames: &mut [u8], store: &[u8]) -> Done
     let pages = store.len() / PageNumber::SIZE;
     if !guard::lengths_fit(count, pages, frames, store) {
         return Done {
-            refusal: 1,
             pool: blank_pool(0, 0),
+            refusal: 1,
         };
     }
     if !soundness::is_sound(store, pages) {
         return Done {
-            refusal: 16,
             pool: blank_pool(0, 0),
+            refusal: 16,
         };
     }
-    page::copy::copy_into(
-        &mut frames[0..PageNumber::SIZE],
-        &store[0..PageNumber::SIZE],
-    );
+    page::copy::copy_page(frames, 0, store, 0);
     Done {
-        refusal: 0,
         pool: opened_pool(count as u16, pages as u16),
+        refusal: 0,
     }
 }

@@ -13,18 +13,20 @@ ghost use Rattle.machine.specs.Calls.{unfixCall, evictCall};
 pub fn unfix(pool: Pool, frames: &[u8], store: &[u8], handle: Handle) -> Done
     ensures { λ r. ⌜ out (doneAnswer (r .refusal)) (state (r .pool) (now (frames .entry)) (now (store .entry))) ≡ unfixCall (state pool (now (frames .entry)) (now (store .entry))) handle ⌝ }
 {
-    let refusal = guard::handle_refusal(pool, frames, store, handle);
-    if refusal != 0 {
-        return Done { refusal, pool };
-    }
-    let f = handle.frame.0 as usize;
-    let mut rec = pool.records[f];
-    rec.pins -= 1;
+    let mut pages: [u16; FrameIndex::MOST] = [0; FrameIndex::MOST];
+    let mut seen = [false; PageNumber::MOST];
     let mut next = pool;
-    next.records[f] = rec;
+    let at = guard::record_place(handle);
+    let mut rec = next.records[at];
+    let refusal = guard::handle_refusal(pool, rec, frames, store, handle, &mut pages, &mut seen);
+    if refusal != 0 {
+        return Done { pool, refusal };
+    }
+    rec.pins -= 1;
+    next.records[at] = rec;
     Done {
-        refusal: 0,
         pool: next,
+        refusal: 0,
     }
 }
 
@@ -32,22 +34,27 @@ pub fn unfix(pool: Pool, frames: &[u8], store: &[u8], handle: Handle) -> Done
 pub fn evict(pool: Pool, frames: &mut [u8], store: &mut [u8], page: PageNumber) -> Done
     ensures { λ r. ⌜ out (doneAnswer (r .refusal)) (state (r .pool) (now (frames .exit)) (now (store .exit))) ≡ evictCall (state pool (now (frames .entry)) (now (store .entry))) page ⌝ }
 {
-    let refusal = guard::page_refusal(pool, frames, store, page);
+    let mut pages: [u16; FrameIndex::MOST] = [0; FrameIndex::MOST];
+    let mut seen = [false; PageNumber::MOST];
+    let mut next = pool;
+    let refusal = guard::page_refusal(pool, frames, store, page, &mut pages, &mut seen);
     if refusal != 0 {
-        return Done { refusal, pool };
+        return Done { pool, refusal };
     }
-    let f = scan::find_frame(pool, page);
-    if pool.count as usize <= f {
-        return Done { refusal: 11, pool };
+    let count = frames.len() / PageNumber::SIZE;
+    let f = scan::find_frame(&pages, count, page);
+    if count <= f {
+        return Done { pool, refusal: 11 };
     }
-    let rec = pool.records[f];
+    let rec = next.records[f];
     let frame = FrameIndex(f as u8);
     if !scan::is_open(rec, frames, frame) {
-        return Done { refusal: 12, pool };
+        return Done { pool, refusal: 12 };
     }
-    let vacated = moves::evict_page(pool, frames, store, frame);
+    moves::take_out(rec, frames, store, frame);
+    next.records[f] = moves::empty_record();
     Done {
+        pool: next,
         refusal: 0,
-        pool: vacated,
     }
 }

@@ -1,5 +1,4 @@
-// One look of the sweep at a frame.
-use machine::FrameRecord;
+// What a look at a frame's words tells.
 use page::FrameIndex;
 use page::PageNumber;
 use page::word;
@@ -7,7 +6,7 @@ ghost use mathlib.Core.Path.{_≡_};
 ghost use Prim.Native.Nat.{_+_, _*_, _≤_};
 ghost use lib.ListN.{length};
 ghost use Rattle.page.specs.Figures.{pageSize};
-ghost use Rattle.machine.specs.Sweep.{childless as noSwizzledWord, lookLeaves, lookTakes};
+ghost use Rattle.machine.specs.Sweep.{childless as noSwizzledWord};
 
 // Is no word of the frame swizzled.
 pub fn childless(frames: &[u8], frame: FrameIndex) -> bool
@@ -25,28 +24,4 @@ pub fn childless(frames: &[u8], frame: FrameIndex) -> bool
         k += 1;
     }
     none
-}
-
-// What the look leaves of the record: an open frame loses one usage, if it has any.
-pub fn leaves(rec: FrameRecord, evictable: bool) -> FrameRecord
-    ensures { λ r. ⌜ r ≡ lookLeaves rec evictable ⌝ }
-{
-    if evictable {
-        if rec.usage > 0 {
-            let mut next = rec;
-            next.usage = rec.usage - 1;
-            return next;
-        }
-    }
-    rec
-}
-
-// Does the look take the frame: an open one at usage 0.
-pub fn takes(rec: FrameRecord, evictable: bool) -> bool
-    ensures { λ r. ⌜ r ≡ lookTakes rec evictable ⌝ }
-{
-    if evictable {
-        return rec.usage == 0;
-    }
-    false
 }

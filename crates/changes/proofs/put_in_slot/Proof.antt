@@ -19,15 +19,12 @@ add-put-word c = search needs
 put-word-requires : tie.Need-put-word-requires
 put-word-requires c κs = search needs
 
-mark-dirty-requires : tie.Need-mark-dirty-requires
-mark-dirty-requires c κs = search needs
-
 same-length : tie.Need-same-length
 same-length c = search needs
 
 returns : tie.Need-returns
 unfolding putSlot
-returns c = record { dirty = c .mark-dirty .ensures; word = c .before .before .before .put-word .ensures }
+returns c = c .before .before .put-word .ensures
 
 pub put-in-slot-spec : {M : Type 1} → statement M
 put-in-slot-spec =
@@ -38,6 +35,5 @@ put-in-slot-spec =
     mul-put-word-2
     add-put-word
     put-word-requires
-    mark-dirty-requires
     same-length
     returns)

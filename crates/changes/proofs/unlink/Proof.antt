@@ -1,6 +1,7 @@
 -- `changes::unlink` meets its contract. Assumes nothing.
+use mathlib.Core.Path.{refl, ap}
 use native.Mathlib.Omega.{arith}
-use Rattle.machine.specs.Machine.{State, state}
+use Rattle.machine.specs.Machine.{State, state, recordAt}
 use Rattle.machine.specs.Calls.{unlinkCall}
 use Rattle.machine.specs.RuleLaws.{SlotKept, done-no}
 use Rattle.changes.specs.Changed.{unlinkable, unlink-done}
@@ -12,11 +13,20 @@ abbrev given : tie.Start → State
 given c = let a = c .args in state (a .pool) (a .frames .now) (a .store .now)
 
 -- past the refusals
-kept : (c : tie.Else1) → SlotKept (given (c .before .before .before .before .before)) (c .before .before .before .before .before .args .handle) (c .before .before .before .before .before .args .slot)
-kept c = let a = c .before .before .before .before .before .args in unlinkable (given (c .before .before .before .before .before)) (a .handle) (a .slot) (c .before .unlink-refusal .ensures) (c .if1 .left)
+kept : (c : tie.Else1) → SlotKept (given (c .before .before .before .before .before .before .before .before .before)) (c .before .before .before .before .before .before .before .before .before .args .handle) (c .before .before .before .before .before .before .before .before .before .args .slot)
+kept c = let a = c .before .before .before .before .before .before .before .before .before .args in unlinkable (given (c .before .before .before .before .before .before .before .before .before)) (a .handle) (a .slot) (c .before .unlink-refusal .ensures) (c .if1 .left)
+
+record-place-requires : tie.Need-record-place-requires
+record-place-requires c κs = search needs
+
+mul-held : tie.Need-mul-held
+mul-held c = search needs
+
+element-copy-out-held : tie.Need-element-copy-out-held
+element-copy-out-held c = search needs
 
 unlink-refusal-requires : tie.Need-unlink-refusal-requires
-unlink-refusal-requires c κs = search needs
+unlink-refusal-requires c κs = (ap (recordAt (c .before .before .before .before .before .before .before .args .pool .records)) (c .before .before .before .before .record-place .ensures), record { noPage = refl; noneSeen = refl })
 
 same-length : tie.Need-same-length
 same-length c = search needs
@@ -26,23 +36,38 @@ unfolding unlinkCall
 returns c = done-no _ _ _ (c .before .unlink-refusal .ensures) (c .if1 .taken)
 
 put-in-slot-requires : tie.Need-put-in-slot-requires
-put-in-slot-requires c κs = let k = kept (c .before) in (omega arith, omega arith, omega arith)
+put-in-slot-requires c κs = let k = kept (c .before) in (omega arith, omega arith)
+
+dirtied-requires : tie.Need-dirtied-requires
+dirtied-requires c κs = search needs
+
+mul-t12 : tie.Need-mul-t12
+mul-t12 c = search needs
+
+element-set-from-next : tie.Need-element-set-from-next
+element-set-from-next c = search needs
 
 same-length-2 : tie.Need-same-length-2
 same-length-2 c = search needs
 
 returns-2 : tie.Need-returns-2
 returns-2 c =
-    let a = c .before .before .before .before .before .before .before .before .before .args in
-    unlink-done (given (c .before .before .before .before .before .before .before .before .before)) (a .handle) (a .slot) (c .before .before .before .before .before .unlink-refusal .ensures) (c .before .before .before .before .if1 .left) (c .before .before .put-in-slot .ensures)
+    let a = c .before .before .before .before .before .before .before .before .before .before .before .before .before .before .args in
+    unlink-done (given (c .before .before .before .before .before .before .before .before .before .before .before .before .before .before)) (a .handle) (a .slot) (c .before .before .before .before .before .before .unlink-refusal .ensures) (c .before .before .before .before .before .if1 .left) (c .before .before .before .before .before .before .before .before .before .before .before .record-place .ensures) (c .dirtied .ensures) (c .before .before .before .put-in-slot .ensures)
 
 pub unlink-spec : {M : Type 1} → statement M
 unlink-spec =
     tie.close
     (tie.spec
+    record-place-requires
+    mul-held
+    element-copy-out-held
     unlink-refusal-requires
     same-length
     returns
     put-in-slot-requires
+    dirtied-requires
+    mul-t12
+    element-set-from-next
     same-length-2
     returns-2)

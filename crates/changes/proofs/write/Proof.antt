@@ -1,7 +1,8 @@
 -- `changes::write` meets its contract: refused, no bytes, bytes put back into the middle of the frames. Assumes nothing.
+use mathlib.Core.Path.{refl, ap}
 use native.Mathlib.Omega.{arith}
 use lib.ListN.{length}
-use Rattle.machine.specs.Machine.{State, state}
+use Rattle.machine.specs.Machine.{State, state, recordAt}
 use Rattle.machine.specs.Calls.{writeCall}
 use Rattle.machine.specs.RuleLaws.{done-no}
 use Rattle.changes.specs.Changed.{Writable, writable, put-back, write-nothing, write-bytes}
@@ -13,11 +14,20 @@ abbrev given : tie.Start → State
 given c = let a = c .args in state (a .pool) (a .frames .now) (a .store .now)
 
 -- past the refusals
-ok : (c : tie.Else1) → let a = c .before .before .before .before .before .before .args in Writable (given (c .before .before .before .before .before .before)) (a .handle) (a .offset) (length (a .bytes .now))
-ok c = let a = c .before .before .before .before .before .before .args in writable (given (c .before .before .before .before .before .before)) (a .handle) (a .offset) (length (a .bytes .now)) (c .before .write-refusal .ensures) (c .if1 .left)
+ok : (c : tie.Else1) → let a = c .before .before .before .before .before .before .before .before .before .before .args in Writable (given (c .before .before .before .before .before .before .before .before .before .before)) (a .handle) (a .offset) (length (a .bytes .now))
+ok c = let a = c .before .before .before .before .before .before .before .before .before .before .args in writable (given (c .before .before .before .before .before .before .before .before .before .before)) (a .handle) (a .offset) (length (a .bytes .now)) (c .before .write-refusal .ensures) (c .if1 .left)
+
+record-place-requires : tie.Need-record-place-requires
+record-place-requires c κs = search needs
+
+mul-held : tie.Need-mul-held
+mul-held c = search needs
+
+element-copy-out-held : tie.Need-element-copy-out-held
+element-copy-out-held c = search needs
 
 write-refusal-requires : tie.Need-write-refusal-requires
-write-refusal-requires c κs = search needs
+write-refusal-requires c κs = (ap (recordAt (c .before .before .before .before .before .before .before .before .args .pool .records)) (c .before .before .before .before .record-place .ensures), record { noPage = refl; noneSeen = refl })
 
 same-length : tie.Need-same-length
 same-length c = search needs
@@ -30,7 +40,7 @@ same-length-2 : tie.Need-same-length-2
 same-length-2 c = search needs
 
 returns-2 : tie.Need-returns-2
-returns-2 c = let a = c .before .before .before .before .before .before .before .args in write-nothing (given (c .before .before .before .before .before .before .before)) (a .handle) (a .offset) (a .bytes .now) (c .before .before .write-refusal .ensures) (c .before .if1 .left) (c .if2 .taken)
+returns-2 c = let a = c .before .before .before .before .before .before .before .before .before .before .before .args in write-nothing (given (c .before .before .before .before .before .before .before .before .before .before .before)) (a .handle) (a .offset) (a .bytes .now) (c .before .before .write-refusal .ensures) (c .before .if1 .left) (c .if2 .taken)
 
 cast-f : tie.Need-cast-f
 cast-f c = search needs
@@ -59,22 +69,31 @@ part-copy-into-end c = let h = ok (c .before .before) in omega arith
 copy-into-requires : tie.Need-copy-into-requires
 copy-into-requires c κs = search needs
 
-mark-dirty-requires : tie.Need-mark-dirty-requires
-mark-dirty-requires c κs = let h = ok (c .before .before .before .before .before .before) in omega arith
+dirtied-requires : tie.Need-dirtied-requires
+dirtied-requires c κs = search needs
+
+mul-t25 : tie.Need-mul-t25
+mul-t25 c = search needs
+
+element-set-from-next : tie.Need-element-set-from-next
+element-set-from-next c = search needs
 
 same-length-3 : tie.Need-same-length-3
 same-length-3 c = search needs
 
 returns-3 : tie.Need-returns-3
 returns-3 c =
-    let a = c .before .before .before .before .before .before .before .before .before .before .before .before .before .args in
-    write-bytes (given (c .before .before .before .before .before .before .before .before .before .before .before .before .before)) (a .handle) (a .offset) (a .bytes .now) (c .before .before .before .before .before .before .before .before .write-refusal .ensures) (c .before .before .before .before .before .before .before .if1 .left) (c .before .before .before .before .before .before .if2 .left) (c .mark-dirty .ensures)
-    (put-back (a .frames .now) (a .handle .frame .0) (a .offset) _ (a .bytes .now) (c .before .before .before .copy-into .ensures))
+    let a = c .before .before .before .before .before .before .before .before .before .before .before .before .before .before .before .before .before .args in
+    write-bytes (given (c .before .before .before .before .before .before .before .before .before .before .before .before .before .before .before .before .before)) (a .handle) (a .offset) (a .bytes .now) (c .before .before .before .before .before .before .before .before .write-refusal .ensures) (c .before .before .before .before .before .before .before .if1 .left) (c .before .before .before .before .before .before .if2 .left) (c .before .before .before .before .before .before .before .before .before .before .before .before .before .record-place .ensures) (c .dirtied .ensures)
+    (put-back (a .frames .now) (a .handle .frame .0) (a .offset) _ (a .bytes .now) (c .before .before .before .copy-into .ensures .0))
 
 pub write-spec : {M : Type 1} → statement M
 write-spec =
     tie.close
     (tie.spec
+    record-place-requires
+    mul-held
+    element-copy-out-held
     write-refusal-requires
     same-length
     returns
@@ -89,6 +108,8 @@ write-spec =
     part-copy-into-start
     part-copy-into-end
     copy-into-requires
-    mark-dirty-requires
+    dirtied-requires
+    mul-t25
+    element-set-from-next
     same-length-3
     returns-3)

@@ -30,15 +30,15 @@ returns c = ap pageNumber (pick-yes _ (sym (c .before .is-number .ensures) ∙ c
 frame-in-requires : tie.Need-frame-in-requires
 frame-in-requires c κs = search needs
 
-mul-rec : tie.Need-mul-rec
-mul-rec c = search needs
+mul-t6 : tie.Need-mul-t6
+mul-t6 c = search needs
 
-element-copy-out-rec : tie.Need-element-copy-out-rec
-element-copy-out-rec c = let l = c .before .before .before .pre .frame (high (c .before)) in let e = c .frame-in .ensures in omega arith
+element-copy-out-t9 : tie.Need-element-copy-out-t9
+element-copy-out-t9 c = let l = c .before .before .before .pre .frame (high (c .before)) in let e = c .frame-in .ensures in omega arith
 
 returns-2 : tie.Need-returns-2
 unfolding plain
-returns-2 c = rw (c .before .before .frame-in .ensures) (ap pageNumber (pick-no _ (sym (c .before .before .before .before .is-number .ensures) ∙ c .before .before .before .if1 .left) refl))
+returns-2 c = rw (c .before .frame-in .ensures) (ap pageNumber (pick-no _ (sym (c .before .before .before .is-number .ensures) ∙ c .before .before .if1 .left) refl))
 
 pub page-named-spec : {M : Type 1} → statement M
 page-named-spec =
@@ -48,6 +48,6 @@ page-named-spec =
     cast-number
     returns
     frame-in-requires
-    mul-rec
-    element-copy-out-rec
+    mul-t6
+    element-copy-out-t9
     returns-2)

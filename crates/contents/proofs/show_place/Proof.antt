@@ -1,6 +1,7 @@
 -- `contents::show_place` meets its contract. Assumes nothing.
 use mathlib.Core.Path.{refl, ap, _∙_}
 use Rattle.machine.specs.Answers.{placeAnswer}
+use Rattle.machine.specs.Machine.{recordAt}
 use Rattle.machine.specs.Calls.{showCall}
 use Rattle.machine.specs.RuleLaws.{answer-no, answer-yes}
 use Rattle.contents.specs.Places.{place-refused, place-accepted}
@@ -8,24 +9,41 @@ use borrow.Author.Needs.{needs}
 use Rattle.contents.proofs.show_place.Statement.{statement}
 use Rattle.contents.proofs.show_place.Tie as tie
 
+record-place-requires : tie.Need-record-place-requires
+record-place-requires c κs = search needs
+
+mul-held : tie.Need-mul-held
+mul-held c = search needs
+
+element-copy-out-held : tie.Need-element-copy-out-held
+element-copy-out-held c = search needs
+
 handle-refusal-requires : tie.Need-handle-refusal-requires
-handle-refusal-requires c κs = search needs
+handle-refusal-requires c κs = (ap (recordAt (c .before .before .before .before .before .before .args .t1 .records)) (c .before .before .before .record-place .ensures), record { noPage = refl; noneSeen = refl })
 
 refused-requires : tie.Need-refused-requires
 refused-requires c κs = search needs
 
 returns : tie.Need-returns
 unfolding showCall
-returns c = ap placeAnswer (c .refused .ensures) ∙ place-refused _ (c .before .if1 .taken) ∙ answer-no _ _ _ (c .before .before .handle-refusal .ensures) (c .before .if1 .taken)
+returns c = ap placeAnswer (c .refused .ensures) ∙ place-refused _ (c .before .if1 .taken) ∙ answer-no _ _ _ (c .before .before .handle-refusal .ensures .0) (c .before .if1 .taken)
 
 in-frame-requires : tie.Need-in-frame-requires
 in-frame-requires c κs = search needs
 
 returns-2 : tie.Need-returns-2
 unfolding showCall
-returns-2 c = ap placeAnswer (c .in-frame .ensures) ∙ answer-yes _ _ _ (c .before .before .handle-refusal .ensures) (c .before .if1 .left) (place-accepted _ refl)
+returns-2 c = ap placeAnswer (c .in-frame .ensures) ∙ answer-yes _ _ _ (c .before .before .handle-refusal .ensures .0) (c .before .if1 .left) (place-accepted _ refl)
 
 pub show-place-spec : {M : Type 1} → statement M
 show-place-spec =
     tie.close
-    (tie.spec handle-refusal-requires refused-requires returns in-frame-requires returns-2)
+    (tie.spec
+    record-place-requires
+    mul-held
+    element-copy-out-held
+    handle-refusal-requires
+    refused-requires
+    returns
+    in-frame-requires
+    returns-2)

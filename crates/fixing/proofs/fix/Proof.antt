@@ -1,30 +1,39 @@
 -- `fixing::fix` meets its contract. Assumes nothing.
-use mathlib.Core.Path.{sym, ap, _∙_}
+use mathlib.Core.Path.{refl, sym, ap, _∙_}
 use Prim.Native.Nat.{_<_}
 use native.Mathlib.Omega.{arith}
 use Rattle.page.specs.Figures.{mostFrames}
-use Rattle.machine.specs.Machine.{state}
+use Rattle.machine.specs.Machine.{state, recordAt}
 use Rattle.machine.specs.RuleLaws.{SlotKept, slot-kept}
 use Rattle.fixing.specs.Steps.{pinDecided}
-use Rattle.fixing.specs.StepLaws.{fix-denied, fix-nothing, fix-missed, fix-pinned, number-below, frame-below}
+use Rattle.fixing.specs.StepLaws.{pin-denied, pin-given, fix-denied, fix-nothing, fix-missed, fix-pinned, number-below, frame-below}
 use borrow.Author.Needs.{needs}
 use Rattle.fixing.proofs.fix.Statement.{statement}
 use Rattle.fixing.proofs.fix.Tie as tie
 
 -- past the first four rules
-ok : (c : tie.Else1) → let a = c .before .before .before .before .before .before .args in SlotKept (state (a .pool) (a .frames .now) (a .store .now)) (a .handle) (a .slot)
-ok c = slot-kept _ _ _ (sym (c .before .slot-refusal .ensures) ∙ c .if1 .left)
+ok : (c : tie.Else1) → let a = c .before .before .before .before .before .before .before .before .before .before .args in SlotKept (state (a .pool) (a .frames .now) (a .store .now)) (a .handle) (a .slot)
+ok c = slot-kept _ _ _ (sym (c .before .slot-refusal .ensures .0) ∙ c .if1 .left)
 
 -- the number is below N
-number : (c : tie.Then3) → c .before .before .before .slot-word .result < c .before .before .before .before .before .before .before .before .before .before .before .before .args .pool .pages
+number : (c : tie.Then3) → c .before .before .before .slot-word .result < c .before .before .before .before .before .before .before .before .before .before .before .before .before .before .before .before .args .pool .pages
 number c = number-below _ _ _ (ok (c .before .before .before .before .before .before)) (c .before .before .before .slot-word .ensures) (sym (c .before .is-number .ensures) ∙ c .if3 .taken) (c .before .before .if2 .left)
 
 -- the frame is below 64
 frame : (c : tie.After-frame-in) → c .frame-in .result < mostFrames
 frame c = let b = frame-below _ _ _ (ok (c .before .before .before .before .before .before .before)) (c .before .before .before .before .slot-word .ensures) (sym (c .before .before .is-number .ensures) ∙ c .before .if3 .left) in let e = c .frame-in .ensures in omega arith
 
+record-place-requires : tie.Need-record-place-requires
+record-place-requires c κs = search needs
+
+mul-held : tie.Need-mul-held
+mul-held c = search needs
+
+element-copy-out-held : tie.Need-element-copy-out-held
+element-copy-out-held c = search needs
+
 slot-refusal-requires : tie.Need-slot-refusal-requires
-slot-refusal-requires c κs = search needs
+slot-refusal-requires c κs = (ap (recordAt (c .before .before .before .before .before .before .before .before .args .pool .records)) (c .before .before .before .before .before .record-place .ensures), record { noPage = refl; noneSeen = refl })
 
 refused-requires : tie.Need-refused-requires
 refused-requires c κs = search needs
@@ -36,7 +45,7 @@ same-length-2 : tie.Need-same-length-2
 same-length-2 c = search needs
 
 returns : tie.Need-returns
-returns c = fix-denied _ _ _ (c .before .before .slot-refusal .ensures) (c .before .if1 .taken) (c .refused .ensures)
+returns c = fix-denied _ _ _ (c .before .before .slot-refusal .ensures .0) (c .before .if1 .taken) (c .refused .ensures)
 
 slot-word-requires : tie.Need-slot-word-requires
 slot-word-requires c κs = let h = ok (c .before .before) in omega arith
@@ -51,16 +60,16 @@ same-length-4 : tie.Need-same-length-4
 same-length-4 c = search needs
 
 returns-2 : tie.Need-returns-2
-returns-2 c = fix-nothing _ _ _ (c .before .before .before .before .before .before .slot-refusal .ensures) (c .before .before .before .before .before .if1 .left) (c .before .before .slot-word .ensures) (c .before .if2 .taken) (c .refused2 .ensures)
+returns-2 c = fix-nothing _ _ _ (c .before .before .before .before .before .before .slot-refusal .ensures .0) (c .before .before .before .before .before .if1 .left) (c .before .before .slot-word .ensures) (c .before .if2 .taken) (c .refused2 .ensures)
 
 is-number-requires : tie.Need-is-number-requires
 is-number-requires c κs = search needs
 
-cast-t21 : tie.Need-cast-t21
-cast-t21 c = let l = number (c .before .before) in let h = ok (c .before .before .before .before .before .before .before .before) in omega arith
+cast-t32 : tie.Need-cast-t32
+cast-t32 c = let l = number c in let h = ok (c .before .before .before .before .before .before) in omega arith
 
 bring-in-requires : tie.Need-bring-in-requires
-bring-in-requires c κs = let h = ok (c .before .before .before .before .before .before .before .before) in (h .kept, h .held .below, h .slot, number (c .before .before))
+bring-in-requires c κs = let h = ok (c .before .before .before .before .before .before .before .before .before .before) in (h .kept, c .before .before .before .before .before .before .before .before .before .before .before .slot-refusal .ensures .1 (c .before .before .before .before .before .before .before .before .before .before .if1 .left), h .held .below, h .slot, number (c .before .before .before .before))
 
 same-length-5 : tie.Need-same-length-5
 same-length-5 c = search needs
@@ -69,16 +78,19 @@ same-length-6 : tie.Need-same-length-6
 same-length-6 c = search needs
 
 returns-3 : tie.Need-returns-3
-returns-3 c = fix-missed _ _ _ (c .before .before .before .before .before .before .before .before .before .before .before .before .before .before .slot-refusal .ensures) (c .before .before .before .before .before .before .before .before .before .before .before .before .before .if1 .left) (c .before .before .before .before .before .before .before .before .before .before .slot-word .ensures) (c .before .before .before .before .before .before .before .before .before .if2 .left) (sym (c .before .before .before .before .before .before .before .before .is-number .ensures) ∙ c .before .before .before .before .before .before .before .if3 .taken) (c .before .before .before .before .bring-in .ensures)
+returns-3 c = fix-missed _ _ _ (c .before .before .before .before .before .before .before .before .before .before .before .before .before .before .before .before .slot-refusal .ensures .0) (c .before .before .before .before .before .before .before .before .before .before .before .before .before .before .before .if1 .left) (c .before .before .before .before .before .before .before .before .before .before .before .before .slot-word .ensures) (c .before .before .before .before .before .before .before .before .before .before .before .if2 .left) (sym (c .before .before .before .before .before .before .before .before .before .before .is-number .ensures) ∙ c .before .before .before .before .before .before .before .before .before .if3 .taken) (c .before .before .before .before .bring-in .ensures)
 
 frame-in-requires : tie.Need-frame-in-requires
 frame-in-requires c κs = search needs
 
-cast-t24 : tie.Need-cast-t24
-cast-t24 c = let l = frame c in omega arith
+mul-child : tie.Need-mul-child
+mul-child c = search needs
 
-pin-frame-requires : tie.Need-pin-frame-requires
-pin-frame-requires c κs = frame c
+element-copy-out-child : tie.Need-element-copy-out-child
+element-copy-out-child c = frame c
+
+refused-requires-3 : tie.Need-refused-requires-3
+refused-requires-3 c κs = search needs
 
 same-length-7 : tie.Need-same-length-7
 same-length-7 c = search needs
@@ -87,12 +99,39 @@ same-length-8 : tie.Need-same-length-8
 same-length-8 c = search needs
 
 returns-4 : tie.Need-returns-4
-returns-4 c = fix-pinned _ _ _ (c .before .before .before .before .before .before .before .before .before .slot-refusal .ensures) (c .before .before .before .before .before .before .before .before .if1 .left) (c .before .before .before .before .before .slot-word .ensures) (c .before .before .before .before .if2 .left) (sym (c .before .before .before .is-number .ensures) ∙ c .before .before .if3 .left) (c .pin-frame .ensures _ _ ∙ ap (pinDecided _) (c .before .frame-in .ensures))
+returns-4 c = fix-pinned _ _ _ (c .before .before .before .before .before .before .before .before .before .before .before .before .slot-refusal .ensures .0) (c .before .before .before .before .before .before .before .before .before .before .before .if1 .left) (c .before .before .before .before .before .before .before .before .slot-word .ensures) (c .before .before .before .before .before .before .before .if2 .left) (sym (c .before .before .before .before .before .before .is-number .ensures) ∙ c .before .before .before .before .before .if3 .left) (pin-denied _ _ (c .before .if4 .taken) (c .refused3 .ensures) ∙ ap (pinDecided _) (c .before .before .before .before .frame-in .ensures))
+
+pinned-requires : tie.Need-pinned-requires
+pinned-requires c κs = search needs
+
+mul-t18 : tie.Need-mul-t18
+mul-t18 c = search needs
+
+element-set-from-next : tie.Need-element-set-from-next
+element-set-from-next c = frame (c .before .before .before .before .before)
+
+cast-t44 : tie.Need-cast-t44
+cast-t44 c = let l = frame (c .before .before .before .before .before) in omega arith
+
+given-requires : tie.Need-given-requires
+given-requires c κs = search needs
+
+same-length-9 : tie.Need-same-length-9
+same-length-9 c = search needs
+
+same-length-10 : tie.Need-same-length-10
+same-length-10 c = search needs
+
+returns-5 : tie.Need-returns-5
+returns-5 c = fix-pinned _ _ _ (c .before .before .before .before .before .before .before .before .before .before .before .before .before .before .slot-refusal .ensures .0) (c .before .before .before .before .before .before .before .before .before .before .before .before .before .if1 .left) (c .before .before .before .before .before .before .before .before .before .before .slot-word .ensures) (c .before .before .before .before .before .before .before .before .before .if2 .left) (sym (c .before .before .before .before .before .before .before .before .is-number .ensures) ∙ c .before .before .before .before .before .before .before .if3 .left) (pin-given _ _ (c .before .before .before .if4 .left) (c .before .pinned .ensures) (c .given .ensures) ∙ ap (pinDecided _) (c .before .before .before .before .before .before .frame-in .ensures))
 
 pub fix-spec : {M : Type 1} → statement M
 fix-spec =
     tie.close
     (tie.spec
+    record-place-requires
+    mul-held
+    element-copy-out-held
     slot-refusal-requires
     refused-requires
     same-length
@@ -104,14 +143,23 @@ fix-spec =
     same-length-4
     returns-2
     is-number-requires
-    cast-t21
+    cast-t32
     bring-in-requires
     same-length-5
     same-length-6
     returns-3
     frame-in-requires
-    cast-t24
-    pin-frame-requires
+    mul-child
+    element-copy-out-child
+    refused-requires-3
     same-length-7
     same-length-8
-    returns-4)
+    returns-4
+    pinned-requires
+    mul-t18
+    element-set-from-next
+    cast-t44
+    given-requires
+    same-length-9
+    same-length-10
+    returns-5)

@@ -1,5 +1,5 @@
 -- `fixing::root` meets its contract. Assumes nothing.
-use Rattle.fixing.specs.StepLaws.{root-denied, root-given}
+use Rattle.fixing.specs.StepLaws.{pin-denied, pin-given, root-denied, root-given}
 use borrow.Author.Needs.{needs}
 use Rattle.fixing.proofs.root.Statement.{statement}
 use Rattle.fixing.proofs.root.Tie as tie
@@ -13,13 +13,38 @@ refused-requires c κs = search needs
 returns : tie.Need-returns
 returns c = root-denied _ (c .before .before .pool-refusal .ensures) (c .before .if1 .taken) (c .refused .ensures)
 
-pin-frame-requires : tie.Need-pin-frame-requires
-pin-frame-requires c κs = search needs
+element-copy-out-rec : tie.Need-element-copy-out-rec
+element-copy-out-rec c = search needs
+
+refused-requires-2 : tie.Need-refused-requires-2
+refused-requires-2 c κs = search needs
 
 returns-2 : tie.Need-returns-2
-returns-2 c = root-given _ (c .before .before .pool-refusal .ensures) (c .before .if1 .left) (c .pin-frame .ensures _ _)
+returns-2 c = root-given _ (c .before .before .before .before .before .pool-refusal .ensures) (c .before .before .before .before .if1 .left) (pin-denied _ 0 (c .before .if2 .taken) (c .refused2 .ensures))
+
+pinned-requires : tie.Need-pinned-requires
+pinned-requires c κs = search needs
+
+element-set-from-next : tie.Need-element-set-from-next
+element-set-from-next c = search needs
+
+given-requires : tie.Need-given-requires
+given-requires c κs = search needs
+
+returns-3 : tie.Need-returns-3
+returns-3 c = root-given _ (c .before .before .before .before .before .before .before .pool-refusal .ensures) (c .before .before .before .before .before .before .if1 .left) (pin-given _ 0 (c .before .before .before .if2 .left) (c .before .pinned .ensures) (c .given .ensures))
 
 pub root-spec : {M : Type 1} → statement M
 root-spec =
     tie.close
-    (tie.spec pool-refusal-requires refused-requires returns pin-frame-requires returns-2)
+    (tie.spec
+    pool-refusal-requires
+    refused-requires
+    returns
+    element-copy-out-rec
+    refused-requires-2
+    returns-2
+    pinned-requires
+    element-set-from-next
+    given-requires
+    returns-3)

@@ -1,11 +1,13 @@
--- `guard::page_refusal` meets its contract: the rules of the pool, and then rule 6. Assumes nothing.
+-- `guard::page_refusal` meets its contract: rules 1 and 2, and then rule 6. Assumes nothing.
 use mathlib.Core.Path.{sym, _∙_}
 use mathlib.Core.List.{[], _∷_}
+use native.Mathlib.Omega.{arith}
 use borrow.Author.Tests.{lt-ltb, le-ltb}
 use Rattle.machine.specs.TestLaws.{kept-then, broken-here, none-broken}
 use Rattle.machine.specs.Machine.{State, state}
 use Rattle.machine.specs.Rules.{rule6}
 use Rattle.machine.specs.RuleLaws.{pool-stops, pool-passes}
+use Rattle.guard.specs.Held.{page-count}
 use borrow.Author.Needs.{needs}
 use Rattle.guard.proofs.page_refusal.Statement.{statement}
 use Rattle.guard.proofs.page_refusal.Tie as tie
@@ -13,17 +15,33 @@ use Rattle.guard.proofs.page_refusal.Tie as tie
 abbrev given : tie.Start → State
 given c = let a = c .args in state (a .pool) (a .frames .now) (a .store .now)
 
-pool-refusal-requires : tie.Need-pool-refusal-requires
-pool-refusal-requires c κs = search needs
+table-refusal-requires : tie.Need-table-refusal-requires
+table-refusal-requires c κs = c .before .before .before .before .pre
 
 returns : tie.Need-returns
-returns c = let s = given (c .before .before .before .before) in pool-stops s (rule6 s (c .before .before .before .before .args .page .0) ∷ []) (c .before .pool-refusal .ensures) (c .if1 .taken)
+returns c = (pool-stops (given (c .before .before .before .before .before .before)) (rule6 (given (c .before .before .before .before .before .before)) (c .before .before .before .before .before .before .args .page .0) ∷ []) (c .before .table-refusal .ensures .0) (c .if1 .taken), λ z. absurd (c .if1 .taken z))
+
+cast-if2 : tie.Need-cast-if2
+cast-if2 c = search needs
 
 returns-2 : tie.Need-returns-2
-returns-2 c = let s = given (c .before .before .before .before .before .before .before) in pool-passes s (rule6 s (c .before .before .before .before .before .before .before .args .page .0) ∷ []) (c .before .before .before .before .pool-refusal .ensures) (c .before .before .before .if1 .left) (sym (broken-here 6 [] (le-ltb _ _ (c .if2 .taken))))
+returns-2 c =
+    let s = given (c .before .before .before .before .before .before .before .before) in
+    let q = c .before .before .before .before .before .before .before .before .args .page .0 in
+    let e = c .before .before .before .table-refusal .ensures .0 in
+    let z = c .before .before .if1 .left in
+    let n = page-count s e z in
+    (pool-passes s (rule6 s q ∷ []) e z (sym (broken-here 6 [] (le-ltb q (s .pool .pages) (omega (arith, n, c .if2 .taken))))), λ y. absurd (omega arith))
 
 returns-3 : tie.Need-returns-3
-returns-3 c = let s = given (c .before .before .before .before .before .before .before) in pool-passes s (rule6 s (c .before .before .before .before .before .before .before .args .page .0) ∷ []) (c .before .before .before .before .pool-refusal .ensures) (c .before .before .before .if1 .left) (sym (kept-then 6 [] (lt-ltb _ _ (c .if2 .left)) ∙ none-broken))
+returns-3 c =
+    let s = given (c .before .before .before .before .before .before .before .before) in
+    let q = c .before .before .before .before .before .before .before .before .args .page .0 in
+    let e = c .before .before .before .table-refusal .ensures .0 in
+    let z = c .before .before .if1 .left in
+    let n = page-count s e z in
+    (pool-passes s (rule6 s q ∷ []) e z (sym (kept-then 6 [] (lt-ltb q (s .pool .pages) (omega (arith, n, c .if2 .left))) ∙ none-broken)), λ y. c .before .before .before .table-refusal .ensures .1 z)
 
 pub page-refusal-spec : {M : Type 1} → statement M
-page-refusal-spec = tie.close (tie.spec pool-refusal-requires returns returns-2 returns-3)
+page-refusal-spec =
+    tie.close (tie.spec table-refusal-requires returns cast-if2 returns-2 returns-3)

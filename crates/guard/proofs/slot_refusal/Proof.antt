@@ -1,12 +1,12 @@
 -- `guard::slot_refusal` meets its contract: the rules of the handle, and then rule 4. Assumes nothing.
 use mathlib.Core.Path.{sym, _∙_}
 use mathlib.Core.List.{[], _∷_}
+use native.Mathlib.Omega.{arith}
 use borrow.Author.Tests.{lt-ltb, le-ltb}
 use Rattle.machine.specs.TestLaws.{kept-then, broken-here, none-broken}
 use Rattle.machine.specs.Machine.{State, state}
 use Rattle.machine.specs.Rules.{rule4}
 use Rattle.machine.specs.RuleLaws.{handle-stops, handle-passes}
-use borrow.Author.Needs.{needs}
 use Rattle.guard.proofs.slot_refusal.Statement.{statement}
 use Rattle.guard.proofs.slot_refusal.Tie as tie
 
@@ -14,16 +14,22 @@ abbrev given : tie.Start → State
 given c = let a = c .args in state (a .pool) (a .frames .now) (a .store .now)
 
 handle-refusal-requires : tie.Need-handle-refusal-requires
-handle-refusal-requires c κs = search needs
+handle-refusal-requires c κs = c .before .before .before .before .pre
 
 returns : tie.Need-returns
-returns c = handle-stops (given (c .before .before .before .before)) (c .before .before .before .before .args .handle) (rule4 (c .before .before .before .before .args .slot) ∷ []) (c .before .handle-refusal .ensures) (c .if1 .taken)
+returns c =
+    let a = c .before .before .before .before .before .before .args in
+    (handle-stops (given (c .before .before .before .before .before .before)) (a .handle) (rule4 (a .slot) ∷ []) (c .before .handle-refusal .ensures .0) (c .if1 .taken), λ z. absurd (c .if1 .taken z))
 
 returns-2 : tie.Need-returns-2
-returns-2 c = handle-passes (given (c .before .before .before .before .before)) (c .before .before .before .before .before .args .handle) (rule4 (c .before .before .before .before .before .args .slot) ∷ []) (c .before .before .handle-refusal .ensures) (c .before .if1 .left) (sym (broken-here 4 [] (le-ltb _ _ (c .if2 .taken))))
+returns-2 c =
+    let a = c .before .before .before .before .before .before .before .args in
+    (handle-passes (given (c .before .before .before .before .before .before .before)) (a .handle) (rule4 (a .slot) ∷ []) (c .before .before .handle-refusal .ensures .0) (c .before .if1 .left) (sym (broken-here 4 [] (le-ltb _ _ (c .if2 .taken)))), λ y. absurd (omega arith))
 
 returns-3 : tie.Need-returns-3
-returns-3 c = handle-passes (given (c .before .before .before .before .before)) (c .before .before .before .before .before .args .handle) (rule4 (c .before .before .before .before .before .args .slot) ∷ []) (c .before .before .handle-refusal .ensures) (c .before .if1 .left) (sym (kept-then 4 [] (lt-ltb _ _ (c .if2 .left)) ∙ none-broken))
+returns-3 c =
+    let a = c .before .before .before .before .before .before .before .args in
+    (handle-passes (given (c .before .before .before .before .before .before .before)) (a .handle) (rule4 (a .slot) ∷ []) (c .before .before .handle-refusal .ensures .0) (c .before .if1 .left) (sym (kept-then 4 [] (lt-ltb _ _ (c .if2 .left)) ∙ none-broken)), λ y. c .before .before .handle-refusal .ensures .1 (c .before .if1 .left))
 
 pub slot-refusal-spec : {M : Type 1} → statement M
 slot-refusal-spec = tie.close (tie.spec handle-refusal-requires returns returns-2 returns-3)

@@ -9,13 +9,10 @@ use Rattle.moves.proofs.settle_pages.Statement.{statement}
 use Rattle.moves.proofs.settle_pages.Tie as tie
 
 abbrev Inv-loop : tie.InvT-loop
-Inv-loop frames store₀ table count next₀ f₀ store next f = (f ≤ count) × (length store ≡ length store₀) × Settling next₀ next frames store₀ store f
+Inv-loop table frames store₀ next₀ count f₀ store next f = (f ≤ count) × (length store ≡ length store₀) × Settling next₀ next frames store₀ store f
 
 abbrev μ-loop : tie.MeasureT-loop
-μ-loop frames store₀ table count next₀ f₀ store next f = count - f
-
-page-table-requires : tie.Need-page-table-requires Inv-loop μ-loop
-page-table-requires c κs = search needs
+μ-loop table frames store₀ next₀ count f₀ store next f = count - f
 
 cast-count : tie.Need-cast-count Inv-loop μ-loop
 cast-count c = search needs
@@ -29,11 +26,11 @@ mul-record c = search needs
 element-copy-out-record : tie.Need-element-copy-out-record Inv-loop μ-loop
 element-copy-out-record c = search needs
 
-cast-t20 : tie.Need-cast-t20 Inv-loop μ-loop
-cast-t20 c = search needs
+cast-t18 : tie.Need-cast-t18 Inv-loop μ-loop
+cast-t18 c = search needs
 
-write-out-by-table-requires : tie.Need-write-out-by-table-requires Inv-loop μ-loop
-write-out-by-table-requires c κs = let l = c .before .before .before .before .loop in settling-writable (l .inv .2) (c .before .before .before .before .before .before .before .before .before .before .pre) (c .before .before .before .loop-test .taken) (l .inv .1)
+write-out-requires : tie.Need-write-out-requires Inv-loop μ-loop
+write-out-requires c κs = let l = c .before .before .before .loop in settling-writable (l .inv .2) (c .before .before .before .before .before .before .pre .0) (c .before .before .loop-test .taken) (l .inv .1)
 
 mul-record-2 : tie.Need-mul-record-2 Inv-loop μ-loop
 mul-record-2 c = search needs
@@ -48,7 +45,7 @@ loop-less : tie.Need-loop-less Inv-loop μ-loop
 loop-less c = search needs
 
 loop-again : tie.Need-loop-again Inv-loop μ-loop
-loop-again c = (omega arith, omega arith, settling-more (c .before .before .before .before .before .before .before .loop .inv .2) (c .before .before .before .before .before .before .before .before .before .before .before .before .before .pre) (c .before .before .before .before .before .before .loop-test .taken) (c .before .before .before .before .before .before .before .before .before .page-table .ensures) (c .before .before .write-out-by-table .ensures))
+loop-again c = let a = c .before .before .before .before .before .before .before .before .before in (omega arith, omega arith, settling-more (c .before .before .before .before .before .before .loop .inv .2) (a .pre .0) (c .before .before .before .before .before .loop-test .taken) (a .pre .1) (c .before .before .write-out .ensures))
 
 same-length : tie.Need-same-length Inv-loop μ-loop
 same-length c = c .before .loop .inv .1
@@ -62,13 +59,12 @@ settle-pages-spec =
     (tie.spec
     Inv-loop
     μ-loop
-    page-table-requires
     cast-count
     loop-holds
     mul-record
     element-copy-out-record
-    cast-t20
-    write-out-by-table-requires
+    cast-t18
+    write-out-requires
     mul-record-2
     element-set-from-record
     add-f

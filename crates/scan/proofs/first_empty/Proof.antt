@@ -6,49 +6,46 @@ use mathlib.Core.List.{List}
 use native.Mathlib.Omega.{arith}
 use native.Mathlib.Nat.{sub-zero}
 use borrow.Author.Needs.{needs}
-use borrow.Author.Tests.{not-true, not-false}
 use Rattle.page.specs.declared.FrameIndex.{FrameIndex}
-use Rattle.machine.specs.declared.FrameRecord.{FrameRecord}
-use Rattle.machine.specs.TestLaws.{pick-yes, pick-no}
-use Rattle.machine.specs.Machine.{recordAt, frameIndex}
-use Rattle.machine.specs.Sweep.{after, emptyFrom}
+use Rattle.machine.specs.TestLaws.{call-no, call-yes, pick-yes, pick-no}
+use Rattle.machine.specs.Machine.{frameIndex}
+use Rattle.machine.specs.Sweep.{after}
+use Rattle.residents.specs.Table.{holdsPage}
+use Rattle.scan.specs.ByTable.{emptyBy}
 use Rattle.scan.proofs.first_empty.Statement.{statement}
 use Rattle.scan.proofs.first_empty.Tie as tie
 
 abbrev Inv-loop : tie.InvT-loop
-Inv-loop records count frame₀ passed₀ frame passed =
-    (passed ≤ count) × (frame .0 < count) × (emptyFrom records count count (frame₀ .0) ≡ emptyFrom records count (count - passed) (frame .0))
+Inv-loop pages count frame₀ passed₀ frame passed =
+    (passed ≤ count) × (frame .0 < count) × (emptyBy pages count count (frame₀ .0) ≡ emptyBy pages count (count - passed) (frame .0))
 
 abbrev μ-loop : tie.MeasureT-loop
-μ-loop records count frame₀ passed₀ frame passed = count - passed
+μ-loop pages count frame₀ passed₀ frame passed = count - passed
 
-module _ (rs : List FrameRecord) (n i h : ℕ) where
-  here : i < n → recordAt rs h .used ≡ false → emptyFrom rs n (n - i) h ≡ h
-  unfolding emptyFrom
+module _ (table : List ℕ) (n i h : ℕ) where
+  here : i < n → holdsPage table h ≡ false → emptyBy table n (n - i) h ≡ h
+  unfolding emptyBy
   here l u = let s : n - i ≡ suc (n - (i + 1)) = omega arith in rw s (sym (pick-no _ u refl))
 
-  on : (g : FrameIndex) → i < n → recordAt rs h .used ≡ true → g ≡ frameIndex (after n h) → emptyFrom rs n (n - i) h ≡ emptyFrom rs n (n - (i + 1)) (g .0)
-  unfolding emptyFrom
+  on : (g : FrameIndex) → i < n → holdsPage table h ≡ true → g ≡ frameIndex (after n h) → emptyBy table n (n - i) h ≡ emptyBy table n (n - (i + 1)) (g .0)
+  unfolding emptyBy
   on g l u e = let s : n - i ≡ suc (n - (i + 1)) = omega arith in rw (s, e) (sym (pick-yes _ u refl))
 
-  past : n ≤ i → emptyFrom rs n (n - i) h ≡ n
-  unfolding emptyFrom
+  past : n ≤ i → emptyBy table n (n - i) h ≡ n
+  unfolding emptyBy
   past l = let s : n - i ≡ 0 = omega arith in rw s
 
 loop-holds : tie.Need-loop-holds Inv-loop μ-loop
 loop-holds c = (omega arith, omega arith, rw sub-zero)
 
-cast-at : tie.Need-cast-at Inv-loop μ-loop
-cast-at c = search needs
+holds-page-requires : tie.Need-holds-page-requires Inv-loop μ-loop
+holds-page-requires c κs = search needs
 
-mul-rec : tie.Need-mul-rec Inv-loop μ-loop
-mul-rec c = search needs
-
-array-copy-out-rec : tie.Need-array-copy-out-rec Inv-loop μ-loop
-array-copy-out-rec c = search needs
+cast-result : tie.Need-cast-result Inv-loop μ-loop
+cast-result c = search needs
 
 returns : tie.Need-returns Inv-loop μ-loop
-returns c = sym (c .before .before .before .before .loop .inv .2 ∙ here _ _ _ _ (c .before .before .before .loop-test .taken) (not-true _ (c .if1 .taken)))
+returns c = sym (c .before .before .before .before .loop .inv .2 ∙ here _ _ _ _ (c .before .before .before .loop-test .taken) (call-no (c .before .before .holds-page .ensures) (c .before .if1 .taken)))
 
 next-frame-requires : tie.Need-next-frame-requires Inv-loop μ-loop
 next-frame-requires c κs = search needs
@@ -61,10 +58,7 @@ loop-less c = search needs
 
 loop-again : tie.Need-loop-again Inv-loop μ-loop
 loop-again c =
-    (omega arith, c .next-frame .ensures .1, c .before .before .before .before .before .loop .inv .2 ∙ on _ _ _ _ _ (c .before .before .before .before .loop-test .taken) (not-false _ (c .before .if1 .left)) (c .next-frame .ensures .0))
-
-cast-result : tie.Need-cast-result Inv-loop μ-loop
-cast-result c = search needs
+    (omega arith, c .next-frame .ensures .1, c .before .before .before .before .loop .inv .2 ∙ on _ _ _ _ _ (c .before .before .before .loop-test .taken) (call-yes (c .before .before .holds-page .ensures) (c .before .if1 .left)) (c .next-frame .ensures .0))
 
 returns-2 : tie.Need-returns-2 Inv-loop μ-loop
 returns-2 c = sym (c .before .loop .inv .2 ∙ past _ _ _ _ (c .loop-test .left))
@@ -76,13 +70,11 @@ first-empty-spec =
     Inv-loop
     μ-loop
     loop-holds
-    cast-at
-    mul-rec
-    array-copy-out-rec
+    holds-page-requires
+    cast-result
     returns
     next-frame-requires
     add-passed
     loop-less
     loop-again
-    cast-result
     returns-2)

@@ -1,20 +1,35 @@
--- `is_blank` meets its contract: nothing is gathered from an all-zero record alone. Assumes nothing.
+-- `is_blank` meets its contract. Assumes nothing.
 use borrow.Author.Needs.{needs}
-use Rattle.agreement.specs.Deciding.{decide-by}
+use mathlib.Core.Path.{sym, _∙_}
+use Rattle.machine.specs.TestLaws.{clash}
+use Rattle.agreement.specs.Deciding.{decide-equal}
+use Rattle.agreement.specs.Fit.{Blank}
 use Rattle.agreement.proofs.record.is_blank.Statement.{statement}
 use Rattle.agreement.proofs.record.is_blank.Tie as tie
 
-no-fields-requires : tie.Need-no-fields-requires
-no-fields-requires c κs = search needs
-
-gather-requires : tie.Need-gather-requires
-gather-requires c κs = search needs
-
-is-nothing-requires : tie.Need-is-nothing-requires
-is-nothing-requires c κs = search needs
-
 returns : tie.Need-returns
-returns c = decide-by (c .is-nothing .result) _ _ (c .before .gather .ensures .blank) (λ b. c .before .gather .ensures .nothing (c .before .before .no-fields .ensures) b) (c .is-nothing .ensures)
+returns c = λ b. clash (sym (c .if1 .taken) ∙ b .used)
+
+returns-2 : tie.Need-returns-2
+returns-2 c = λ b. clash (sym (c .if2 .taken) ∙ b .dirty)
+
+returns-3 : tie.Need-returns-3
+returns-3 c = search needs
+
+returns-4 : tie.Need-returns-4
+returns-4 c = search needs
+
+returns-5 : tie.Need-returns-5
+returns-5 c = search needs
+
+returns-6 : tie.Need-returns-6
+returns-6 c = search needs
+
+returns-7 : tie.Need-returns-7
+returns-7 c =
+    decide-equal _ 0 (Blank (c .before .before .before .before .before .before .before .before .before .before .before .args .rec))
+    (λ e. record { used = c .before .before .before .before .before .before .before .before .before .before .if1 .left; dirty = c .before .before .before .before .before .before .before .before .before .if2 .left; usage = c .before .before .before .before .before .before .before .if3 .left; slot = c .before .before .before .before .before .if4 .left; parent = c .before .before .before .if5 .left; pins = c .before .if6 .left; page = e })
+    (λ b. b .page)
 
 pub is-blank-spec : {M : Type 1} → statement M
-is-blank-spec = tie.close (tie.spec no-fields-requires gather-requires is-nothing-requires returns)
+is-blank-spec = tie.close (tie.spec returns returns-2 returns-3 returns-4 returns-5 returns-6 returns-7)

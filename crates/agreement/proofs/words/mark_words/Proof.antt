@@ -3,45 +3,42 @@ use borrow.Author.Needs.{needs}
 use Prim.Native.Nat.{ℕ, _≤_, _<_, _+_, _-_}
 use native.Mathlib.Nat.{add-zero, add-assoc}
 use native.Mathlib.Omega.{arith}
-use mathlib.Core.Path.{_≡_, sym, _∙_, ap}
+use mathlib.Core.Path.{_≡_, sym, _∙_}
 use mathlib.Core.Logic.{⊎-elim}
 use Rattle.machine.specs.TestLaws.{clash}
 use Rattle.agreement.specs.Seen.{Passed, Progress, progress}
-use Rattle.agreement.specs.Fit.{numberBelow, HasWords}
-use Rattle.agreement.specs.FitLaws.{below-lt}
+use Rattle.agreement.specs.Fit.{HasWords}
+use Rattle.agreement.specs.FitLaws.{numbers-lt}
 use Rattle.agreement.proofs.words.mark_words.Statement.{statement}
 use Rattle.agreement.proofs.words.mark_words.Tie as tie
 
 abbrev Inv-loop : tie.InvT-loop
-Inv-loop frames start pages seen₀ fresh₀ k₀ seen fresh k =
+Inv-loop frames start pages seen₀ numbers fresh₀ k₀ seen fresh k =
     (k ≤ 16) × ((row : ℕ → ℕ) (i : ℕ) → HasWords frames pages start row i → Passed pages row i seen₀ → Progress pages row (i + k) seen fresh)
 
 abbrev μ-loop : tie.MeasureT-loop
-μ-loop frames start pages seen₀ fresh₀ k₀ seen fresh k = 16 - k
+μ-loop frames start pages seen₀ numbers fresh₀ k₀ seen fresh k = 16 - k
+
+numbers-below-requires : tie.Need-numbers-below-requires Inv-loop μ-loop
+numbers-below-requires c κs = search needs
 
 loop-holds : tie.Need-loop-holds Inv-loop μ-loop
 loop-holds c = (omega arith, λ row i h t. rw add-zero t)
 
-mul-word-at : tie.Need-mul-word-at Inv-loop μ-loop
-mul-word-at c = search needs
+mul-x : tie.Need-mul-x Inv-loop μ-loop
+mul-x c = search needs
 
-add-word-at : tie.Need-add-word-at Inv-loop μ-loop
-add-word-at c = search needs
-
-word-at-requires : tie.Need-word-at-requires Inv-loop μ-loop
-word-at-requires c κs = search needs
-
-number-below-requires : tie.Need-number-below-requires Inv-loop μ-loop
-number-below-requires c κs = search needs
+array-read-x : tie.Need-array-read-x Inv-loop μ-loop
+array-read-x c = search needs
 
 cast-x : tie.Need-cast-x Inv-loop μ-loop
 cast-x c = search needs
 
 element-copy-out-if1 : tie.Need-element-copy-out-if1 Inv-loop μ-loop
-element-copy-out-if1 c = omega (arith, c .number-below .ensures, below-lt (c .before .before .before .before .before .args .pages) (c .before .word-at .result) (c .before .before .before .before .before .pre .0))
+element-copy-out-if1 c = omega (arith, numbers-lt _ _ _ _ (c .before .before .before .before .pre .0) (c .before .before .numbers-below .ensures) (c .before .loop .k) (omega arith))
 
 element-write-seen : tie.Need-element-write-seen Inv-loop μ-loop
-element-write-seen c = omega (arith, c .before .before .number-below .ensures, below-lt (c .before .before .before .before .before .before .before .args .pages) (c .before .before .before .word-at .result) (c .before .before .before .before .before .before .before .pre .0))
+element-write-seen c = omega (arith, numbers-lt _ _ _ _ (c .before .before .before .before .before .before .pre .0) (c .before .before .before .before .numbers-below .ensures) (c .before .before .before .loop .k) (omega arith))
 
 element-write-seen-2 : tie.Need-element-write-seen-2 Inv-loop μ-loop
 element-write-seen-2 c = search needs
@@ -56,14 +53,14 @@ loop-again : tie.Need-loop-again Inv-loop μ-loop
 loop-again c = (
   omega arith,
   λ row i h t.
-      let kl : c .before .before .before .before .before .loop .k < 16 = omega arith in
-      let e : row (i + c .before .before .before .before .before .loop .k) ≡ c .before .before .number-below .result = h (c .before .before .before .before .before .loop .k) kl ∙ ap (numberBelow (c .before .before .before .before .before .before .before .args .pages)) (sym (c .before .before .before .word-at .ensures)) ∙ sym (c .before .before .number-below .ensures) in
-      let l : c .before .before .number-below .result < c .before .before .before .before .before .before .before .args .pages = omega (arith, c .before .before .number-below .ensures, below-lt (c .before .before .before .before .before .before .before .args .pages) (c .before .before .before .word-at .result) (c .before .before .before .before .before .before .before .pre .0)) in
+      let k : c .before .before .before .loop .k < 16 = omega arith in
       rw (← add-assoc)
-      (progress _ row _ (c .before .before .before .before .before .loop .seen) _ e l _ _
+      (progress _ row _ (c .before .before .before .loop .seen) _
+      (h _ k ∙ sym (c .before .before .before .before .numbers-below .ensures .right _ k))
+      (numbers-lt _ _ _ _ (c .before .before .before .before .before .before .pre .0) (c .before .before .before .before .numbers-below .ensures) _ k) _ _
       (λ u. ⊎-elim (λ a. a .1) (λ a. absurd (clash (sym u ∙ a .0 .left))) (c .if1 .came))
       (λ u. ⊎-elim (λ a. absurd (clash (sym (a .0 .taken) ∙ u))) (λ a. a .1) (c .if1 .came))
-      (c .before .before .before .before .before .loop .inv .1 row i h t)),
+      (c .before .before .before .loop .inv .1 row i h t)),
 )
 
 returns : tie.Need-returns Inv-loop μ-loop
@@ -75,11 +72,10 @@ mark-words-spec =
     (tie.spec
     Inv-loop
     μ-loop
+    numbers-below-requires
     loop-holds
-    mul-word-at
-    add-word-at
-    word-at-requires
-    number-below-requires
+    mul-x
+    array-read-x
     cast-x
     element-copy-out-if1
     element-write-seen

@@ -1,16 +1,22 @@
--- `changes::refusals::link_refusal` meets its contract: the rules of the slot, and then rules 6, 8 and 9. Assumes nothing.
-use Prim.Native.Nat.{ℕ, _≤_, _<_}
+-- `changes::refusals::link_refusal` meets its contract: the rules of the slot, and then rules 6, 8 and 9, the last by the tables. Assumes nothing.
+use Prim.Native.Nat.{ℕ, _/_, _≤_, _<_}
 use mathlib.Core.Path.{_≡_, sym, ap, _∙_}
-use mathlib.Core.Bool.{true, false, not}
+use mathlib.Core.Bool.{Bool, true, false, not}
 use mathlib.Core.List.{List, [], _∷_}
 use native.Mathlib.Omega.{arith}
 use borrow.Author.Tests.{lt-ltb, le-ltb, eq-eqb, ne-eqb}
 use lib.Dec.{ltb}
-use Rattle.machine.specs.Tests.{_and_, Rule}
+use lib.ListN.{length}
+use Rattle.page.specs.Figures.{pageSize}
+use Rattle.machine.specs.Tests.{_and_, Rule, firstBroken}
 use Rattle.machine.specs.TestLaws.{and-yes, and-no, kept-then, broken-here, none-broken}
 use Rattle.machine.specs.Machine.{State, state}
+use Rattle.machine.specs.Naming.{named}
 use Rattle.machine.specs.Rules.{wordOf, rule6-link, rule8, rule9}
+use Rattle.machine.specs.Calls.{linkRules}
 use Rattle.machine.specs.RuleLaws.{SlotKept, slot-kept, slot-stops, slot-passes}
+use Rattle.residents.specs.Handed.{Handed}
+use Rattle.naming.specs.ByTable.{namedBy, named-by}
 use borrow.Author.Needs.{needs}
 use Rattle.changes.proofs.refusals.link_refusal.Statement.{statement}
 use Rattle.changes.proofs.refusals.link_refusal.Tie as tie
@@ -32,46 +38,71 @@ past-pages q n h l = sym (and-yes (lt-ltb 0 q (omega arith)) (sym (le-ltb q n l)
 a-page : (q n : ℕ) → (q ≡ 0 → ⊥) → q < n → (ltb 0 q and ltb q n) ≡ true
 a-page q n h l = sym (and-yes (lt-ltb 0 q (omega arith)) (sym (lt-ltb q n l)))
 
--- past the rules of the slot
-kept : (c : tie.Else1) → SlotKept (given (c .before .before .before .before)) (c .before .before .before .before .args .handle) (c .before .before .before .before .args .slot)
-kept c = slot-kept (given (c .before .before .before .before)) (c .before .before .before .before .args .handle) (c .before .before .before .before .args .slot) (sym (c .before .slot-refusal .ensures) ∙ c .if1 .left)
+-- past the rules of the slot, and then by the rest
+kept : (c : tie.Else1) → SlotKept (given (c .before .before .before .before .before .before)) (c .before .before .before .before .before .before .args .handle) (c .before .before .before .before .before .before .args .slot)
+kept c = slot-kept (given (c .before .before .before .before .before .before)) (c .before .before .before .before .before .before .args .handle) (c .before .before .before .before .before .before .args .slot) (sym (c .before .slot-refusal .ensures .0) ∙ c .if1 .left)
+
+passed : (c : tie.Else1) {m : ℕ} → m ≡ firstBroken (rest (c .before .before .before .before .before .before)) → m ≡ firstBroken (linkRules (given (c .before .before .before .before .before .before)) (c .before .before .before .before .before .before .args .handle) (c .before .before .before .before .before .before .args .slot) (c .before .before .before .before .before .before .args .page))
+passed c = slot-passes (given (c .before .before .before .before .before .before)) (c .before .before .before .before .before .before .args .handle) (c .before .before .before .before .before .before .args .slot) (rest (c .before .before .before .before .before .before)) (c .before .slot-refusal .ensures .0) (c .if1 .left)
+
+-- N by the store's length
+stored : (c : tie.Else1) → length (c .before .before .before .before .before .before .args .store .now) / pageSize ≡ c .before .before .before .before .before .before .args .pool .pages
+stored c = omega (arith, kept c .kept .sized .store)
+
+-- past rule 6
+below : (c : tie.Else3) → c .before .before .before .before .before .before .before .before .before .before .args .page .0 < c .before .before .before .before .before .before .before .before .before .before .args .pool .pages
+below c = omega (arith, stored (c .before .before .before .before), c .if3 .left)
+
+numbered : (c : tie.Else3) → let a = c .before .before .before .before .before .before .before .before .before .before .args in (ltb 0 (a .page .0) and ltb (a .page .0) (a .pool .pages)) ≡ true
+numbered c = a-page _ _ (c .before .before .if2 .left) (below c)
+
+-- what the tables tell is what rule 9 asks
+told : (c : tie.Else3) {pages : List ℕ} {seen : List Bool} → let a = c .before .before .before .before .before .before .before .before .before .before .args in Handed (a .pool) (a .frames .now) pages seen → namedBy pages seen (a .store .now) (length (a .store .now) / pageSize) (a .page .0) ≡ named (given (c .before .before .before .before .before .before .before .before .before .before)) (a .page .0)
+told c {pages} {seen} h =
+    let a = c .before .before .before .before .before .before .before .before .before .before .args in
+    let z = c .before .before .if2 .left in
+    ap (λ (n : ℕ). namedBy pages seen (a .store .now) n (a .page .0)) (stored (c .before .before .before .before)) ∙ named-by (given (c .before .before .before .before .before .before .before .before .before .before)) (kept (c .before .before .before .before) .kept) h (a .page .0) (omega arith) (below c)
 
 slot-refusal-requires : tie.Need-slot-refusal-requires
 slot-refusal-requires c κs = search needs
 
 returns : tie.Need-returns
-returns c = slot-stops (given (c .before .before .before .before)) (c .before .before .before .before .args .handle) (c .before .before .before .before .args .slot) (rest (c .before .before .before .before)) (c .before .slot-refusal .ensures) (c .if1 .taken)
+returns c = slot-stops (given (c .before .before .before .before .before .before)) (c .before .before .before .before .before .before .args .handle) (c .before .before .before .before .before .before .args .slot) (rest (c .before .before .before .before .before .before)) (c .before .slot-refusal .ensures .0) (c .if1 .taken)
 
 returns-2 : tie.Need-returns-2
-returns-2 c =
-    slot-passes (given (c .before .before .before .before .before .before)) (c .before .before .before .before .before .before .args .handle) (c .before .before .before .before .before .before .args .slot) (rest (c .before .before .before .before .before .before)) (c .before .before .before .slot-refusal .ensures) (c .before .before .if1 .left)
-    (sym (broken-here 6 _ (no-page _ _ (c .if2 .taken))))
+returns-2 c = passed (c .before .before) (sym (broken-here 6 _ (no-page _ _ (c .if2 .taken))))
+
+cast-if3 : tie.Need-cast-if3
+cast-if3 c = search needs
 
 returns-3 : tie.Need-returns-3
 returns-3 c =
-    slot-passes (given (c .before .before .before .before .before .before .before .before .before)) (c .before .before .before .before .before .before .before .before .before .args .handle) (c .before .before .before .before .before .before .before .before .before .args .slot) (rest (c .before .before .before .before .before .before .before .before .before)) (c .before .before .before .before .before .before .slot-refusal .ensures) (c .before .before .before .before .before .if1 .left)
-    (sym (broken-here 6 _ (past-pages _ _ (c .before .before .before .if2 .left) (c .if3 .taken))))
+    let a = c .before .before .before .before .before .before .before .before .before .before .args in
+    let l : a .pool .pages ≤ a .page .0 = omega (arith, stored (c .before .before .before .before), c .if3 .taken) in
+    passed (c .before .before .before .before) (sym (broken-here 6 _ (past-pages _ _ (c .before .before .if2 .left) l)))
 
 slot-word-requires : tie.Need-slot-word-requires
-slot-word-requires c κs = let k = kept (c .before .before .before .before .before) in (omega arith, k .slot)
+slot-word-requires c κs = let k = kept (c .before .before .before .before) in (omega arith, k .slot)
 
 returns-4 : tie.Need-returns-4
-returns-4 c =
-    slot-passes (given (c .before .before .before .before .before .before .before .before .before .before .before)) (c .before .before .before .before .before .before .before .before .before .before .before .args .handle) (c .before .before .before .before .before .before .before .before .before .before .before .args .slot) (rest (c .before .before .before .before .before .before .before .before .before .before .before)) (c .before .before .before .before .before .before .before .before .slot-refusal .ensures) (c .before .before .before .before .before .before .before .if1 .left)
-    (sym (kept-then 6 _ (a-page _ _ (c .before .before .before .before .before .if2 .left) (c .before .before .if3 .left)) ∙ broken-here 8 _ (ne-eqb _ 0 (λ z. c .if4 .taken (c .before .slot-word .ensures ∙ z)))))
+returns-4 c = passed (c .before .before .before .before .before .before) (sym (kept-then 6 _ (numbered (c .before .before)) ∙ broken-here 8 _ (ne-eqb _ 0 (λ z. c .if4 .taken (c .before .slot-word .ensures ∙ z)))))
 
 is-named-requires : tie.Need-is-named-requires
-is-named-requires c κs = (kept (c .before .before .before .before .before .before .before) .kept, let z = c .before .before .before .before .before .if2 .left in omega arith)
+is-named-requires c κs =
+    let z = kept (c .before .before .before .before .before .before .before .before) .kept .sized in
+    let e = stored (c .before .before .before .before .before .before .before .before) in
+    let l = below (c .before .before .before .before) in
+    (omega arith, omega arith, omega arith)
 
 returns-5 : tie.Need-returns-5
 returns-5 c =
-    slot-passes (given (c .before .before .before .before .before .before .before .before .before .before .before .before .before)) (c .before .before .before .before .before .before .before .before .before .before .before .before .before .args .handle) (c .before .before .before .before .before .before .before .before .before .before .before .before .before .args .slot) (rest (c .before .before .before .before .before .before .before .before .before .before .before .before .before)) (c .before .before .before .before .before .before .before .before .before .before .slot-refusal .ensures) (c .before .before .before .before .before .before .before .before .before .if1 .left)
-    (sym (kept-then 6 _ (a-page _ _ (c .before .before .before .before .before .before .before .if2 .left) (c .before .before .before .before .if3 .left)) ∙ kept-then 8 _ (eq-eqb _ 0 (sym (c .before .before .before .slot-word .ensures) ∙ c .before .before .if4 .left)) ∙ broken-here 9 [] (ap not (sym (c .before .is-named .ensures) ∙ c .if5 .taken))))
+    passed (c .before .before .before .before .before .before .before .before .before .before)
+    (sym (kept-then 6 _ (numbered (c .before .before .before .before .before .before)) ∙ kept-then 8 _ (eq-eqb _ 0 (sym (c .before .before .before .before .before .slot-word .ensures) ∙ c .before .before .before .before .if4 .left)) ∙ broken-here 9 [] (ap not (sym (c .before .is-named .ensures ∙ told (c .before .before .before .before .before .before) (c .before .before .before .before .before .before .before .before .before .before .before .slot-refusal .ensures .1 (c .before .before .before .before .before .before .before .before .before .before .if1 .left))) ∙ c .if5 .taken))))
 
 returns-6 : tie.Need-returns-6
 returns-6 c =
-    slot-passes (given (c .before .before .before .before .before .before .before .before .before .before .before .before .before)) (c .before .before .before .before .before .before .before .before .before .before .before .before .before .args .handle) (c .before .before .before .before .before .before .before .before .before .before .before .before .before .args .slot) (rest (c .before .before .before .before .before .before .before .before .before .before .before .before .before)) (c .before .before .before .before .before .before .before .before .before .before .slot-refusal .ensures) (c .before .before .before .before .before .before .before .before .before .if1 .left)
-    (sym (kept-then 6 _ (a-page _ _ (c .before .before .before .before .before .before .before .if2 .left) (c .before .before .before .before .if3 .left)) ∙ kept-then 8 _ (eq-eqb _ 0 (sym (c .before .before .before .slot-word .ensures) ∙ c .before .before .if4 .left)) ∙ kept-then 9 [] (ap not (sym (c .before .is-named .ensures) ∙ c .if5 .left)) ∙ none-broken))
+    passed (c .before .before .before .before .before .before .before .before .before .before)
+    (sym (kept-then 6 _ (numbered (c .before .before .before .before .before .before)) ∙ kept-then 8 _ (eq-eqb _ 0 (sym (c .before .before .before .before .before .slot-word .ensures) ∙ c .before .before .before .before .if4 .left)) ∙ kept-then 9 [] (ap not (sym (c .before .is-named .ensures ∙ told (c .before .before .before .before .before .before) (c .before .before .before .before .before .before .before .before .before .before .before .slot-refusal .ensures .1 (c .before .before .before .before .before .before .before .before .before .before .if1 .left))) ∙ c .if5 .left)) ∙ none-broken))
 
 pub link-refusal-spec : {M : Type 1} → statement M
 link-refusal-spec =
@@ -80,6 +111,7 @@ link-refusal-spec =
     slot-refusal-requires
     returns
     returns-2
+    cast-if3
     returns-3
     slot-word-requires
     returns-4

@@ -21,19 +21,19 @@ handle-refusal-requires : tie.Need-handle-refusal-requires
 handle-refusal-requires c κs = search needs
 
 returns : tie.Need-returns
-returns c = handle-stops (given (c .before .before .before .before)) (c .before .before .before .before .args .handle) (rest (c .before .before .before .before)) (c .before .handle-refusal .ensures) (c .if1 .taken)
+returns c = handle-stops (given (c .before .before .before .before .before .before)) (c .before .before .before .before .before .before .args .handle) (rest (c .before .before .before .before .before .before)) (c .before .handle-refusal .ensures .0) (c .if1 .taken)
 
 range-fits-requires : tie.Need-range-fits-requires
 range-fits-requires c κs = search needs
 
 returns-2 : tie.Need-returns-2
 returns-2 c =
-    handle-passes (given (c .before .before .before .before .before .before)) (c .before .before .before .before .before .before .args .handle) (rest (c .before .before .before .before .before .before)) (c .before .before .before .handle-refusal .ensures) (c .before .before .if1 .left)
+    handle-passes (given (c .before .before .before .before .before .before .before .before)) (c .before .before .before .before .before .before .before .before .args .handle) (rest (c .before .before .before .before .before .before .before .before)) (c .before .before .before .handle-refusal .ensures .0) (c .before .before .if1 .left)
     (sym (broken-here 5 [] (call-no (c .before .range-fits .ensures) (c .if2 .taken))))
 
 returns-3 : tie.Need-returns-3
 returns-3 c =
-    handle-passes (given (c .before .before .before .before .before .before)) (c .before .before .before .before .before .before .args .handle) (rest (c .before .before .before .before .before .before)) (c .before .before .before .handle-refusal .ensures) (c .before .before .if1 .left)
+    handle-passes (given (c .before .before .before .before .before .before .before .before)) (c .before .before .before .before .before .before .before .before .args .handle) (rest (c .before .before .before .before .before .before .before .before)) (c .before .before .before .handle-refusal .ensures .0) (c .before .before .if1 .left)
     (sym (kept-then 5 [] (call-yes (c .before .range-fits .ensures) (c .if2 .left)) ∙ none-broken))
 
 pub write-refusal-spec : {M : Type 1} → statement M

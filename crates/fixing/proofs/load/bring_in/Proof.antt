@@ -1,76 +1,244 @@
--- `fixing::load::bring_in` meets its contract. Assumes nothing.
+-- `fixing::load::bring_in` meets its contract: the first f frames are seen, the sweep walks over what was seen, and the first g frames are left as it left them. Assumes nothing.
+use Prim.Native.Nat.{_≤_, _-_}
+use mathlib.Core.Path.{_≡_, refl}
+use native.Mathlib.Omega.{arith}
+use borrow.Author.Tests.{not-true, not-false}
 use Rattle.machine.specs.TestLaws.{call-no, call-yes}
+use Rattle.machine.specs.Machine.{state}
+use Rattle.machine.specs.Answers.{Out}
 use Rattle.machine.specs.Ready.{ready}
-use Rattle.fixing.specs.StepLaws.{miss-denied, miss-empty, miss-full}
+use Rattle.scan.specs.Walk.{Sees, sees-none, sees-next}
+use Rattle.fixing.specs.Steps.{missDecided, sweptDecided}
+use Rattle.fixing.specs.StepLaws.{Cooling, Took, cooling-none, cooling-next, took, loadable-told, empty-told, load-given, victim-below, victim-removable, victim-fitting, swept-given, swept-denied, miss-denied, miss-empty, miss-full}
 use borrow.Author.Needs.{needs}
 use Rattle.fixing.proofs.load.bring_in.Statement.{statement}
 use Rattle.fixing.proofs.load.bring_in.Tie as tie
 
-is-loadable-requires : tie.Need-is-loadable-requires
+abbrev Inv-loop : tie.InvT-loop
+Inv-loop pool frames store parent slot page pages seen next n hand count most empty usages₀ f₀ usages f = (f ≤ most) × Sees (next .records) frames usages f
+
+abbrev μ-loop : tie.MeasureT-loop
+μ-loop pool frames store parent slot page pages seen next n hand count most empty usages₀ f₀ usages f = most - f
+
+abbrev Inv-loop2 : tie.InvT-loop2
+Inv-loop2 frames store parent slot page pages seen next₀ n count most empty usages f walk taken g₀ next g = (g ≤ most) × Cooling next₀ next usages g
+
+abbrev μ-loop2 : tie.MeasureT-loop2
+μ-loop2 frames store parent slot page pages seen next₀ n count most empty usages f walk taken g₀ next g = most - g
+
+-- rule 14 is kept, and no frame is empty
+full : (c : tie.Else2 Inv-loop μ-loop Inv-loop2 μ-loop2) → let a = c .before .before .before .before .before .before .before .before .before .args in (x : Out) → let s = state (a .pool) (a .frames .now) (a .store .now) in x ≡ sweptDecided s (a .parent .0) (a .slot) (a .page .0) → x ≡ missDecided s (a .parent .0) (a .slot) (a .page .0)
+full c x = let h = c .before .before .before .before .before .before .before .before .before .pre in miss-full _ _ _ _ (call-yes (loadable-told _ (h .0) (h .1) _ (c .before .before .before .before .is-loadable .ensures)) (c .before .before .before .if1 .left)) (empty-told _ (h .0) (h .1) (c .before .first-empty .ensures)) (c .if2 .left)
+
+-- the sweep sees every frame
+seen-all : (c : tie.After-loop Inv-loop μ-loop Inv-loop2 μ-loop2) → let a = c .before .before .before .before .before .before .before .before .before .before .before .args in Sees (a .pool .records) (a .frames .now) (c .before .loop .usages) (a .pool .count)
+seen-all c =
+    let e : c .before .loop .f ≡ c .before .before .before .before .before .before .before .before .before .before .before .args .pool .count = omega arith in
+    rw e at (c .before .loop .inv .1)
+
+-- a frame was taken, and the records are as the sweep leaves them
+taken : (c : tie.After-loop2 Inv-loop μ-loop Inv-loop2 μ-loop2) → let a = c .before .before .before .before .before .before .before .before .before .before .before .before .before .before .before .before .args in Took (state (a .pool) (a .frames .now) (a .store .now)) (c .before .before .before .sweep .result) (c .before .loop2 .next)
+taken c =
+    let e : c .before .loop2 .g ≡ c .before .before .before .before .before .before .before .before .before .before .before .before .before .before .before .before .args .pool .count = omega arith in
+    took _ (ready _ (c .before .before .before .before .before .before .before .before .before .before .before .before .before .before .before .before .pre .0)) (seen-all (c .before .before .before .before .before)) (c .before .before .before .sweep .ensures) (not-false _ (c .before .before .if3 .left)) (rw e at (c .before .loop2 .inv .1))
+
+is-loadable-requires : tie.Need-is-loadable-requires Inv-loop μ-loop Inv-loop2 μ-loop2
 is-loadable-requires c κs = search needs
 
-refused-requires : tie.Need-refused-requires
+refused-requires : tie.Need-refused-requires Inv-loop μ-loop Inv-loop2 μ-loop2
 refused-requires c κs = search needs
 
-same-length : tie.Need-same-length
+same-length : tie.Need-same-length Inv-loop μ-loop Inv-loop2 μ-loop2
 same-length c = search needs
 
-same-length-2 : tie.Need-same-length-2
-same-length-2 c = search needs
+returns : tie.Need-returns Inv-loop μ-loop Inv-loop2 μ-loop2
+returns c = let h = c .before .before .before .before .before .before .before .pre in miss-denied _ _ _ _ (call-no (loadable-told _ (h .0) (h .1) _ (c .before .before .is-loadable .ensures)) (c .before .if1 .taken)) (c .refused .ensures)
 
-returns : tie.Need-returns
-returns c = miss-denied _ _ _ _ (call-no (c .before .before .is-loadable .ensures) (c .before .if1 .taken)) (c .refused .ensures)
+cast-most : tie.Need-cast-most Inv-loop μ-loop Inv-loop2 μ-loop2
+cast-most c = search needs
 
-first-empty-requires : tie.Need-first-empty-requires
+first-empty-requires : tie.Need-first-empty-requires Inv-loop μ-loop Inv-loop2 μ-loop2
 first-empty-requires c κs = search needs
 
-cast-if2 : tie.Need-cast-if2
-cast-if2 c = search needs
+cast-t33 : tie.Need-cast-t33 Inv-loop μ-loop Inv-loop2 μ-loop2
+cast-t33 c = search needs
 
-cast-t19 : tie.Need-cast-t19
-cast-t19 c = search needs
+load-page-requires : tie.Need-load-page-requires Inv-loop μ-loop Inv-loop2 μ-loop2
+load-page-requires c κs = search needs
 
-load-into-requires : tie.Need-load-into-requires
-load-into-requires c κs = search needs
+mul-t39 : tie.Need-mul-t39 Inv-loop μ-loop Inv-loop2 μ-loop2
+mul-t39 c = search needs
 
-same-length-3 : tie.Need-same-length-3
+element-set-from-next : tie.Need-element-set-from-next Inv-loop μ-loop Inv-loop2 μ-loop2
+element-set-from-next c = search needs
+
+given-requires : tie.Need-given-requires Inv-loop μ-loop Inv-loop2 μ-loop2
+given-requires c κs = search needs
+
+same-length-2 : tie.Need-same-length-2 Inv-loop μ-loop Inv-loop2 μ-loop2
+same-length-2 c = search needs
+
+same-length-3 : tie.Need-same-length-3 Inv-loop μ-loop Inv-loop2 μ-loop2
 same-length-3 c = search needs
 
-same-length-4 : tie.Need-same-length-4
+returns-2 : tie.Need-returns-2 Inv-loop μ-loop Inv-loop2 μ-loop2
+returns-2 c = let h = c .before .before .before .before .before .before .before .before .before .before .before .before .before .before .before .pre in miss-empty _ _ _ _ (call-yes (loadable-told _ (h .0) (h .1) _ (c .before .before .before .before .before .before .before .before .before .before .is-loadable .ensures)) (c .before .before .before .before .before .before .before .before .before .if1 .left)) (empty-told _ (h .0) (h .1) (c .before .before .before .before .before .before .before .first-empty .ensures)) (c .before .before .before .before .before .before .if2 .taken) (load-given _ _ _ _ _ _ (c .before .before .before .load-page .ensures .0) (c .before .before .before .load-page .ensures .1) (c .given .ensures))
+
+loop-holds : tie.Need-loop-holds Inv-loop μ-loop Inv-loop2 μ-loop2
+loop-holds c = (omega arith, sees-none _ _ _ refl)
+
+mul-rec : tie.Need-mul-rec Inv-loop μ-loop Inv-loop2 μ-loop2
+mul-rec c = search needs
+
+element-copy-out-rec : tie.Need-element-copy-out-rec Inv-loop μ-loop Inv-loop2 μ-loop2
+element-copy-out-rec c = search needs
+
+cast-t51 : tie.Need-cast-t51 Inv-loop μ-loop Inv-loop2 μ-loop2
+cast-t51 c = search needs
+
+open-usage-requires : tie.Need-open-usage-requires Inv-loop μ-loop Inv-loop2 μ-loop2
+open-usage-requires c κs = let z = c .before .before .before .before .before .before .before .before .before .before .before .before .before .pre .0 .sized in omega arith
+
+array-write-usages : tie.Need-array-write-usages Inv-loop μ-loop Inv-loop2 μ-loop2
+array-write-usages c = search needs
+
+add-f : tie.Need-add-f Inv-loop μ-loop Inv-loop2 μ-loop2
+add-f c = search needs
+
+loop-less : tie.Need-loop-less Inv-loop μ-loop Inv-loop2 μ-loop2
+loop-less c = search needs
+
+loop-again : tie.Need-loop-again Inv-loop μ-loop Inv-loop2 μ-loop2
+loop-again c = let z = c .before .before .before .before .before .before .before .before .before .before .before .before .before .before .pre .0 .sized in (omega arith, sees-next (c .before .before .before .before .loop .inv .1) (omega arith) (c .open-usage .ensures))
+
+sweep-requires : tie.Need-sweep-requires Inv-loop μ-loop Inv-loop2 μ-loop2
+sweep-requires c κs = search needs
+
+refused-requires-2 : tie.Need-refused-requires-2 Inv-loop μ-loop Inv-loop2 μ-loop2
+refused-requires-2 c κs = search needs
+
+same-length-4 : tie.Need-same-length-4 Inv-loop μ-loop Inv-loop2 μ-loop2
 same-length-4 c = search needs
 
-returns-2 : tie.Need-returns-2
-returns-2 c = miss-empty _ _ _ _ (call-yes (c .before .before .before .before .before .before .before .before .before .is-loadable .ensures) (c .before .before .before .before .before .before .before .before .if1 .left)) (c .before .before .before .before .before .before .before .first-empty .ensures) (c .before .before .before .before .before .if2 .taken) (c .before .before .load-into .ensures)
+returns-3 : tie.Need-returns-3 Inv-loop μ-loop Inv-loop2 μ-loop2
+returns-3 c = full (c .before .before .before .before .before .before) _ (swept-denied _ (ready _ (c .before .before .before .before .before .before .before .before .before .before .before .before .before .before .before .pre .0)) (seen-all (c .before .before .before .before)) (c .before .before .sweep .ensures) _ _ _ (not-true _ (c .before .if3 .taken)) (c .refused2 .ensures))
 
-replace-requires : tie.Need-replace-requires
-replace-requires c κs = (ready _ (c .before .before .before .before .before .before .before .before .before .before .before .pre .0), c .before .before .before .before .before .before .before .before .before .before .before .pre .1, c .before .before .before .before .before .before .before .before .before .before .before .pre .2, c .before .before .before .before .before .before .before .before .before .before .before .pre .3)
+loop2-holds : tie.Need-loop2-holds Inv-loop μ-loop Inv-loop2 μ-loop2
+loop2-holds c = (omega arith, cooling-none _ _)
 
-same-length-5 : tie.Need-same-length-5
+mul-rec-2 : tie.Need-mul-rec-2 Inv-loop μ-loop Inv-loop2 μ-loop2
+mul-rec-2 c = search needs
+
+element-copy-out-rec-2 : tie.Need-element-copy-out-rec-2 Inv-loop μ-loop Inv-loop2 μ-loop2
+element-copy-out-rec-2 c = search needs
+
+array-read-cooled : tie.Need-array-read-cooled Inv-loop μ-loop Inv-loop2 μ-loop2
+array-read-cooled c = search needs
+
+cooled-requires : tie.Need-cooled-requires Inv-loop μ-loop Inv-loop2 μ-loop2
+cooled-requires c κs = search needs
+
+mul-t57 : tie.Need-mul-t57 Inv-loop μ-loop Inv-loop2 μ-loop2
+mul-t57 c = let z = c .before .before .before .before .before .before .before .before .before .before .before .before .before .before .before .before .before .before .pre .0 .sized .most in search needs
+
+element-set-from-next-2 : tie.Need-element-set-from-next-2 Inv-loop μ-loop Inv-loop2 μ-loop2
+element-set-from-next-2 c = let z = c .before .before .before .before .before .before .before .before .before .before .before .before .before .before .before .before .before .before .pre .0 .sized .most in omega arith
+
+add-g : tie.Need-add-g Inv-loop μ-loop Inv-loop2 μ-loop2
+add-g c = search needs
+
+loop2-less : tie.Need-loop2-less Inv-loop μ-loop Inv-loop2 μ-loop2
+loop2-less c = search needs
+
+loop2-again : tie.Need-loop2-again Inv-loop μ-loop Inv-loop2 μ-loop2
+loop2-again c = (omega arith, cooling-next (c .before .before .before .loop2 .inv .1) (c .cooled .ensures))
+
+cast-v : tie.Need-cast-v Inv-loop μ-loop Inv-loop2 μ-loop2
+cast-v c = search needs
+
+mul-evicted : tie.Need-mul-evicted Inv-loop μ-loop Inv-loop2 μ-loop2
+mul-evicted c = search needs
+
+element-copy-out-evicted : tie.Need-element-copy-out-evicted Inv-loop μ-loop Inv-loop2 μ-loop2
+element-copy-out-evicted c = victim-below _ (taken (c .before .before .before))
+
+take-out-requires : tie.Need-take-out-requires Inv-loop μ-loop Inv-loop2 μ-loop2
+take-out-requires c κs = victim-removable _ (taken (c .before .before .before .before .before .before))
+
+load-page-requires-2 : tie.Need-load-page-requires-2 Inv-loop μ-loop Inv-loop2 μ-loop2
+load-page-requires-2 c κs = let h = c .before .before .before .before .before .before .before .before .before .before .before .before .before .before .before .before .before .before .before .before .before .before .before .before .before .before .before .before .before .pre in victim-fitting _ (taken (c .before .before .before .before .before .before .before .before .before .before .before .before .before)) (c .before .before .before .before .before .before .take-out .ensures) (h .2) (h .3) (h .4)
+
+mul-t27 : tie.Need-mul-t27 Inv-loop μ-loop Inv-loop2 μ-loop2
+mul-t27 c = search needs
+
+element-set-from-next-3 : tie.Need-element-set-from-next-3 Inv-loop μ-loop Inv-loop2 μ-loop2
+element-set-from-next-3 c = victim-below _ (taken (c .before .before .before .before .before .before .before .before .before .before .before .before .before .before .before .before))
+
+given-requires-2 : tie.Need-given-requires-2 Inv-loop μ-loop Inv-loop2 μ-loop2
+given-requires-2 c κs = search needs
+
+same-length-5 : tie.Need-same-length-5 Inv-loop μ-loop Inv-loop2 μ-loop2
 same-length-5 c = search needs
 
-same-length-6 : tie.Need-same-length-6
+same-length-6 : tie.Need-same-length-6 Inv-loop μ-loop Inv-loop2 μ-loop2
 same-length-6 c = search needs
 
-returns-3 : tie.Need-returns-3
-returns-3 c = miss-full _ _ _ _ (call-yes (c .before .before .before .before .before .before .before .before .before .before .before .is-loadable .ensures) (c .before .before .before .before .before .before .before .before .before .before .if1 .left)) (c .before .before .before .before .before .before .before .before .before .first-empty .ensures) (c .before .before .before .before .before .before .before .if2 .left) (c .before .before .before .before .replace .ensures)
+returns-4 : tie.Need-returns-4 Inv-loop μ-loop Inv-loop2 μ-loop2
+returns-4 c = full (c .before .before .before .before .before .before .before .before .before .before .before .before .before .before .before .before .before .before .before .before .before .before .before .before) _ (swept-given _ (taken (c .before .before .before .before .before .before .before .before .before .before .before .before .before .before .before .before .before)) (c .before .before .before .before .before .before .before .before .before .before .take-out .ensures) _ _ _ (c .before .before .before .load-page2 .ensures .0) (c .before .before .before .load-page2 .ensures .1) (c .given2 .ensures))
 
 pub bring-in-spec : {M : Type 1} → statement M
 bring-in-spec =
     tie.close
     (tie.spec
+    Inv-loop
+    μ-loop
+    Inv-loop2
+    μ-loop2
     is-loadable-requires
     refused-requires
     same-length
-    same-length-2
     returns
+    cast-most
     first-empty-requires
-    cast-if2
-    cast-t19
-    load-into-requires
+    cast-t33
+    load-page-requires
+    mul-t39
+    element-set-from-next
+    given-requires
+    same-length-2
     same-length-3
-    same-length-4
     returns-2
-    replace-requires
+    loop-holds
+    mul-rec
+    element-copy-out-rec
+    cast-t51
+    open-usage-requires
+    array-write-usages
+    add-f
+    loop-less
+    loop-again
+    sweep-requires
+    refused-requires-2
+    same-length-4
+    returns-3
+    loop2-holds
+    mul-rec-2
+    element-copy-out-rec-2
+    array-read-cooled
+    cooled-requires
+    mul-t57
+    element-set-from-next-2
+    add-g
+    loop2-less
+    loop2-again
+    cast-v
+    mul-evicted
+    element-copy-out-evicted
+    take-out-requires
+    load-page-requires-2
+    mul-t27
+    element-set-from-next-3
+    given-requires-2
     same-length-5
     same-length-6
-    returns-3)
+    returns-4)

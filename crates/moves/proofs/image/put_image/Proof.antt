@@ -37,7 +37,7 @@ copy-into-requires : tie.Need-copy-into-requires Inv-loop μ-loop
 copy-into-requires c κs = omega arith
 
 loop-holds : tie.Need-loop-holds Inv-loop μ-loop
-loop-holds c = (omega arith, omega arith, c .before .before .copy-into .ensures ∙ sym (image-zero _ _))
+loop-holds c = (omega arith, omega arith, c .before .before .copy-into .ensures .0 ∙ sym (image-zero _ _))
 
 mul-word-at : tie.Need-mul-word-at Inv-loop μ-loop
 mul-word-at c = search needs

@@ -1,8 +1,21 @@
--- `store_image` meets its contract: the part of the store that was lent comes back as the image. Assumes nothing.
+-- `store_image` meets its contract: the part of the store that was lent comes back as the image, and a page without a swizzled word is its own. Assumes nothing.
 use borrow.Author.Needs.{needs}
+use mathlib.Core.Path.{sym, _∙_}
 use Rattle.moves.specs.Steps.{part-named, image-back}
 use Rattle.moves.proofs.out.store_image.Statement.{statement}
 use Rattle.moves.proofs.out.store_image.Tie as tie
+
+childless-requires : tie.Need-childless-requires
+childless-requires c κs = search needs
+
+store-bytes-requires : tie.Need-store-bytes-requires
+store-bytes-requires c κs = (c .before .before .before .before .before .pre .0, sym (c .before .before .childless .ensures) ∙ c .before .if1 .taken)
+
+same-length : tie.Need-same-length
+same-length c = search needs
+
+returns : tie.Need-returns
+returns c = c .before .before .store-bytes .ensures _
 
 cast-to : tie.Need-cast-to
 cast-to c = search needs
@@ -41,18 +54,22 @@ part-put-image-end-2 : tie.Need-part-put-image-end-2
 part-put-image-end-2 c = search needs
 
 put-image-requires : tie.Need-put-image-requires
-put-image-requires c κs = (search needs, search needs, part-named _ _ (c .before .before .before .before .before .before .pre .1))
+put-image-requires c κs = (search needs, search needs, part-named _ _ (c .before .before .before .before .before .before .before .before .pre .1))
 
-same-length : tie.Need-same-length
-same-length c = search needs
+same-length-2 : tie.Need-same-length-2
+same-length-2 c = search needs
 
-returns : tie.Need-returns
-returns c = image-back _ _ _ _ _ _ (c .before .before .before .before .before .before .before .before .before .pre .0 .bytes) (c .before .before .put-image .ensures)
+returns-2 : tie.Need-returns-2
+returns-2 c = image-back _ _ _ _ _ _ (c .before .before .before .before .before .before .before .before .before .before .before .pre .0 .bytes) (c .before .before .put-image .ensures)
 
 pub store-image-spec : {M : Type 1} → statement M
 store-image-spec =
     tie.close
     (tie.spec
+    childless-requires
+    store-bytes-requires
+    same-length
+    returns
     cast-to
     mul-to
     cast-from
@@ -66,5 +83,5 @@ store-image-spec =
     part-put-image-start-2
     part-put-image-end-2
     put-image-requires
-    same-length
-    returns)
+    same-length-2
+    returns-2)

@@ -5,7 +5,7 @@ use lib.ListN.{length}
 use Rattle.page.specs.Figures.{pageSize}
 use Rattle.machine.specs.TestLaws.{call-no, call-yes}
 use Rattle.machine.specs.Ready.{Lengths, lengths-of}
-use Rattle.residency.specs.CallLaws.{open-unfit, open-unsound, open-done, copied-first}
+use Rattle.residency.specs.CallLaws.{open-unfit, open-unsound, open-done}
 use borrow.Author.Needs.{needs}
 use Rattle.residency.proofs.opening.open.Statement.{statement}
 use Rattle.residency.proofs.opening.open.Tie as tie
@@ -38,32 +38,14 @@ same-length-2 c = search needs
 returns-2 : tie.Need-returns-2
 returns-2 c = open-unsound _ _ (call-yes (c .before .before .before .before .lengths-fit .ensures) (c .before .before .before .if1 .left)) (call-no (c .before .before .is-sound .ensures) (c .before .if2 .taken)) (c .blank-pool2 .ensures)
 
-sub-copy-into : tie.Need-sub-copy-into
-sub-copy-into c = search needs
-
-part-copy-into-start : tie.Need-part-copy-into-start
-part-copy-into-start c = search needs
-
-part-copy-into-end : tie.Need-part-copy-into-end
-part-copy-into-end c = let h = fits (c .before .before) in omega arith
-
-sub-copy-into-2 : tie.Need-sub-copy-into-2
-sub-copy-into-2 c = search needs
-
-part-copy-into-start-2 : tie.Need-part-copy-into-start-2
-part-copy-into-start-2 c = search needs
-
-part-copy-into-end-2 : tie.Need-part-copy-into-end-2
-part-copy-into-end-2 c = let h = fits (c .before .before .before) in omega arith
-
-copy-into-requires : tie.Need-copy-into-requires
-copy-into-requires c κs = search needs
+copy-page-requires : tie.Need-copy-page-requires
+copy-page-requires c κs = let h = fits (c .before .before .before) in (omega arith, omega arith)
 
 cast-opened-pool : tie.Need-cast-opened-pool
-cast-opened-pool c = let h = fits (c .before .before .before .before .before .before .before) in omega arith
+cast-opened-pool c = let h = fits (c .before .before .before .before .before .before) in omega arith
 
 cast-opened-pool-2 : tie.Need-cast-opened-pool-2
-cast-opened-pool-2 c = let h = fits (c .before .before .before .before .before .before .before) in omega arith
+cast-opened-pool-2 c = let h = fits (c .before .before .before .before .before .before) in omega arith
 
 opened-pool-requires : tie.Need-opened-pool-requires
 opened-pool-requires c κs = search needs
@@ -73,7 +55,7 @@ same-length-3 c = search needs
 
 returns-3 : tie.Need-returns-3
 returns-3 c =
-    open-done _ _ (call-yes (c .before .before .before .before .before .before .before .before .before .lengths-fit .ensures) (c .before .before .before .before .before .before .before .before .if1 .left)) (call-yes (c .before .before .before .before .before .before .before .is-sound .ensures) (c .before .before .before .before .before .before .if2 .left)) (c .opened-pool .ensures) (copied-first _ _ _ (omega arith) (c .before .before .before .copy-into .ensures))
+    open-done _ _ (call-yes (c .before .before .before .before .before .before .before .before .lengths-fit .ensures) (c .before .before .before .before .before .before .before .if1 .left)) (call-yes (c .before .before .before .before .before .before .is-sound .ensures) (c .before .before .before .before .before .if2 .left)) (c .opened-pool .ensures) (c .before .before .before .copy-page .ensures .0)
 
 pub open-spec : {M : Type 1} → statement M
 open-spec =
@@ -87,13 +69,7 @@ open-spec =
     blank-pool-requires-2
     same-length-2
     returns-2
-    sub-copy-into
-    part-copy-into-start
-    part-copy-into-end
-    sub-copy-into-2
-    part-copy-into-start-2
-    part-copy-into-end-2
-    copy-into-requires
+    copy-page-requires
     cast-opened-pool
     cast-opened-pool-2
     opened-pool-requires

@@ -7,31 +7,31 @@ use borrow.Author.Needs.{needs}
 use Rattle.residency.proofs.settling.settle.Statement.{statement}
 use Rattle.residency.proofs.settling.settle.Tie as tie
 
-pool-refusal-requires : tie.Need-pool-refusal-requires
-pool-refusal-requires c κs = search needs
+table-refusal-requires : tie.Need-table-refusal-requires
+table-refusal-requires c κs = search needs
 
 same-length : tie.Need-same-length
 same-length c = search needs
 
 returns : tie.Need-returns
 unfolding settleCall
-returns c = done-no _ _ _ (c .before .pool-refusal .ensures) (c .if1 .taken)
+returns c = done-no _ _ _ (c .before .table-refusal .ensures .0) (c .if1 .taken)
 
 settle-pages-requires : tie.Need-settle-pages-requires
-settle-pages-requires c κs = ready _ (rules-kept _ (sym (c .before .before .pool-refusal .ensures) ∙ c .before .if1 .left))
+settle-pages-requires c κs = (ready _ (rules-kept _ (sym (c .before .before .before .table-refusal .ensures .0) ∙ c .before .before .if1 .left)), c .before .before .before .table-refusal .ensures .1 (c .before .before .if1 .left) .table)
 
 same-length-2 : tie.Need-same-length-2
 same-length-2 c = search needs
 
 returns-2 : tie.Need-returns-2
 unfolding settleCall
-returns-2 c = done-yes _ _ (c .before .before .before .before .before .pool-refusal .ensures) (c .before .before .before .before .if1 .left) (c .before .before .settle-pages .ensures)
+returns-2 c = done-yes _ _ (c .before .before .before .before .before .before .table-refusal .ensures .0) (c .before .before .before .before .before .if1 .left) (c .before .before .settle-pages .ensures)
 
 pub settle-spec : {M : Type 1} → statement M
 settle-spec =
     tie.close
     (tie.spec
-    pool-refusal-requires
+    table-refusal-requires
     same-length
     returns
     settle-pages-requires

@@ -1,0 +1,50 @@
+-- A page looked up in the table that rule 2's pass hands on: what find and peek answer by it. Assumes nothing.
+use Prim.Native.Nat.{ℕ, _/_, _<_, _≤_}
+use mathlib.Core.Path.{_≡_, refl, ap}
+use mathlib.Core.Bool.{Bool, true, false}
+use mathlib.Core.List.{List}
+use native.Mathlib.Omega.{arith}
+use borrow.Author.Tests.{lt-ltb, le-ltb}
+use lib.Dec.{ltb}
+use lib.ListN.{length}
+use Rattle.page.specs.declared.PageNumber.{PageNumber}
+use Rattle.page.specs.Figures.{pageSize, payloadSize}
+use Rattle.page.specs.Page.{payloadAt}
+use Rattle.machine.specs.Tests.{firstBroken}
+use Rattle.machine.specs.TestLaws.{pick-yes, pick-no}
+use Rattle.machine.specs.Machine.{State, found}
+use Rattle.machine.specs.Answers.{payload, inFrames, inStore, frame, nowhere}
+use Rattle.machine.specs.Calls.{pageRules, payloadPlace, peekCall, foundAnswer, findCall}
+use Rattle.machine.specs.RuleLaws.{answer-yes}
+use Rattle.residents.specs.Handed.{Handed}
+use Rattle.scan.specs.ByTable.{foundBy, counted, at-found}
+
+-- n is the refusal by rules 1, 2 and 6, F the count that the frames' length gives, and f the frame that the code found
+module _ (s : State) (q : PageNumber) {pages : List ℕ} {seen : List Bool} {n F : ℕ} (e : (n ≡ firstBroken (pageRules s q)) × (n ≡ 0 → Handed (s .pool) (s .frames) pages seen)) (z : n ≡ 0) (c : F ≡ length (s .frames) / pageSize) where
+  module _ {f : ℕ} (i : f ≡ foundBy pages (q .0) F 0) where
+    here : f ≡ found (s .pool) (q .0)
+    here = at-found s q e z c i
+
+    module _ (l : f < F) where
+      resident : ltb (found (s .pool) (q .0)) (s .pool .count) ≡ true
+      resident = rw (← here) (lt-ltb f _ (omega (arith, counted s q e z c)))
+
+      pub find-at : frame f ≡ findCall s q .answer
+      unfolding findCall foundAnswer
+      find-at = answer-yes s _ s (e .0) z (pick-yes _ resident (ap frame here))
+
+      pub peek-in-frame : payload inFrames (payloadAt f) payloadSize ≡ peekCall s q .answer
+      unfolding peekCall payloadPlace
+      peek-in-frame = answer-yes s _ s (e .0) z (pick-yes _ resident (ap (λ (g : ℕ). payload inFrames (payloadAt g) payloadSize) here))
+
+    module _ (l : F ≤ f) where
+      absent : ltb (found (s .pool) (q .0)) (s .pool .count) ≡ false
+      absent = rw (← here) (le-ltb f _ (omega (arith, counted s q e z c)))
+
+      pub find-absent : nowhere ≡ findCall s q .answer
+      unfolding findCall foundAnswer
+      find-absent = answer-yes s _ s (e .0) z (pick-no _ absent refl)
+
+      pub peek-in-store : payload inStore (payloadAt (q .0)) payloadSize ≡ peekCall s q .answer
+      unfolding peekCall payloadPlace
+      peek-in-store = answer-yes s _ s (e .0) z (pick-no _ absent refl)

@@ -1,0 +1,16 @@
+-- `fixing::pin::pinned` meets its contract. Assumes nothing.
+use borrow.Author.Needs.{needs}
+use Rattle.fixing.proofs.pin.pinned.Statement.{statement}
+use Rattle.fixing.proofs.pin.pinned.Tie as tie
+
+add-next : tie.Need-add-next
+add-next c = search needs
+
+warmer-requires : tie.Need-warmer-requires
+warmer-requires c κs = search needs
+
+returns : tie.Need-returns
+returns c = rw (c .warmer .ensures)
+
+pub pinned-spec : {M : Type 1} → statement M
+pinned-spec = tie.close (tie.spec add-next warmer-requires returns)

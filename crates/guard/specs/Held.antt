@@ -1,0 +1,53 @@
+-- Rule 3 by the record at the handle's place alone. Assumes nothing.
+use Prim.Native.Nat.{ℕ, _*_, _/_, _%_, _≤_}
+use mathlib.Core.Path.{_≡_, sym, _∙_}
+use mathlib.Core.Bool.{Bool, false}
+use native.Mathlib.Omega.{arith}
+use native.Mathlib.Decide.{decLt}
+use borrow.Author.Tests.{le-ltb}
+use lib.Dec.{eqb, ltb}
+use lib.ListN.{length}
+use Rattle.page.specs.Figures.{pageSize, mostFrames}
+use Rattle.machine.specs.declared.FrameRecord.{FrameRecord}
+use Rattle.machine.specs.declared.Handle.{Handle}
+use Rattle.machine.specs.declared.Pool.{Pool}
+use Rattle.machine.specs.Tests.{_and_, firstBroken}
+use Rattle.machine.specs.TestLaws.{and-no}
+use Rattle.machine.specs.Machine.{State, recordAt}
+use Rattle.machine.specs.Rules.{handleFits}
+use Rattle.machine.specs.Calls.{poolRules}
+use Rattle.machine.specs.Ready.{Kept, rules-kept}
+
+-- where the record of the handle's frame stands, if that frame is one of F
+abbrev pub recordPlace : Handle → ℕ
+recordPlace h = h .frame .0 % mostFrames
+
+-- rule 3, of F frames and the record at that place
+unfoldable pub heldFits : ℕ → FrameRecord → Handle → Bool
+heldFits F r h = ltb (h .frame .0) F and r .used and eqb (r .page .0) (h .page .0) and ltb 0 (r .pins)
+
+-- the frame is its own place where it is one of F; where it isn't, the record says nothing
+pub held-fits : (p : Pool) (h : Handle) → p .count ≤ mostFrames → heldFits (p .count) (recordAt (p .records) (recordPlace h)) h ≡ handleFits p h
+unfolding heldFits handleFits
+held-fits p h l = elim (decLt (h .frame .0) (p .count)) [
+  | yes b ↦ let e : recordPlace h ≡ h .frame .0 = omega arith in rw e
+  | no b ↦
+      let e : ltb (h .frame .0) (p .count) ≡ false = le-ltb (h .frame .0) (p .count) (omega arith) in
+      sym (and-no (recordAt (p .records) (recordPlace h) .used and eqb (recordAt (p .records) (recordPlace h) .page .0) (h .page .0) and ltb 0 (recordAt (p .records) (recordPlace h) .pins)) e)
+      ∙ and-no (recordAt (p .records) (h .frame .0) .used and eqb (recordAt (p .records) (h .frame .0) .page .0) (h .page .0) and ltb 0 (recordAt (p .records) (h .frame .0) .pins)) e
+]
+
+-- how many pages there are in so many bytes
+pages-in : (n F : ℕ) → n ≡ pageSize * F → n / pageSize ≡ F
+pages-in n F e = omega arith
+
+-- where rules 1 and 2 are kept (n is the refusal by them), counts are told by lengths
+module _ (s : State) {n : ℕ} (e : n ≡ firstBroken (poolRules s)) (z : n ≡ 0) where
+  kept : Kept s
+  kept = rules-kept s (sym e ∙ z)
+
+  pub is-held : (h : Handle) {r : FrameRecord} {t : Bool} → r ≡ recordAt (s .pool .records) (recordPlace h) → t ≡ heldFits (length (s .frames) / pageSize) r h → t ≡ handleFits (s .pool) h
+  is-held h a b = b ∙ rw (a, pages-in (length (s .frames)) (s .pool .count) (kept .sized .frames)) (held-fits (s .pool) h (kept .sized .most))
+
+  pub page-count : length (s .store) / pageSize ≡ s .pool .pages
+  page-count = pages-in (length (s .store)) (s .pool .pages) (kept .sized .store)

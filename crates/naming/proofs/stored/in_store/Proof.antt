@@ -1,0 +1,75 @@
+-- `naming::stored::in_store` meets its contract: no page passed that is in no frame has w. Assumes nothing.
+use borrow.Author.Needs.{needs}
+use Prim.Native.Nat.{_≤_, _-_}
+use mathlib.Core.Path.{_≡_, sym, _∙_}
+use mathlib.Core.Bool.{false}
+use mathlib.Core.Logic.{⊎-elim}
+use native.Mathlib.Omega.{arith}
+use Rattle.machine.specs.TestLaws.{call-yes, call-no}
+use Rattle.naming.specs.Stored.{inStore, in-no-page, in-page, pass-other, pass-resident}
+use Rattle.naming.proofs.stored.in_store.Statement.{statement}
+use Rattle.naming.proofs.stored.in_store.Tie as tie
+
+abbrev Inv-loop : tie.InvT-loop
+Inv-loop store table n w p₀ p = (p ≤ n) × (inStore table store p w ≡ false)
+
+abbrev μ-loop : tie.MeasureT-loop
+μ-loop store table n w p₀ p = n - p
+
+loop-holds : tie.Need-loop-holds Inv-loop μ-loop
+loop-holds c = (omega arith, in-no-page _ _ _)
+
+mul-page-has : tie.Need-mul-page-has Inv-loop μ-loop
+mul-page-has c = search needs
+
+page-has-requires : tie.Need-page-has-requires Inv-loop μ-loop
+page-has-requires c κs = search needs
+
+cast-t10 : tie.Need-cast-t10 Inv-loop μ-loop
+cast-t10 c = search needs
+
+is-resident-requires : tie.Need-is-resident-requires Inv-loop μ-loop
+is-resident-requires c κs = search needs
+
+returns : tie.Need-returns Inv-loop μ-loop
+returns c =
+    sym (in-page _ _ _ _ (c .before .before .before .before .before .loop .p) (omega arith)
+    (sym (c .before .before .before .page-has .ensures) ∙ c .before .before .if1 .taken) (call-no (c .before .is-resident .ensures) (c .if2 .taken)))
+
+add-p : tie.Need-add-p Inv-loop μ-loop
+add-p c = search needs
+
+loop-less : tie.Need-loop-less Inv-loop μ-loop
+loop-less c = search needs
+
+loop-again : tie.Need-loop-again Inv-loop μ-loop
+loop-again c = (
+  omega arith,
+  ⊎-elim
+      (λ a. pass-resident _ _ _ _ (call-yes (a .1 .ensures) (a .2 .left)))
+      (λ a. pass-other _ _ _ _ (sym (c .before .page-has .ensures) ∙ a .left))
+      (c .if1 .came)
+      ∙ c .before .before .before .loop .inv .1,
+)
+
+returns-2 : tie.Need-returns-2 Inv-loop μ-loop
+returns-2 c =
+    let e : c .before .loop .p ≡ c .before .before .before .args .n = omega arith in
+    sym (rw e at (c .before .loop .inv .1))
+
+pub in-store-spec : {M : Type 1} → statement M
+in-store-spec =
+    tie.close
+    (tie.spec
+    Inv-loop
+    μ-loop
+    loop-holds
+    mul-page-has
+    page-has-requires
+    cast-t10
+    is-resident-requires
+    returns
+    add-p
+    loop-less
+    loop-again
+    returns-2)

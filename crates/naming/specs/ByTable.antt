@@ -1,0 +1,49 @@
+-- What the two tables tell of rules 9 and 14, and that where records and frames agree it is what the rules say. Assumes nothing.
+use Prim.Native.Nat.{ℕ, _<_}
+use mathlib.Core.Path.{_≡_, refl, sym, _∙_, ap}
+use mathlib.Core.Bool.{Bool, true, false}
+use mathlib.Core.List.{List, []}
+use native.Mathlib.Omega.{arith}
+use Rattle.page.specs.Figures.{slotCount}
+use Rattle.machine.specs.Tests.{_or_, every}
+use Rattle.machine.specs.TestLaws.{true-every, every-ext}
+use Rattle.machine.specs.Machine.{State, state}
+use Rattle.machine.specs.Naming.{named, namedByResident, loadable}
+use Rattle.machine.specs.Ready.{Kept}
+use Rattle.soundness.specs.Seen.{hasWord, told, fresh}
+use Rattle.soundness.specs.SeenLaws.{fresh-zero, fresh-ext, no-word}
+use Rattle.soundness.specs.Pages.{pageWords}
+use Rattle.residents.specs.Handed.{Handed}
+use Rattle.naming.specs.Stored.{inStore}
+use Rattle.naming.specs.Named.{named-parts}
+use Rattle.naming.specs.Loadable.{by-fresh}
+
+-- page x is named by a resident page, or by one of n stored pages that isn't resident
+unfoldable pub namedBy : List ℕ → List Bool → List ℕ → ℕ → ℕ → Bool
+namedBy pages seen st n x = told seen x or inStore pages st n x
+
+-- each word of the stored page q is 0, or below n, of no page that a resident page names, and of no word before it
+unfoldable pub loadableBy : List Bool → List ℕ → ℕ → ℕ → Bool
+loadableBy seen st n q = every slotCount (fresh (told seen) (pageWords st q) n)
+
+-- a page without a word but 0
+pub loadable-empty : (seen : List Bool) (st : List ℕ) (n q : ℕ) → hasWord (pageWords st q) ≡ false → true ≡ loadableBy seen st n q
+unfolding loadableBy
+loadable-empty seen st n q t = sym (true-every slotCount _ (λ k l. fresh-zero (told seen) (pageWords st q) n k (no-word (pageWords st q) t k l)))
+
+-- what resident pages name is nothing to the store
+storeless : (s : State) (x : ℕ) → namedByResident (state (s .pool) (s .frames) []) x ≡ namedByResident s x
+unfolding namedByResident
+storeless s x = refl
+
+module _ (s : State) (K : Kept s) {pages : List ℕ} {seen : List Bool} (H : Handed (s .pool) (s .frames) pages seen) where
+  told-named : (x : ℕ) → 0 < x → x < s .pool .pages → told seen x ≡ namedByResident s x
+  told-named x p l = H .named .right x p (omega (arith, K .sized .pages)) ∙ storeless s x
+
+  pub named-by : (x : ℕ) → 0 < x → x < s .pool .pages → namedBy pages seen (s .store) (s .pool .pages) x ≡ named s x
+  unfolding namedBy
+  named-by x p l = ap (λ (b : Bool). b or inStore pages (s .store) (s .pool .pages) x) (told-named x p l) ∙ sym (named-parts s K pages (H .table) x)
+
+  pub loadable-by : (q : ℕ) → loadableBy seen (s .store) (s .pool .pages) q ≡ loadable s q
+  unfolding loadableBy
+  loadable-by q = every-ext slotCount _ _ (λ k l. fresh-ext (told seen) (namedByResident s) (pageWords (s .store) q) (s .pool .pages) told-named k) ∙ sym (by-fresh s q)

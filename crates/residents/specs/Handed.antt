@@ -1,0 +1,22 @@
+-- What rule 2's pass hands on where records and frames agree: the page in each frame, and the page numbers that resident pages name.
+use Prim.Native.Nat.{ℕ}
+use mathlib.Core.Path.{_≡_}
+use mathlib.Core.Bool.{Bool, false}
+use mathlib.Core.List.{List, []}
+use lib.ListN.{replicate}
+use Rattle.page.specs.Figures.{mostFrames, mostPages}
+use Rattle.machine.specs.declared.Pool.{Pool}
+use Rattle.machine.specs.Machine.{state}
+use Rattle.machine.specs.Naming.{namedByResident}
+use Rattle.soundness.specs.Seen.{Tells}
+use Rattle.residents.specs.Table.{Table}
+
+-- the two tables before the pass
+pub record Clear (pages : List ℕ) (seen : List Bool) : Type 0 where
+  pub noPage : pages ≡ replicate mostFrames 0
+  pub noneSeen : seen ≡ replicate mostPages false
+
+-- the two tables after it; what resident pages name is nothing to the store
+pub record Handed (p : Pool) (fs : List ℕ) (pages : List ℕ) (seen : List Bool) : Type 0 where
+  pub table : Table (p .records) pages
+  pub named : Tells seen (namedByResident (state p fs []))
