@@ -16,12 +16,11 @@ use Rattle.machine.specs.declared.FrameRecord.{FrameRecord}
 use Rattle.machine.specs.declared.Pool.{Pool}
 use Rattle.machine.specs.declared.Handle.{Handle}
 use Rattle.machine.specs.declared.Fix.{Fix}
-use Rattle.machine.specs.declared.Swept.{Swept}
 use Rattle.machine.specs.Tests.{pick, Rule, firstBroken, verdict}
 use Rattle.machine.specs.TestLaws.{pick-yes, pick-no, or-left, or-skip, kept-then, broken-here, none-broken}
 use Rattle.machine.specs.Machine.{State, state, withPool, recordAt, pageIn, withRecords, withRecord, pinned, loadedRecord}
 use Rattle.machine.specs.Answers.{refused, handle, Out, out}
-use Rattle.machine.specs.Sweep.{childless, firstEmpty, sweep, withSwept}
+use Rattle.machine.specs.Sweep.{Swept, childless, firstEmpty, sweep, withSwept}
 use Rattle.machine.specs.Moves.{vacate, evicted}
 use Rattle.machine.specs.Naming.{loadable}
 use Rattle.machine.specs.Rules.{wordOf, rule7, rule13, rule14, rule15}

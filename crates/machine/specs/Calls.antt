@@ -9,11 +9,10 @@ use Rattle.page.specs.Word.{isNumber, frameIn, numberWord}
 use Rattle.page.specs.Page.{putSlot, pageOf, putPage, payloadAt, putPayload}
 use Rattle.machine.specs.declared.FrameRecord.{FrameRecord}
 use Rattle.machine.specs.declared.Handle.{Handle}
-use Rattle.machine.specs.declared.Swept.{Swept}
 use Rattle.machine.specs.Tests.{pick, firstBroken, verdict, Rule}
 use Rattle.machine.specs.Machine.{State, state, withPool, recordAt, pageIn, withRecord, pinned, unpinned, dirtied, zeroPool, openedPool, found}
 use Rattle.machine.specs.Moves.{plain, settled, evicted, loaded}
-use Rattle.machine.specs.Sweep.{firstEmpty, sweep, withSwept}
+use Rattle.machine.specs.Sweep.{Swept, firstEmpty, sweep, withSwept}
 use Rattle.machine.specs.Rules.{wordOf, rule1, rule1-open, rule2, rule3, rule4, rule5, rule6, rule6-link, rule7, rule8, rule9, rule10, rule11, rule12, rule13, rule14, rule15, rule16}
 use Rattle.machine.specs.Answers.{Answer, refused, done, handle, payload, number, frame, nowhere, inFrames, inStore, Out, out}
 

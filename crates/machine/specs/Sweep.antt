@@ -7,11 +7,19 @@ use lib.ListN.{set}
 use Rattle.page.specs.Figures.{slotCount}
 use Rattle.page.specs.Word.{isNumber}
 use Rattle.page.specs.Page.{slot}
+use Rattle.page.specs.declared.FrameIndex.{FrameIndex}
 use Rattle.machine.specs.declared.FrameRecord.{FrameRecord}
 use Rattle.machine.specs.declared.Pool.{Pool}
-use Rattle.machine.specs.declared.Swept.{Swept}
 use Rattle.machine.specs.Tests.{pick, _and_, every}
 use Rattle.machine.specs.Machine.{recordAt, frameIndex, cooled}
+
+-- what a sweep ends with: whether a frame was taken and which, the looks, and the records and the hand after it
+pub record Swept : Type 0 where
+  pub taken : Bool
+  pub frame : FrameIndex
+  pub looks : ℕ
+  pub records : List FrameRecord
+  pub hand : FrameIndex
 
 -- the frame after h: "by one, from F − 1 to 0"
 unfoldable pub after : ℕ → ℕ → ℕ

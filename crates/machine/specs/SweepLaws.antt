@@ -14,12 +14,11 @@ use lib.Seq.{getD-set-other}
 use Rattle.page.specs.Figures.{maxUsage}
 use Rattle.machine.specs.declared.FrameRecord.{FrameRecord}
 use Rattle.machine.specs.declared.Pool.{Pool}
-use Rattle.machine.specs.declared.Swept.{Swept}
 use Rattle.machine.specs.Tests.{pick, _and_, _or_, some}
 use Rattle.machine.specs.TestLaws.{clash, case, on, off, is-off, same, and-left, both, or-none, or-off, true-some, some-true, pick-either}
 use Rattle.machine.specs.Machine.{State, withPool, blank, cooled, recordAt}
 use Rattle.machine.specs.AgreementFacts.{InRange}
-use Rattle.machine.specs.Sweep.{after, emptyFrom, firstEmpty, childless, isOpen, lookLeaves, lookTakes, sweepFrom, mostLooks, sweep, withSwept}
+use Rattle.machine.specs.Sweep.{Swept, after, emptyFrom, firstEmpty, childless, isOpen, lookLeaves, lookTakes, sweepFrom, mostLooks, sweep, withSwept}
 use Rattle.machine.specs.Rules.{rule15}
 use Rattle.machine.specs.Ready.{Ready}
 

@@ -70,12 +70,3 @@ pub struct Place {
     pub start: usize,
     pub size: usize,
 }
-
-// What a sweep ends with: whether a frame was taken and which, the looks, and the records and the hand after it.
-pub struct Swept {
-    pub taken: bool,
-    pub frame: FrameIndex,
-    pub looks: u16,
-    pub records: [FrameRecord; FrameIndex::MOST],
-    pub hand: FrameIndex,
-}

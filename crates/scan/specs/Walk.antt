@@ -13,11 +13,10 @@ use lib.Seq.{getD-set-same, getD-set-other, set-getD, ext-getD}
 use Rattle.page.specs.Figures.{mostFrames, maxUsage}
 use Rattle.machine.specs.declared.FrameRecord.{FrameRecord}
 use Rattle.machine.specs.declared.Pool.{Pool}
-use Rattle.machine.specs.declared.Swept.{Swept}
 use Rattle.machine.specs.Tests.{pick, _and_}
 use Rattle.machine.specs.TestLaws.{case, on, off, and-yes, and-no, pick-yes, pick-no}
 use Rattle.machine.specs.Machine.{blank, cooled, frameIndex, recordAt}
-use Rattle.machine.specs.Sweep.{after, isOpen, lookLeaves, lookTakes, mostLooks, sweepFrom, sweep}
+use Rattle.machine.specs.Sweep.{Swept, after, isOpen, lookLeaves, lookTakes, mostLooks, sweepFrom, sweep}
 use Rattle.machine.specs.SweepLaws.{after-in}
 use Rattle.scan.specs.declared.Walk.{Walk}
 

@@ -9,9 +9,8 @@ use lib.ListN.{length, length-set}
 use Rattle.page.specs.Figures.{recordCount, maxUsage, maxPins}
 use Rattle.machine.specs.declared.FrameRecord.{FrameRecord}
 use Rattle.machine.specs.declared.Pool.{Pool}
-use Rattle.machine.specs.declared.Swept.{Swept}
 use Rattle.machine.specs.Machine.{State, withPool, withRecord, blank, recordAt, pinned, unpinned}
-use Rattle.machine.specs.Sweep.{withSwept}
+use Rattle.machine.specs.Sweep.{Swept, withSwept}
 use Rattle.machine.specs.SweepLaws.{Cooler, Cooled}
 use Rattle.machine.specs.Calls.{changeRecord}
 use Rattle.machine.specs.History.{Balance, Point, fixedIn, unfixed}
