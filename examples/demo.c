@@ -2,7 +2,7 @@
  * A pool of 4 frames over a store of 16 empty pages: links and fixes a few pages, writes, reads back, settles, and reads the
  * store again through a new pool. Prints what it did, as demo.rs does.
  */
-#include "pool.h"
+#include "pagepool.h"
 
 #include <stdio.h>
 #include <stdlib.h>

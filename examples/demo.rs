@@ -1,6 +1,6 @@
 //! A pool of 4 frames over a store of 16 empty pages: links and fixes a few pages, writes, reads back, settles, and reads the
 //! store again through a new pool. Prints what it did, as demo.c does.
-use pool_host::{Handle, PageNumber, Pool, Refusal, PAGE_SIZE};
+use pagepool::{Handle, PageNumber, Pool, Refusal, PAGE_SIZE};
 
 /// All that the pool works on, which the host owns.
 struct Host {
@@ -18,27 +18,27 @@ fn text(payload: &[u8]) -> String {
 impl Host {
     /// Opens a pool over a store, and pins its root.
     fn open(mut frames: Vec<u8>, store: Vec<u8>) -> Result<(Host, Handle), Refusal> {
-        let mut pool = pool_host::open(&mut frames, &store)?;
+        let mut pool = pagepool::open(&mut frames, &store)?;
         println!("open: {} pages, {} frames", pool.pages, pool.count);
-        let Handle { frame, page } = pool_host::root(&mut pool, &frames, &store)?.handle;
+        let Handle { frame, page } = pagepool::root(&mut pool, &frames, &store)?.handle;
         println!("root: page {page} in frame {frame}");
         Ok((Host { pool, frames, store }, Handle { frame, page }))
     }
 
     fn link(&mut self, parent: Handle, slot: usize, page: PageNumber) -> Result<(), Refusal> {
-        pool_host::link(&mut self.pool, &mut self.frames, &self.store, parent, slot, page)?;
+        pagepool::link(&mut self.pool, &mut self.frames, &self.store, parent, slot, page)?;
         println!("link page {page} to slot {slot} of page {}", parent.page);
         Ok(())
     }
 
     fn unlink(&mut self, parent: Handle, slot: usize) -> Result<(), Refusal> {
-        pool_host::unlink(&mut self.pool, &mut self.frames, &self.store, parent, slot)?;
+        pagepool::unlink(&mut self.pool, &mut self.frames, &self.store, parent, slot)?;
         println!("unlink slot {slot} of page {}", parent.page);
         Ok(())
     }
 
     fn fix(&mut self, parent: Handle, slot: usize) -> Result<Handle, Refusal> {
-        let fixed = pool_host::fix(&mut self.pool, &mut self.frames, &mut self.store, parent, slot)?;
+        let fixed = pagepool::fix(&mut self.pool, &mut self.frames, &mut self.store, parent, slot)?;
         let Handle { frame, page } = fixed.handle;
         println!(
             "fix slot {slot} of page {}: page {page} in frame {frame}, {} looks",
@@ -48,26 +48,26 @@ impl Host {
     }
 
     fn unfix(&mut self, handle: Handle) -> Result<(), Refusal> {
-        pool_host::unfix(&mut self.pool, &self.frames, &self.store, handle)?;
+        pagepool::unfix(&mut self.pool, &self.frames, &self.store, handle)?;
         println!("unfix page {}", handle.page);
         Ok(())
     }
 
     fn write(&mut self, handle: Handle, text: &str) -> Result<(), Refusal> {
-        pool_host::write(&mut self.pool, &mut self.frames, &self.store, handle, 0, text.as_bytes())?;
+        pagepool::write(&mut self.pool, &mut self.frames, &self.store, handle, 0, text.as_bytes())?;
         println!("write to page {}: {text}", handle.page);
         Ok(())
     }
 
     fn evict(&mut self, page: PageNumber) {
-        match pool_host::evict(&mut self.pool, &mut self.frames, &mut self.store, page) {
+        match pagepool::evict(&mut self.pool, &mut self.frames, &mut self.store, page) {
             Ok(()) => println!("evict page {page}"),
             Err(refusal) => println!("evict page {page}: refused by rule {refusal}"),
         }
     }
 
     fn find(&self, page: PageNumber) -> Result<(), Refusal> {
-        match pool_host::find(&self.pool, &self.frames, &self.store, page)? {
+        match pagepool::find(&self.pool, &self.frames, &self.store, page)? {
             Some(frame) => println!("find page {page}: frame {frame}"),
             None => println!("find page {page}: absent"),
         }
@@ -75,19 +75,19 @@ impl Host {
     }
 
     fn show(&self, handle: Handle) -> Result<(), Refusal> {
-        let payload = pool_host::show(&self.pool, &self.frames, &self.store, handle)?;
+        let payload = pagepool::show(&self.pool, &self.frames, &self.store, handle)?;
         println!("show page {}: {}", handle.page, text(payload));
         Ok(())
     }
 
     fn peek(&self, page: PageNumber) -> Result<(), Refusal> {
-        let payload = pool_host::peek(&self.pool, &self.frames, &self.store, page)?;
+        let payload = pagepool::peek(&self.pool, &self.frames, &self.store, page)?;
         println!("peek page {page}: {}", text(payload));
         Ok(())
     }
 
     fn word(&self, handle: Handle, slot: usize) -> Result<(), Refusal> {
-        match pool_host::word(&self.pool, &self.frames, &self.store, handle, slot)? {
+        match pagepool::word(&self.pool, &self.frames, &self.store, handle, slot)? {
             0 => println!("word in slot {slot} of page {}: nothing", handle.page),
             page => println!("word in slot {slot} of page {}: page {page}", handle.page),
         }
@@ -95,7 +95,7 @@ impl Host {
     }
 
     fn settle(&mut self) -> Result<(), Refusal> {
-        pool_host::settle(&mut self.pool, &self.frames, &mut self.store)?;
+        pagepool::settle(&mut self.pool, &self.frames, &mut self.store)?;
         println!("settle");
         Ok(())
     }

@@ -3,7 +3,7 @@ use crate::boundary;
 use crate::timing::{repeat, Variants};
 use pool_bench::baseline;
 use pool_bench::tree::{State, FAN_OUT};
-use pool_host::{Handle, PageNumber, Refusal, MAX_PINS, PAGE_SIZE};
+use pagepool::{Handle, PageNumber, Refusal, MAX_PINS, PAGE_SIZE};
 use std::hint::black_box;
 
 /// The pinned pages: the root, and the page in its slot 0.
@@ -21,7 +21,7 @@ macro_rules! variants {
         let (undo_library, undo_baseline, undo_copy) = (undo.clone(), undo.clone(), undo.clone());
         Variants {
             library: repeat(move |s| {
-                accept(pool_host::$call(&mut s.pool, &mut s.frames, &mut s.store $(, $argument)*));
+                accept(pagepool::$call(&mut s.pool, &mut s.frames, &mut s.store $(, $argument)*));
                 undo_library(black_box(s));
             }),
             baseline: repeat(move |s| {
@@ -151,7 +151,7 @@ pub fn link(state: &State) -> (State, Variants) {
 
 pub fn open(state: &State) -> (State, Variants) {
     let variants = Variants {
-        library: repeat(|s| accept(pool_host::open(&mut s.frames, &s.store))),
+        library: repeat(|s| accept(pagepool::open(&mut s.frames, &s.store))),
         baseline: repeat(|s| accept(baseline::open(&mut s.frames, &s.store))),
         copy: repeat(boundary::only_out),
         undo: repeat(|_| ()),

@@ -1,7 +1,7 @@
 //! The deepest stack of each exported call: a thread's stack is painted, and what the call leaves of the paint tells.
 use crate::calls::{accept, dirtied, CHILD, ROOT};
 use pool_bench::tree::{State, FAN_OUT};
-use pool_host::PageNumber;
+use pagepool::PageNumber;
 use std::hint::black_box;
 use std::ptr;
 use std::thread::Builder;
@@ -28,13 +28,13 @@ const LAST_RESIDENT: PageNumber = COUNT as PageNumber;
 
 macro_rules! call {
     ($name:ident($($argument:expr),*)) => {
-        (stringify!($name), |s| accept(pool_host::$name(&mut s.pool, &mut s.frames, &mut s.store $(, $argument)*)))
+        (stringify!($name), |s| accept(pagepool::$name(&mut s.pool, &mut s.frames, &mut s.store $(, $argument)*)))
     };
 }
 
 /// Each call on its longest way.
 const CALLS: [(&str, Call); 13] = [
-    ("open", |s| accept(pool_host::open(&mut s.frames, &s.store))),
+    ("open", |s| accept(pagepool::open(&mut s.frames, &s.store))),
     call!(root()),
     call!(fix(CHILD, 0)),
     call!(unfix(CHILD)),

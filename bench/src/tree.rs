@@ -1,6 +1,6 @@
 //! Stores that are trees, and pools filled over them.
 use crate::baseline;
-use pool_host::{Handle, Pool, PAGE_SIZE, PAYLOAD_START};
+use pagepool::{Handle, Pool, PAGE_SIZE, PAYLOAD_START};
 
 /// The records and the buffers that a host lends to each call.
 #[derive(Clone, PartialEq)]

@@ -2,13 +2,13 @@
 use pool_bench::random::Random;
 use pool_bench::tree::{self, State};
 use pool_bench::{baseline, tree::FAN_OUT};
-use pool_host::{Handle, PageNumber, Pool, Refusal, PAGE_SIZE, PAYLOAD_SIZE, SLOTS};
+use pagepool::{Handle, PageNumber, Pool, Refusal, PAGE_SIZE, PAYLOAD_SIZE, SLOTS};
 use std::fmt::Debug;
 
 /// Makes a call in both, each on its own state, and compares answers and states.
 macro_rules! same {
     ($a:ident, $b:ident, $name:ident($($argument:expr),*)) => {{
-        let library = pool_host::$name(&mut $a.pool, &mut $a.frames, &mut $a.store $(, $argument)*);
+        let library = pagepool::$name(&mut $a.pool, &mut $a.frames, &mut $a.store $(, $argument)*);
         let baseline = baseline::$name(&mut $b.pool, &mut $b.frames, &mut $b.store $(, $argument)*);
         agreed(stringify!($name), library, baseline)
     }};
@@ -17,7 +17,7 @@ macro_rules! same {
 /// The same for a call that answers a part of a buffer.
 macro_rules! same_part {
     ($a:ident, $b:ident, $name:ident($argument:expr)) => {{
-        let library = pool_host::$name(&$a.pool, &$a.frames, &$a.store, $argument);
+        let library = pagepool::$name(&$a.pool, &$a.frames, &$a.store, $argument);
         let baseline = baseline::$name(&$b.pool, &$b.frames, &$b.store, $argument);
         agreed(stringify!($name), library.map(|part| place(part, $a)), baseline.map(|part| place(part, $b)))
     }};
@@ -94,7 +94,7 @@ impl Trial {
     /// An open that goes on with its records, where they are given, one time in ten.
     fn open(&mut self, a: &mut State, b: &mut State) -> Refusal {
         let before = (a.frames.clone(), a.pool);
-        let library = pool_host::open(&mut a.frames, &a.store);
+        let library = pagepool::open(&mut a.frames, &a.store);
         let baseline = baseline::open(&mut b.frames, &b.store);
         match library {
             Ok(pool) if self.random.percent(10) => (a.pool, b.pool) = (pool, pool),

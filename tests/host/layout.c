@@ -1,5 +1,5 @@
 /* Reads back every field of the structs that the library fills with values of their own. Names each field that differs. */
-#include "pool.h"
+#include "pagepool.h"
 
 #include <stdio.h>
 

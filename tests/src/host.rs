@@ -1,7 +1,7 @@
-//! The linked library `host`, behind the same trait as the model.
+//! The linked library `pagepool`, behind the same trait as the model.
 use crate::pool::{Buffer, Fixed, Machine, Place, Refusal};
 use crate::records::{Handle, Pool, State};
-use pool_host::raw;
+use pagepool::raw;
 
 /// Lends a state to a function that may change it, or to one that only reads.
 macro_rules! lend {

@@ -1,5 +1,5 @@
 //! The pool's records and the buffers beside them, laid out as at the C boundary.
-pub use pool_host::{
+pub use pagepool::{
     FrameRecord, Handle, Pool, LEAST_FRAMES, MAX_USAGE, MOST_FRAMES, MOST_PAGES, PAGE_SIZE, PAYLOAD_SIZE,
     PAYLOAD_START, SLOTS,
 };

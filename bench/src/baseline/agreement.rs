@@ -2,7 +2,7 @@
 //! of N or above than such records, every swizzled word points back and every other word is a number below N.
 use super::page::{swizzled_to, word, words, Page};
 use super::seen::Seen;
-use pool_host::{FrameRecord, Pool, MAX_USAGE, SLOTS};
+use pagepool::{FrameRecord, Pool, MAX_USAGE, SLOTS};
 
 /// Whether records and frames agree. Adds the resident pages but the root, and the numbers in their words, to an empty table.
 pub fn agrees(pool: &Pool, frames: &[Page], seen: &mut Seen) -> bool {

@@ -1,5 +1,5 @@
 //! The thirteen calls of document 01 in safe Rust, on records lent by `&mut`. Each takes and answers what the function of
-//! the same name in `pool_host` does.
+//! the same name in `pagepool` does.
 mod agreement;
 mod moves;
 mod naming;
@@ -8,7 +8,7 @@ mod rules;
 mod seen;
 
 use page::{pages_of, pages_of_mut, SWIZZLE_BIT};
-use pool_host::{
+use pagepool::{
     Fixed, FrameIndex, FrameRecord, Handle, PageNumber, Pool, Refusal, MAX_PINS, MAX_USAGE, PAGE_SIZE,
     PAYLOAD_SIZE, PAYLOAD_START,
 };

@@ -1,7 +1,7 @@
 //! A page leaving its frame, coming into one, and settling; and the frame that a load takes.
 use super::page::{pages_of, pages_of_mut, put_word, swizzled_to, word, Page, SWIZZLE_BIT};
 use super::records;
-use pool_host::{FrameIndex, FrameRecord, PageNumber, Pool, Refusal, MAX_USAGE, SLOTS};
+use pagepool::{FrameIndex, FrameRecord, PageNumber, Pool, Refusal, MAX_USAGE, SLOTS};
 
 /// The page number that a word stands for.
 pub fn plain(records: &[FrameRecord], word: u32) -> u32 {

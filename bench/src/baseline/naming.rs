@@ -2,7 +2,7 @@
 use super::page::{overlaid, words, Page};
 use super::seen::Seen;
 use super::{frame_of, PageNumber};
-use pool_host::Pool;
+use pagepool::Pool;
 
 /// Whether a stored page that isn't resident names a page. Residence is asked for only where the number is found.
 pub fn is_stored(pool: &Pool, store: &[Page], page: PageNumber) -> bool {

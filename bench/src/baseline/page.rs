@@ -1,5 +1,5 @@
 //! Pages of a buffer, and the words of a page.
-use pool_host::{FrameIndex, PAGE_SIZE, SLOTS};
+use pagepool::{FrameIndex, PAGE_SIZE, SLOTS};
 
 pub const SWIZZLE_BIT: u32 = 1 << 31;
 

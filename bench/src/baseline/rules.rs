@@ -2,7 +2,7 @@
 use super::agreement;
 use super::page::pages_of;
 use super::seen::Seen;
-use pool_host::{Handle, PageNumber, Pool, Refusal, LEAST_FRAMES, MOST_FRAMES, MOST_PAGES, PAGE_SIZE, SLOTS};
+use pagepool::{Handle, PageNumber, Pool, Refusal, LEAST_FRAMES, MOST_FRAMES, MOST_PAGES, PAGE_SIZE, SLOTS};
 
 /// Refuses by a number where a rule isn't kept.
 pub fn rule(number: Refusal, kept: bool) -> Result<(), Refusal> {

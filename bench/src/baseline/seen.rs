@@ -1,5 +1,5 @@
 //! A table of page numbers.
-use pool_host::{PageNumber, MOST_PAGES};
+use pagepool::{PageNumber, MOST_PAGES};
 
 /// Whether each number was added. 0 never is.
 pub struct Seen([bool; MOST_PAGES]);

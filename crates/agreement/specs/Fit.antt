@@ -15,7 +15,7 @@ use Rattle.machine.specs.declared.Pool.{Pool}
 use Rattle.machine.specs.Tests.{pick, _and_}
 use Rattle.machine.specs.Machine.{recordAt, pageIn}
 use Rattle.machine.specs.Agreement.{agree}
-use Rattle.machine.specs.Parents.{climb}
+use Rattle.machine.specs.Laws.Parents.{climb}
 use Rattle.residents.specs.Table.{Table}
 use Rattle.residents.specs.Handed.{Handed}
 use Rattle.agreement.specs.Counting.{countIf}

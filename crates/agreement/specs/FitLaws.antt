@@ -19,7 +19,7 @@ use Rattle.page.specs.Word.{wordAt}
 use Rattle.page.specs.Page.{slot}
 use Rattle.machine.specs.declared.FrameRecord.{FrameRecord}
 use Rattle.machine.specs.Tests.{_and_}
-use Rattle.machine.specs.TestLaws.{pick-yes, pick-no, both, and-true, and-yes, and-no, clash}
+use Rattle.machine.specs.Laws.TestLaws.{pick-yes, pick-no, both, and-true, and-yes, and-no, clash}
 use Rattle.machine.specs.Machine.{recordAt, pageIn}
 use Rattle.machine.specs.Agreement.{isBlank}
 use Rattle.agreement.specs.Counting.{countIf, count-zero, count-yes, count-no, count-add, count-ext, count-none, count-le}

@@ -9,9 +9,9 @@ use Rattle.page.specs.Figures.{slotCount, mostPages, swizzleBit}
 use Rattle.page.specs.Page.{slot}
 use Rattle.machine.specs.declared.Pool.{Pool}
 use Rattle.machine.specs.Tests.{_or_}
-use Rattle.machine.specs.TestLaws.{case, on, off, same, or-left, or-right, or-second}
+use Rattle.machine.specs.Laws.TestLaws.{case, on, off, same, or-left, or-right, or-second}
 use Rattle.machine.specs.Machine.{State, state, pageIn, occupied}
-use Rattle.machine.specs.AgreementFacts.{occupied-lt, occupied-used, Agreed, facts}
+use Rattle.machine.specs.Laws.AgreementFacts.{occupied-lt, occupied-used, Agreed, facts}
 use Rattle.machine.specs.Naming.{namedByResident}
 use Rattle.soundness.specs.Seen.{told}
 use Rattle.residents.specs.Table.{Table, inTable, inFrames}

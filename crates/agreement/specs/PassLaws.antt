@@ -11,7 +11,7 @@ use lib.ListN.{length, set, length-set, length-replicate}
 use lib.Seq.{getD-set-other}
 use Rattle.page.specs.Figures.{slotCount, mostFrames, recordCount, mostPages}
 use Rattle.machine.specs.declared.FrameRecord.{FrameRecord}
-use Rattle.machine.specs.TestLaws.{case, on, off}
+use Rattle.machine.specs.Laws.TestLaws.{case, on, off}
 use Rattle.machine.specs.Machine.{recordAt, pageIn}
 use Rattle.residents.specs.Table.{Table}
 use Rattle.residents.specs.Handed.{Clear}

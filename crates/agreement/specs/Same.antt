@@ -14,11 +14,11 @@ use Rattle.page.specs.Page.{slot}
 use Rattle.machine.specs.declared.FrameRecord.{FrameRecord}
 use Rattle.machine.specs.declared.Pool.{Pool}
 use Rattle.machine.specs.Tests.{_and_}
-use Rattle.machine.specs.TestLaws.{clash, case, on, off, is-off, both, and-true}
+use Rattle.machine.specs.Laws.TestLaws.{clash, case, on, off, is-off, both, and-true}
 use Rattle.machine.specs.Machine.{recordAt, pageIn, occupied}
 use Rattle.machine.specs.Agreement.{parentOf, parentSlotOf, agree}
-use Rattle.machine.specs.AgreementFacts.{occupied-lt, occupied-used, make-occupied, InRange, Points, Agreed, facts, tests}
-use Rattle.machine.specs.Parents.{climb-zero, climb-suc, climb-reach, reach-climb}
+use Rattle.machine.specs.Laws.AgreementFacts.{occupied-lt, occupied-used, make-occupied, InRange, Points, Agreed, facts, tests}
+use Rattle.machine.specs.Laws.Parents.{climb-zero, climb-suc, climb-reach, reach-climb}
 use Rattle.agreement.specs.Sizes.{Sizes}
 use Rattle.agreement.specs.Deciding.{Decides, holds, fails}
 use Rattle.agreement.specs.Counting.{countIf, without, without-of, without-other, count-without, Into, into-le, into-all}

@@ -12,7 +12,7 @@ use lib.Dec.{eqb}
 use lib.ListN.{length, getD, set, replicate, length-set, length-replicate, getD-replicate, List·getD-eq-default}
 use lib.Seq.{getD-set-same, getD-set-other, set-getD, set-set}
 use Rattle.page.specs.Figures.{mostPages}
-use Rattle.machine.specs.TestLaws.{clash, case, on, off}
+use Rattle.machine.specs.Laws.TestLaws.{clash, case, on, off}
 
 -- no number but 0 stands at two of the first n places, and the table has exactly the numbers there, 0 apart
 pub record Passed (N : ℕ) (row : ℕ → ℕ) (n : ℕ) (seen : List Bool) : Type 0 where

@@ -8,7 +8,7 @@ use native.Mathlib.Omega.{arith}
 use native.Mathlib.Decide.{ℕ-discrete}
 use lib.ListN.{length, set, length-set}
 use lib.Seq.{getD-set-same, getD-set-other}
-use Rattle.machine.specs.Parents.{climb, climb-add, climb-below, climb-more, climb-few}
+use Rattle.machine.specs.Laws.Parents.{climb, climb-add, climb-below, climb-more, climb-few}
 use Rattle.agreement.specs.Deciding.{Decides, holds, decide-flag}
 use Rattle.agreement.specs.Fit.{entry, AllLead}
 

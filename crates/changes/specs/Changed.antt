@@ -16,12 +16,12 @@ use Rattle.machine.specs.declared.FrameRecord.{FrameRecord}
 use Rattle.machine.specs.declared.Handle.{Handle}
 use Rattle.machine.specs.declared.Pool.{Pool}
 use Rattle.machine.specs.Tests.{firstBroken}
-use Rattle.machine.specs.TestLaws.{and-true, first-kept, pick-yes, pick-no}
+use Rattle.machine.specs.Laws.TestLaws.{and-true, first-kept, pick-yes, pick-no}
 use Rattle.machine.specs.Machine.{State, state, blank, recordAt, withRecord, withRecords, dirtied}
 use Rattle.machine.specs.Rules.{rangeFits, wordOf, rule5, rule6-link, rule7, rule8, rule9, rule10}
 use Rattle.machine.specs.Answers.{out, doneAnswer}
 use Rattle.machine.specs.Calls.{writeRules, linkRules, unlinkRules, written, relinked, writeCall, linkCall, unlinkCall}
-use Rattle.machine.specs.RuleLaws.{HandleKept, SlotKept, handle-parts, slot-parts, done-yes}
+use Rattle.machine.specs.Laws.RuleLaws.{HandleKept, SlotKept, handle-parts, slot-parts, done-yes}
 use Rattle.guard.specs.Held.{recordPlace}
 
 -- the records with the page in frame f marked dirty

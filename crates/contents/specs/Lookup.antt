@@ -11,11 +11,11 @@ use Rattle.page.specs.declared.PageNumber.{PageNumber}
 use Rattle.page.specs.Figures.{pageSize, payloadSize}
 use Rattle.page.specs.Page.{payloadAt}
 use Rattle.machine.specs.Tests.{firstBroken}
-use Rattle.machine.specs.TestLaws.{pick-yes, pick-no}
+use Rattle.machine.specs.Laws.TestLaws.{pick-yes, pick-no}
 use Rattle.machine.specs.Machine.{State, found}
 use Rattle.machine.specs.Answers.{payload, inFrames, inStore, frame, nowhere}
 use Rattle.machine.specs.Calls.{pageRules, payloadPlace, peekCall, foundAnswer, findCall}
-use Rattle.machine.specs.RuleLaws.{answer-yes}
+use Rattle.machine.specs.Laws.RuleLaws.{answer-yes}
 use Rattle.residents.specs.Handed.{Handed}
 use Rattle.scan.specs.ByTable.{foundBy, counted, at-found}
 

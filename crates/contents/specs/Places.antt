@@ -14,11 +14,11 @@ use Rattle.page.specs.Page.{payloadAt, bytesFrom}
 use Rattle.machine.specs.declared.Handle.{Handle}
 use Rattle.machine.specs.declared.Place.{Place}
 use Rattle.machine.specs.Tests.{Rule, firstBroken}
-use Rattle.machine.specs.TestLaws.{clash, pick-yes, pick-no, verdict-no, verdict-yes, case, on, off}
+use Rattle.machine.specs.Laws.TestLaws.{clash, pick-yes, pick-no, verdict-no, verdict-yes, case, on, off}
 use Rattle.machine.specs.Machine.{State, found}
 use Rattle.machine.specs.Answers.{Answer, refused, payload, Buffer, inFrames, inStore, out, bufferIf, placeAnswer, Lent, cut, Shown, handedBack}
 use Rattle.machine.specs.Calls.{decide, handleRules, pageRules, payloadPlace, showCall, peekCall}
-use Rattle.machine.specs.RuleLaws.{handle-kept, page-kept, answer-no, answer-yes}
+use Rattle.machine.specs.Laws.RuleLaws.{handle-kept, page-kept, answer-no, answer-yes}
 
 -- no place, with a refusal's number
 abbrev pub refusedPlace : ℕ → Place

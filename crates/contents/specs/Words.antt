@@ -12,13 +12,13 @@ use Rattle.page.specs.Word.{frameIn}
 use Rattle.machine.specs.declared.Handle.{Handle}
 use Rattle.machine.specs.Tests.{firstBroken}
 use Rattle.machine.specs.Machine.{State, pageNumber, pageIn}
-use Rattle.machine.specs.AgreementFacts.{occupied-lt}
+use Rattle.machine.specs.Laws.AgreementFacts.{occupied-lt}
 use Rattle.machine.specs.Moves.{plain}
-use Rattle.machine.specs.PlainLaws.{plain-low, plain-high, reading, low, high}
+use Rattle.machine.specs.Laws.PlainLaws.{plain-low, plain-high, reading, low, high}
 use Rattle.machine.specs.Answers.{number}
 use Rattle.machine.specs.Rules.{wordOf}
 use Rattle.machine.specs.Calls.{wordRules, wordCall}
-use Rattle.machine.specs.RuleLaws.{SlotKept, slot-kept, held-occupied, answer-yes}
+use Rattle.machine.specs.Laws.RuleLaws.{SlotKept, slot-kept, held-occupied, answer-yes}
 use Rattle.residents.specs.Table.{pageBy}
 use Rattle.residents.specs.Handed.{Handed}
 

@@ -17,18 +17,18 @@ use Rattle.machine.specs.declared.Pool.{Pool}
 use Rattle.machine.specs.declared.Handle.{Handle}
 use Rattle.machine.specs.declared.Fix.{Fix}
 use Rattle.machine.specs.Tests.{pick, Rule, firstBroken, verdict}
-use Rattle.machine.specs.TestLaws.{pick-yes, pick-no, or-left, or-skip, kept-then, broken-here, none-broken}
+use Rattle.machine.specs.Laws.TestLaws.{pick-yes, pick-no, or-left, or-skip, kept-then, broken-here, none-broken}
 use Rattle.machine.specs.Machine.{State, state, withPool, recordAt, pageIn, withRecords, withRecord, pinned, loadedRecord}
 use Rattle.machine.specs.Answers.{refused, handle, Out, out}
-use Rattle.machine.specs.Sweep.{Swept, childless, firstEmpty, sweep, withSwept}
+use Rattle.machine.specs.Sweep.{Swept, childless, firstEmpty, kind, sweep, withSwept}
 use Rattle.machine.specs.Moves.{vacate, evicted}
 use Rattle.machine.specs.Naming.{loadable}
 use Rattle.machine.specs.Rules.{wordOf, rule7, rule13, rule14, rule15}
 use Rattle.machine.specs.Calls.{decide, poolRules, wordRules, loadedOut, missOut, rootCall, fixCall}
-use Rattle.machine.specs.Ready.{Kept, Ready, Sized, ready}
-use Rattle.machine.specs.RuleLaws.{SlotKept, held-occupied, decide-no, decide-yes, pool-stops, pool-passes, slot-stops, slot-passes}
-use Rattle.machine.specs.SweepLaws.{open-childless, sweep-sound, swept-ready}
-use Rattle.machine.specs.MoveLaws.{evicted-sized}
+use Rattle.machine.specs.Laws.Ready.{Kept, Ready, Sized, ready}
+use Rattle.machine.specs.Laws.RuleLaws.{SlotKept, held-occupied, decide-no, decide-yes, pool-stops, pool-passes, slot-stops, slot-passes}
+use Rattle.machine.specs.Laws.SweepLaws.{open-childless, sweep-sound, swept-ready}
+use Rattle.machine.specs.Laws.MoveLaws.{evicted-sized}
 use Rattle.residents.specs.Handed.{Handed}
 use Rattle.naming.specs.ByTable.{loadableBy, loadable-by}
 use Rattle.scan.specs.declared.Walk.{Walk}
@@ -93,7 +93,7 @@ pub record Took (s : State) (r : Walk) (m : Pool) : Type 0 where
   pub rest : m ≡ withRecords (s .pool) (m .records)
   pub swept : sweptAs r (m .records) ≡ sweep (s .pool) (s .frames)
 
-module _ (s : State) (R : Ready s) {us vs : List ℕ} {r : Walk} (S : Sees (s .pool .records) (s .frames) us (s .pool .count)) (W : Walked (s .pool .count) (s .pool .hand .0) us vs r) where
+module _ (s : State) (R : Ready s) {us vs : List ℕ} {r : Walk} (S : Sees (kind (s .frames)) (s .pool .records) us (s .pool .count)) (W : Walked (s .pool .count) (s .pool .hand .0) us vs r) where
   few : Few (s .pool .records) (s .pool .count)
   few g l = R .inRange g l .usage
 

@@ -8,7 +8,7 @@ ghost use mathlib.Core.Path.{_≡_};
 ghost use Prim.Native.Nat.{_<_};
 ghost use Rattle.page.specs.Figures.{slotCount};
 ghost use Rattle.machine.specs.Machine.{state};
-ghost use Rattle.machine.specs.Ready.{Kept};
+ghost use Rattle.machine.specs.Laws.Ready.{Kept};
 ghost use Rattle.residents.specs.Handed.{Handed};
 ghost use Rattle.fixing.specs.Steps.{fixOut, missDecided};
 
@@ -41,23 +41,23 @@ pub fn bring_in(
         return answer::given(next, frame, page, 0);
     }
     // No frame is empty: the sweep, over what it sees of the frames.
-    let mut usages: [u8; FrameIndex::MOST] = [0; FrameIndex::MOST];
+    let mut sights: [u8; FrameIndex::MOST] = [0; FrameIndex::MOST];
     let mut f: usize = 0;
     while f < most {
         let rec = next.records[f];
-        usages[f] = scan::open_usage(rec, frames, FrameIndex(f as u8));
+        sights[f] = scan::sight(rec, frames, FrameIndex(f as u8));
         f += 1;
     }
-    let walk = scan::sweep(&mut usages, count, hand);
+    let walk = scan::sweep(&mut sights, count, hand);
     let taken = walk.taken;
     if !taken {
         return answer::refused(pool, 15);
     }
-    // What it left of the usages goes to the records; the page of the frame that it took goes, and the other comes in.
+    // The usages that it left go to the records; the page of the frame that it took goes, and the other comes in.
     let mut g: usize = 0;
     while g < most {
         let rec = next.records[g];
-        next.records[g] = scan::cooled(rec, usages[g]);
+        next.records[g] = scan::cooled(rec, sights[g]);
         g += 1;
     }
     let hand_after = walk.hand;

@@ -12,11 +12,11 @@ use Rattle.machine.specs.declared.FrameRecord.{FrameRecord}
 use Rattle.machine.specs.declared.Handle.{Handle}
 use Rattle.machine.specs.declared.Pool.{Pool}
 use Rattle.machine.specs.Tests.{_and_, firstBroken}
-use Rattle.machine.specs.TestLaws.{and-no}
+use Rattle.machine.specs.Laws.TestLaws.{and-no}
 use Rattle.machine.specs.Machine.{State, recordAt}
 use Rattle.machine.specs.Rules.{handleFits}
 use Rattle.machine.specs.Calls.{poolRules}
-use Rattle.machine.specs.Ready.{Kept, rules-kept}
+use Rattle.machine.specs.Laws.Ready.{Kept, rules-kept}
 
 -- where the record of the handle's frame stands, if that frame is one of F
 abbrev pub recordPlace : Handle → ℕ

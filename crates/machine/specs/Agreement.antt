@@ -84,7 +84,7 @@ unfoldable pub reachesRoot : Pool → ℕ → ℕ → Bool
 reachesRoot p zero f = eqb f 0
 reachesRoot p (suc n) f = eqb f 0 or reachesRoot p n (parentOf p f)
 
--- "Following parents from any occupied frame reaches frame 0." F steps are enough (specs/Parents).
+-- "Following parents from any occupied frame reaches frame 0." F steps are enough (specs/Laws/Parents).
 unfoldable pub allReachRoot : Pool → Bool
 allReachRoot p = every (p .count) (λ f. occupied p f ⇒ reachesRoot p (p .count) f)
 

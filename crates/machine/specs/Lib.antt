@@ -11,16 +11,7 @@ pub mod Rules
 pub mod Calls
 pub mod History
 pub mod Demand3
-pub mod BenchCases
--- Laws of the definitions, for the code and for the theorem.
-pub mod TestLaws
-pub mod PlainLaws
-pub mod AgreementFacts
-pub mod Parents
-pub mod FoundLaws
-pub mod SweepLaws
-pub mod MoveLaws
-pub mod Ready
-pub mod RuleLaws
--- The proof of demand 3.
+-- Cases computed from them, laws of them for the code and the theorem, and the proof of demand 3.
+pub mod Tables
+pub mod Laws
 pub mod Theorem

@@ -56,6 +56,10 @@ unpinned r = record { used = r .used; dirty = r .dirty; usage = r .usage; slot =
 abbrev pub cooled : FrameRecord → FrameRecord
 cooled r = record { used = r .used; dirty = r .dirty; usage = r .usage - 1; slot = r .slot; parent = r .parent; pins = r .pins; page = r .page }
 
+-- one usage (heat) more, to 3 at most
+abbrev pub warmed : FrameRecord → FrameRecord
+warmed r = record { used = r .used; dirty = r .dirty; usage = min maxUsage (r .usage + 1); slot = r .slot; parent = r .parent; pins = r .pins; page = r .page }
+
 abbrev pub dirtied : FrameRecord → FrameRecord
 dirtied r = record { used = r .used; dirty = true; usage = r .usage; slot = r .slot; parent = r .parent; pins = r .pins; page = r .page }
 

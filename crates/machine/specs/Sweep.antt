@@ -11,7 +11,7 @@ use Rattle.page.specs.declared.FrameIndex.{FrameIndex}
 use Rattle.machine.specs.declared.FrameRecord.{FrameRecord}
 use Rattle.machine.specs.declared.Pool.{Pool}
 use Rattle.machine.specs.Tests.{pick, _and_, every}
-use Rattle.machine.specs.Machine.{recordAt, frameIndex, cooled}
+use Rattle.machine.specs.Machine.{recordAt, frameIndex, cooled, warmed}
 
 -- what a sweep ends with: whether a frame was taken and which, the looks, and the records and the hand after it
 pub record Swept : Type 0 where
@@ -38,34 +38,55 @@ firstEmpty p = emptyFrom (p .records) (p .count) (p .count) (p .hand .0)
 unfoldable pub childless : List ℕ → ℕ → Bool
 childless fs f = every slotCount (λ k. isNumber (slot fs f k))
 
--- the class of an occupied frame with record r: "The root, a pinned page and a page with a swizzled word are passed over." Any other is open to eviction.
+-- is an occupied frame with record r open to eviction: "The root, a pinned page and a page with a swizzled word are passed over." Any other is.
 unfoldable pub isOpen : FrameRecord → List ℕ → ℕ → Bool
 isOpen r fs f = pick (eqb f 0) false (pick (eqb (r .pins) 0) (childless fs f) false)
 
+-- the classes of a sweep: a frame that a look leaves as it is, one that it warms (none as yet), and one that is open to eviction
+pub data Class : Type 0 where
+  rest : Class
+  warm : Class
+  yield : Class
+
+abbrev pub yields : Class → Bool
+yields rest = false
+yields warm = false
+yields yield = true
+
+-- which class a frame with this record has
+abbrev pub Kind : Type 0
+Kind = FrameRecord → ℕ → Class
+
+-- those of document 01: open to eviction or passed over
+unfoldable pub kind : List ℕ → Kind
+kind fs r f = pick (isOpen r fs f) yield rest
+
 -- what a look leaves of the record: "Any other with heat above 0 loses 1."
-unfoldable pub lookLeaves : FrameRecord → Bool → FrameRecord
-lookLeaves r isopen = pick isopen (cooled r) r
+unfoldable pub lookLeaves : FrameRecord → Class → FrameRecord
+lookLeaves r rest = r
+lookLeaves r warm = warmed r
+lookLeaves r yield = cooled r
 
 -- "One with heat 0 is evicted and its frame used."
-unfoldable pub lookTakes : FrameRecord → Bool → Bool
-lookTakes r isopen = isopen and eqb (r .usage) 0
+unfoldable pub lookTakes : FrameRecord → Class → Bool
+lookTakes r c = yields c and eqb (r .usage) 0
 
 -- at most m looks more after n looks, the hand at h: "The hand moves on by one after every look, the last included"
-unfoldable pub sweepFrom : List ℕ → ℕ → ℕ → ℕ → List FrameRecord → ℕ → Swept
-sweepFrom fs F zero n rs h = record { taken = false; frame = frameIndex 0; looks = n; records = rs; hand = frameIndex h }
-sweepFrom fs F (suc m) n rs h =
-    let o = isOpen (recordAt rs h) fs h in
+unfoldable pub sweepFrom : Kind → ℕ → ℕ → ℕ → List FrameRecord → ℕ → Swept
+sweepFrom k F zero n rs h = record { taken = false; frame = frameIndex 0; looks = n; records = rs; hand = frameIndex h }
+sweepFrom k F (suc m) n rs h =
+    let o = k (recordAt rs h) h in
     let next = set rs h (lookLeaves (recordAt rs h) o) in
     pick (lookTakes (recordAt rs h) o)
     (record { taken = true; frame = frameIndex h; looks = n + 1; records = next; hand = frameIndex (after F h) })
-    (sweepFrom fs F m (n + 1) next (after F h))
+    (sweepFrom k F m (n + 1) next (after F h))
 
 -- "A sweep takes at most 4 × F looks."
 abbrev pub mostLooks : ℕ → ℕ
 mostLooks F = 4 * F
 
 abbrev pub sweep : Pool → List ℕ → Swept
-sweep p fs = sweepFrom fs (p .count) (mostLooks (p .count)) 0 (p .records) (p .hand .0)
+sweep p fs = sweepFrom (kind fs) (p .count) (mostLooks (p .count)) 0 (p .records) (p .hand .0)
 
 -- the records and the hand as a sweep leaves them
 abbrev pub withSwept : Pool → Swept → Pool

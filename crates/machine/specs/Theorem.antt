@@ -9,6 +9,8 @@ pub mod PinsEffect
 pub mod WriteOut
 pub mod RecordChange
 pub mod SlotChange
+pub mod Holders
+pub mod Fit
 pub mod KeepsRecords
 pub mod KeepsWrite
 pub mod KeepsLink
@@ -18,7 +20,6 @@ pub mod KeepsSettle
 pub mod KeepsOpen
 pub mod Keeps
 pub mod Outcomes
-pub mod Holders
 pub mod TestReads
 pub mod InvariantReads
 pub mod CallCases
@@ -28,6 +29,8 @@ pub mod PointHolds
 pub mod AnswersHold
 pub mod DeniedHolds
 pub mod SweepStep
-pub mod Steps
+pub mod CallSteps
 pub mod HandlesHold
+pub mod Steps
+pub mod NeverRefused
 pub mod Demand3Holds

@@ -13,7 +13,7 @@ use Rattle.machine.specs.declared.Pool.{Pool}
 use Rattle.machine.specs.Machine.{State, state, recordAt, pageIn, loadedRecord}
 use Rattle.machine.specs.Sweep.{childless}
 use Rattle.machine.specs.Moves.{vacate, occupy, evicted, loaded}
-use Rattle.machine.specs.Ready.{Sized, Ready}
+use Rattle.machine.specs.Laws.Ready.{Sized, Ready}
 use Rattle.moves.specs.WriteOut.{Writable, WrittenAsIs}
 use Rattle.moves.specs.Steps.{writable}
 

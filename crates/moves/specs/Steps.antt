@@ -14,12 +14,12 @@ use Rattle.page.specs.Octets.{Octets}
 use Rattle.page.specs.Page.{slot, pageOf, putSlot, putPage, slot-pageOf, pageOf-whole, part-is-page, put-part}
 use Rattle.machine.specs.declared.FrameRecord.{FrameRecord}
 use Rattle.machine.specs.declared.Pool.{Pool}
-use Rattle.machine.specs.TestLaws.{every-true, pick-yes, pick-no}
+use Rattle.machine.specs.Laws.TestLaws.{every-true, pick-yes, pick-no}
 use Rattle.machine.specs.Machine.{State, state, cleaned, recordAt, pageIn, withRecord, withRecords}
 use Rattle.machine.specs.Moves.{imageTo, writtenOutBy, writtenOutTo, cleanedTo, settled}
 use Rattle.machine.specs.Sweep.{childless}
-use Rattle.machine.specs.MoveLaws.{image-length, image-own, writtenOutBy-ext, writtenOutTo-zero, writtenOutTo-suc, cleanedTo-zero, cleanedTo-suc, cleanedTo-above}
-use Rattle.machine.specs.Ready.{Ready}
+use Rattle.machine.specs.Laws.MoveLaws.{image-length, image-own, writtenOutBy-ext, writtenOutTo-zero, writtenOutTo-suc, cleanedTo-zero, cleanedTo-suc, cleanedTo-above}
+use Rattle.machine.specs.Laws.Ready.{Ready}
 use Rattle.residents.specs.Table.{pageBy, Table}
 use Rattle.moves.specs.WriteOut.{Named, Writable}
 

@@ -9,7 +9,7 @@ use page::PageNumber;
 ghost use mathlib.Core.Path.{_≡_};
 ghost use Rattle.machine.specs.Machine.{state, blank, loadedRecord};
 ghost use Rattle.machine.specs.Moves.{settled};
-ghost use Rattle.machine.specs.Ready.{Ready};
+ghost use Rattle.machine.specs.Laws.Ready.{Ready};
 ghost use Rattle.residents.specs.Table.{Table};
 ghost use Rattle.moves.specs.InAndOut.{Removable, TakenOut, Fitting, broughtIn};
 

@@ -6,10 +6,10 @@ use mathlib.Core.List.{List, []}
 use native.Mathlib.Omega.{arith}
 use Rattle.page.specs.Figures.{slotCount}
 use Rattle.machine.specs.Tests.{_or_, every}
-use Rattle.machine.specs.TestLaws.{true-every, every-ext}
+use Rattle.machine.specs.Laws.TestLaws.{true-every, every-ext}
 use Rattle.machine.specs.Machine.{State, state}
 use Rattle.machine.specs.Naming.{named, namedByResident, loadable}
-use Rattle.machine.specs.Ready.{Kept}
+use Rattle.machine.specs.Laws.Ready.{Kept}
 use Rattle.soundness.specs.Seen.{hasWord, told, fresh}
 use Rattle.soundness.specs.SeenLaws.{fresh-zero, fresh-ext, no-word}
 use Rattle.soundness.specs.Pages.{pageWords}

@@ -10,7 +10,7 @@ use lib.Dec.{eqb, ltb}
 use Rattle.page.specs.Figures.{slotCount}
 use Rattle.page.specs.Page.{slot}
 use Rattle.machine.specs.Tests.{every}
-use Rattle.machine.specs.TestLaws.{clash, same, is-off, both, and-true, or-left, or-right, or-second, every-true, true-every, some-true, true-some}
+use Rattle.machine.specs.Laws.TestLaws.{clash, same, is-off, both, and-true, or-left, or-right, or-second, every-true, true-every, some-true, true-some}
 use Rattle.machine.specs.Machine.{State}
 use Rattle.machine.specs.Naming.{namedByResident, repeated, wordLoadable, loadable}
 use Rattle.soundness.specs.Seen.{fresh}

@@ -10,13 +10,13 @@ use lib.Dec.{eqb}
 use Rattle.page.specs.Figures.{slotCount}
 use Rattle.page.specs.Page.{slot}
 use Rattle.machine.specs.Tests.{_or_}
-use Rattle.machine.specs.TestLaws.{case, on, off, same, is-off, or-left, or-right, or-second, some-true, true-some, pick-yes, pick-no}
+use Rattle.machine.specs.Laws.TestLaws.{case, on, off, same, is-off, or-left, or-right, or-second, some-true, true-some, pick-yes, pick-no}
 use Rattle.machine.specs.Machine.{State, pageIn, occupied, found}
-use Rattle.machine.specs.AgreementFacts.{occupied-lt}
-use Rattle.machine.specs.FoundLaws.{found-holds, found-is, none-found}
+use Rattle.machine.specs.Laws.AgreementFacts.{occupied-lt}
+use Rattle.machine.specs.Laws.FoundLaws.{found-holds, found-is, none-found}
 use Rattle.machine.specs.Moves.{plain}
 use Rattle.machine.specs.Naming.{currentWord, named, namedByResident}
-use Rattle.machine.specs.Ready.{Kept}
+use Rattle.machine.specs.Laws.Ready.{Kept}
 use Rattle.soundness.specs.Pages.{pageWords}
 use Rattle.residents.specs.Table.{Table}
 use Rattle.residents.specs.TableLaws.{Names, names-of, of-names, table-in, not-in-table}

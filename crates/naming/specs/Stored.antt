@@ -6,7 +6,7 @@ use mathlib.Core.List.{List}
 use borrow.Author.Tests.{not-true}
 use Rattle.page.specs.Figures.{slotCount}
 use Rattle.machine.specs.Tests.{_and_, some}
-use Rattle.machine.specs.TestLaws.{both, and-true, and-no, and-off, some-zero, some-true, true-some}
+use Rattle.machine.specs.Laws.TestLaws.{both, and-true, and-no, and-off, some-zero, some-true, true-some}
 use Rattle.soundness.specs.Seen.{among}
 use Rattle.soundness.specs.SeenLaws.{some-keep, is-among, among-is}
 use Rattle.soundness.specs.Pages.{pageWords}

@@ -14,17 +14,17 @@ use Rattle.machine.specs.declared.FrameRecord.{FrameRecord}
 use Rattle.machine.specs.declared.Handle.{Handle}
 use Rattle.machine.specs.declared.Pool.{Pool}
 use Rattle.machine.specs.Tests.{Rule, firstBroken}
-use Rattle.machine.specs.TestLaws.{kept-then, broken-here, none-broken}
+use Rattle.machine.specs.Laws.TestLaws.{kept-then, broken-here, none-broken}
 use Rattle.machine.specs.Machine.{State, state, blank, unpinned, recordAt, withRecord, zeroPool, openedPool, found}
 use Rattle.machine.specs.Soundness.{sound}
 use Rattle.machine.specs.Sweep.{isOpen}
-use Rattle.machine.specs.SweepLaws.{open-childless}
+use Rattle.machine.specs.Laws.SweepLaws.{open-childless}
 use Rattle.machine.specs.Moves.{evicted}
 use Rattle.machine.specs.Answers.{out, doneAnswer}
 use Rattle.machine.specs.Rules.{lengthsFit, rule11, rule12}
 use Rattle.machine.specs.Calls.{changeRecord, openCall, handleRules, unfixCall, pageRules, evictCall}
-use Rattle.machine.specs.Ready.{ready}
-use Rattle.machine.specs.RuleLaws.{done-no, done-yes, HandleKept, handle-kept, page-passes}
+use Rattle.machine.specs.Laws.Ready.{ready}
+use Rattle.machine.specs.Laws.RuleLaws.{done-no, done-yes, HandleKept, handle-kept, page-passes}
 use Rattle.residents.specs.Handed.{Handed}
 use Rattle.guard.specs.Held.{recordPlace}
 use Rattle.scan.specs.ByTable.{foundBy, kept, counted, at-found}

@@ -13,13 +13,13 @@ use Rattle.page.specs.Word.{frameIn, frameWord}
 use Rattle.page.specs.Page.{slot}
 use Rattle.machine.specs.declared.FrameRecord.{FrameRecord}
 use Rattle.machine.specs.Tests.{_and_, _or_}
-use Rattle.machine.specs.TestLaws.{clash, case, on, off, same, both, and-true, or-left, or-right, or-second, some-true, true-some}
+use Rattle.machine.specs.Laws.TestLaws.{clash, case, on, off, same, both, and-true, or-left, or-right, or-second, some-true, true-some}
 use Rattle.machine.specs.Machine.{State, pageIn, occupied}
 use Rattle.machine.specs.Agreement.{parentOf, parentSlotOf, isBlank}
-use Rattle.machine.specs.AgreementFacts.{occupied-lt, Points, Agreed}
+use Rattle.machine.specs.Laws.AgreementFacts.{occupied-lt, Points, Agreed}
 use Rattle.machine.specs.Moves.{plain}
 use Rattle.machine.specs.Naming.{namedByResident}
-use Rattle.machine.specs.PlainLaws.{plain-low, plain-high, reading, low, high}
+use Rattle.machine.specs.Laws.PlainLaws.{plain-low, plain-high, reading, low, high}
 use Rattle.soundness.specs.Seen.{among}
 use Rattle.soundness.specs.SeenLaws.{is-among, among-is}
 use Rattle.soundness.specs.Pages.{pageWords}

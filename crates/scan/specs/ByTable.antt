@@ -12,14 +12,14 @@ use lib.ListN.{length}
 use Rattle.page.specs.declared.PageNumber.{PageNumber}
 use Rattle.page.specs.Figures.{pageSize, mostFrames}
 use Rattle.machine.specs.Tests.{pick, _and_, firstBroken}
-use Rattle.machine.specs.TestLaws.{case, on, off, both, and-yes, and-no, or-none, pick-yes}
+use Rattle.machine.specs.Laws.TestLaws.{case, on, off, both, and-yes, and-no, or-none, pick-yes}
 use Rattle.machine.specs.Machine.{State, recordAt, pageIn, occupied, foundFrom, found}
 use Rattle.machine.specs.Sweep.{after, emptyFrom, firstEmpty}
-use Rattle.machine.specs.SweepLaws.{after-in}
-use Rattle.machine.specs.AgreementFacts.{occupied-used}
+use Rattle.machine.specs.Laws.SweepLaws.{after-in}
+use Rattle.machine.specs.Laws.AgreementFacts.{occupied-used}
 use Rattle.machine.specs.Calls.{pageRules}
-use Rattle.machine.specs.Ready.{Kept}
-use Rattle.machine.specs.RuleLaws.{page-kept}
+use Rattle.machine.specs.Laws.Ready.{Kept}
+use Rattle.machine.specs.Laws.RuleLaws.{page-kept}
 use Rattle.residents.specs.Table.{pageBy, holdsPage}
 use Rattle.residents.specs.TableLaws.{holds-page}
 use Rattle.residents.specs.Handed.{Handed}

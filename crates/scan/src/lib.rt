@@ -5,16 +5,25 @@ use machine::FrameRecord;
 use page::FrameIndex;
 use page::PageNumber;
 ghost use mathlib.Core.Path.{_≡_};
+ghost use mathlib.Core.Logic.{_≢_};
 ghost use Prim.Native.Nat.{_+_, _*_, _≤_, _<_};
 ghost use lib.ListN.{length};
-ghost use Rattle.page.specs.Figures.{pageSize, mostFrames};
+ghost use Rattle.page.specs.Figures.{pageSize, mostFrames, maxUsage};
 ghost use Rattle.machine.specs.Machine.{frameIndex};
-ghost use Rattle.machine.specs.Sweep.{after, isOpen};
+ghost use Rattle.machine.specs.Sweep.{after, isOpen, kind};
 ghost use Rattle.scan.specs.ByTable.{foundBy, emptyBy};
-ghost use Rattle.scan.specs.Walk.{openUsage, cooledTo, Walked};
+ghost use Rattle.scan.specs.Walk.{sight as classAndUsage, lookedAt, cooledTo, Walked};
 
-// A frame that isn't open to eviction, in place of its usage: above the largest.
-pub const SHUT: u8 = 4;
+// The usages that there are. What a sweep sees of a frame is one number: its usage, and above that its class, 0 for a frame that is open to eviction.
+const USAGES: u8 = 4;
+
+// The class of a frame that a look warms, with the least usage and with the largest.
+const WARM: u8 = 4;
+
+const WARMEST: u8 = 7;
+
+// The class of a frame that a look leaves as it is.
+const REST: u8 = 8;
 
 // What a sweep ends with: whether a frame was taken and which, the looks, and the hand after it.
 pub struct Walk {
@@ -85,33 +94,44 @@ pub fn is_open(rec: FrameRecord, frames: &[u8], frame: FrameIndex) -> bool
     false
 }
 
-// What a sweep sees of a frame: its usage if it is open to eviction, and SHUT for any other.
-pub fn open_usage(rec: FrameRecord, frames: &[u8], frame: FrameIndex) -> u8
-    requires { ⌜ pageSize * frame .0 + pageSize ≤ length (now frames) ⌝ }
-    ensures { λ r. ⌜ r ≡ openUsage rec (now (frames .entry)) (frame .0) ⌝ }
+// What a sweep sees of a frame.
+pub fn sight(rec: FrameRecord, frames: &[u8], frame: FrameIndex) -> u8
+    requires { ⌜ (pageSize * frame .0 + pageSize ≤ length (now frames)) × (rec .usage ≤ maxUsage) ⌝ }
+    ensures { λ r. ⌜ r ≡ classAndUsage (kind (now (frames .entry)) rec (frame .0)) (rec .usage) ⌝ }
 {
     if is_open(rec, frames, frame) {
         return rec.usage;
     }
-    SHUT
+    REST + rec.usage
+}
+
+// What a look that takes nothing leaves of what it saw.
+fn looked_at(sight: u8) -> u8
+    requires { ⌜ sight ≢ 0 ⌝ }
+    ensures { λ r. ⌜ r ≡ lookedAt sight ⌝ }
+{
+    if sight < WARM {
+        return sight - 1;
+    }
+    if sight < WARMEST {
+        return sight + 1;
+    }
+    sight
 }
 
 // The record of a frame of which a sweep left this.
-pub fn cooled(rec: FrameRecord, usage: u8) -> FrameRecord
-    ensures { λ r. ⌜ r ≡ cooledTo rec usage ⌝ }
+pub fn cooled(rec: FrameRecord, sight: u8) -> FrameRecord
+    ensures { λ r. ⌜ r ≡ cooledTo rec sight ⌝ }
 {
-    if usage == SHUT {
-        return rec;
-    }
     let mut next = rec;
-    next.usage = usage;
+    next.usage = sight % USAGES;
     next
 }
 
-// The clock sweep over what it sees of the frames: at most 4 × F looks, until one at usage 0 is taken.
-pub fn sweep(usages: &mut [u8; FrameIndex::MOST], count: u16, start: FrameIndex) -> Walk
+// The clock sweep over what it sees of the frames: at most 4 × F looks, until one open to eviction at usage 0 is taken.
+pub fn sweep(sights: &mut [u8; FrameIndex::MOST], count: u16, start: FrameIndex) -> Walk
     requires { ⌜ (count ≤ mostFrames) × (start .0 < count) ⌝ }
-    ensures { λ r. ⌜ Walked count (start .0) (now (usages .entry)) (now (usages .exit)) r ⌝ }
+    ensures { λ r. ⌜ Walked count (start .0) (now (sights .entry)) (now (sights .exit)) r ⌝ }
 {
     let most = ROUNDS * count;
     let mut hand = start;
@@ -119,10 +139,10 @@ pub fn sweep(usages: &mut [u8; FrameIndex::MOST], count: u16, start: FrameIndex)
     while looks < most {
         let frame = hand;
         let at = frame.0 as usize;
-        let usage = usages[at];
+        let sight = sights[at];
         hand = next_frame(frame, count);
         looks += 1;
-        if usage == 0 {
+        if sight == 0 {
             return Walk {
                 taken: true,
                 frame,
@@ -130,9 +150,7 @@ pub fn sweep(usages: &mut [u8; FrameIndex::MOST], count: u16, start: FrameIndex)
                 hand,
             };
         }
-        if usage != SHUT {
-            usages[at] = usage - 1;
-        }
+        sights[at] = looked_at(sight);
     }
     Walk {
         taken: false,

@@ -13,7 +13,7 @@ use lib.ListN.{replicate}
 use Rattle.page.specs.Figures.{pageSize, slotCount, mostPages}
 use Rattle.page.specs.Page.{slot}
 use Rattle.machine.specs.Tests.{_or_, every, some}
-use Rattle.machine.specs.TestLaws.{clash, same, is-off, both, and-true, use⇒, make⇒, every-true, true-every, every-false, every-ext, every-step, every-zero, some-zero, some-suc, some-true, true-some}
+use Rattle.machine.specs.Laws.TestLaws.{clash, same, is-off, both, and-true, use⇒, make⇒, every-true, true-every, every-false, every-ext, every-step, every-zero, some-zero, some-suc, some-true, true-some}
 use Rattle.machine.specs.Soundness.{wordsBelow, wordsOnce, sound}
 use Rattle.soundness.specs.Seen.{wordsFrom, among, hasWord, fresh, told, Tells, Marked}
 use Rattle.soundness.specs.SeenLaws.{Fresh, fresh-zero, fresh-new, fresh-is, fresh-ext, is-among, among-is, not-among, none-among, no-word, no-word-among, or-same, tells-none, tells-ext}

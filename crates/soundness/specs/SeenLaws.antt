@@ -13,7 +13,7 @@ use lib.ListN.{length, set, replicate, length-set, length-replicate, getD-replic
 use lib.Seq.{getD-set-same, getD-set-other}
 use Rattle.page.specs.Figures.{slotCount, mostPages}
 use Rattle.machine.specs.Tests.{_or_, every, some}
-use Rattle.machine.specs.TestLaws.{clash, same, is-off, both, and-true, or-left, or-right, or-second, or-none, or-off, or-skip, every-zero, every-step, every-false, some-zero, some-suc, true-some, some-true, some-false}
+use Rattle.machine.specs.Laws.TestLaws.{clash, same, is-off, both, and-true, or-left, or-right, or-second, or-none, or-off, or-skip, every-zero, every-step, every-false, some-zero, some-suc, true-some, some-true, some-false}
 use Rattle.soundness.specs.Seen.{among, hasWord, fresh, told, Tells, Adds, Marked}
 
 -- ---- how `some` goes on by one number

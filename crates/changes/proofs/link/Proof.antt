@@ -3,7 +3,7 @@ use mathlib.Core.Path.{refl, ap}
 use native.Mathlib.Omega.{arith}
 use Rattle.machine.specs.Machine.{State, state, recordAt}
 use Rattle.machine.specs.Calls.{linkCall}
-use Rattle.machine.specs.RuleLaws.{SlotKept, done-no}
+use Rattle.machine.specs.Laws.RuleLaws.{SlotKept, done-no}
 use Rattle.changes.specs.Changed.{linkable, link-done}
 use borrow.Author.Needs.{needs}
 use Rattle.changes.proofs.link.Statement.{statement}

@@ -4,7 +4,7 @@ use native.Mathlib.Omega.{arith}
 use lib.ListN.{length}
 use Rattle.machine.specs.Machine.{State, state, recordAt}
 use Rattle.machine.specs.Calls.{writeCall}
-use Rattle.machine.specs.RuleLaws.{done-no}
+use Rattle.machine.specs.Laws.RuleLaws.{done-no}
 use Rattle.changes.specs.Changed.{Writable, writable, put-back, write-nothing, write-bytes}
 use borrow.Author.Needs.{needs}
 use Rattle.changes.proofs.write.Statement.{statement}

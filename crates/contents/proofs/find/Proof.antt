@@ -2,7 +2,7 @@
 use mathlib.Core.Path.{refl}
 use native.Mathlib.Omega.{arith}
 use Rattle.machine.specs.Calls.{findCall}
-use Rattle.machine.specs.RuleLaws.{answer-no}
+use Rattle.machine.specs.Laws.RuleLaws.{answer-no}
 use Rattle.scan.specs.ByTable.{few}
 use Rattle.contents.specs.Lookup.{find-at, find-absent}
 use borrow.Author.Needs.{needs}

@@ -4,7 +4,7 @@ use mathlib.Core.Path.{refl, sym, ap, _∙_}
 use native.Mathlib.Omega.{arith}
 use borrow.Author.Tests.{ltb-true, ltb-false}
 use Rattle.page.specs.Figures.{swizzleBit}
-use Rattle.machine.specs.TestLaws.{pick-yes, pick-no}
+use Rattle.machine.specs.Laws.TestLaws.{pick-yes, pick-no}
 use Rattle.machine.specs.Machine.{pageNumber}
 use Rattle.machine.specs.Moves.{plain}
 use borrow.Author.Needs.{needs}

@@ -3,7 +3,7 @@ use mathlib.Core.Path.{refl, ap, _∙_}
 use native.Mathlib.Omega.{arith}
 use Rattle.machine.specs.Answers.{placeAnswer}
 use Rattle.machine.specs.Calls.{peekCall}
-use Rattle.machine.specs.RuleLaws.{answer-no}
+use Rattle.machine.specs.Laws.RuleLaws.{answer-no}
 use Rattle.contents.specs.Places.{place-refused, place-accepted}
 use Rattle.scan.specs.ByTable.{few}
 use Rattle.contents.specs.Lookup.{peek-in-frame, peek-in-store}

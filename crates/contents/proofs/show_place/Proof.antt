@@ -3,7 +3,7 @@ use mathlib.Core.Path.{refl, ap, _∙_}
 use Rattle.machine.specs.Answers.{placeAnswer}
 use Rattle.machine.specs.Machine.{recordAt}
 use Rattle.machine.specs.Calls.{showCall}
-use Rattle.machine.specs.RuleLaws.{answer-no, answer-yes}
+use Rattle.machine.specs.Laws.RuleLaws.{answer-no, answer-yes}
 use Rattle.contents.specs.Places.{place-refused, place-accepted}
 use borrow.Author.Needs.{needs}
 use Rattle.contents.proofs.show_place.Statement.{statement}

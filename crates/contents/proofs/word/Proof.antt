@@ -2,7 +2,7 @@
 use mathlib.Core.Path.{refl, ap}
 use Rattle.machine.specs.Machine.{recordAt}
 use Rattle.machine.specs.Calls.{wordCall}
-use Rattle.machine.specs.RuleLaws.{answer-no}
+use Rattle.machine.specs.Laws.RuleLaws.{answer-no}
 use Rattle.contents.specs.Words.{slot-within, resolvable, word-names}
 use borrow.Author.Needs.{needs}
 use Rattle.contents.proofs.word.Statement.{statement}

@@ -2,10 +2,10 @@
 use mathlib.Core.Path.{sym, _∙_}
 use mathlib.Core.List.{[], _∷_}
 use native.Mathlib.Omega.{arith}
-use Rattle.machine.specs.TestLaws.{call-no, call-yes, kept-then, broken-here, none-broken}
+use Rattle.machine.specs.Laws.TestLaws.{call-no, call-yes, kept-then, broken-here, none-broken}
 use Rattle.machine.specs.Machine.{State, state}
 use Rattle.machine.specs.Rules.{rule3}
-use Rattle.machine.specs.RuleLaws.{pool-stops, pool-passes}
+use Rattle.machine.specs.Laws.RuleLaws.{pool-stops, pool-passes}
 use Rattle.guard.specs.Held.{is-held}
 use borrow.Author.Needs.{needs}
 use Rattle.guard.proofs.handle_refusal.Statement.{statement}

@@ -3,10 +3,10 @@ use mathlib.Core.Path.{sym, _∙_}
 use mathlib.Core.List.{[], _∷_}
 use native.Mathlib.Omega.{arith}
 use borrow.Author.Tests.{lt-ltb, le-ltb}
-use Rattle.machine.specs.TestLaws.{kept-then, broken-here, none-broken}
+use Rattle.machine.specs.Laws.TestLaws.{kept-then, broken-here, none-broken}
 use Rattle.machine.specs.Machine.{State, state}
 use Rattle.machine.specs.Rules.{rule6}
-use Rattle.machine.specs.RuleLaws.{pool-stops, pool-passes}
+use Rattle.machine.specs.Laws.RuleLaws.{pool-stops, pool-passes}
 use Rattle.guard.specs.Held.{page-count}
 use borrow.Author.Needs.{needs}
 use Rattle.guard.proofs.page_refusal.Statement.{statement}

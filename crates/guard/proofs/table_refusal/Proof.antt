@@ -2,9 +2,9 @@
 use mathlib.Core.Path.{refl, sym, _∙_}
 use mathlib.Core.List.{[]}
 use native.Mathlib.Omega.{arith}
-use Rattle.machine.specs.TestLaws.{call-no, call-yes, kept-then, broken-here, none-broken}
+use Rattle.machine.specs.Laws.TestLaws.{call-no, call-yes, kept-then, broken-here, none-broken}
 use Rattle.machine.specs.Machine.{state}
-use Rattle.machine.specs.Ready.{Sized, lengths-of}
+use Rattle.machine.specs.Laws.Ready.{Sized, lengths-of}
 use borrow.Author.Needs.{needs}
 use Rattle.guard.proofs.table_refusal.Statement.{statement}
 use Rattle.guard.proofs.table_refusal.Tie as tie

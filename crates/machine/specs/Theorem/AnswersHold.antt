@@ -1,7 +1,6 @@
--- What demand 3 says of the answers of show, peek and word, and that 1, 2 and 14 are never answered, from the invariant. Assumes nothing.
+-- What demand 3 says of the answers of show, peek and word, from the invariant. Assumes nothing.
 use Prim.Native.Nat.{ℕ, _+_, _*_, _<_, _≤_}
 use mathlib.Core.Path.{_≡_, refl, sym, _∙_, ap}
-use mathlib.Core.Logic.{_≢_}
 use mathlib.Core.Bool.{true}
 use mathlib.Core.List.{List}
 use native.Mathlib.Omega.{arith}
@@ -11,17 +10,17 @@ use lib.Seq.{getD-take, getD-drop, ext-getD}
 use Rattle.page.specs.Figures.{pageSize, payloadStart}
 use Rattle.page.specs.Page.{slot, byte, bytesFrom, payloadOf}
 use Rattle.machine.specs.declared.Handle.{Handle}
-use Rattle.machine.specs.TestLaws.{pick-yes, pick-no, pick-either}
+use Rattle.machine.specs.Laws.TestLaws.{pick-yes, pick-no, pick-either}
 use Rattle.machine.specs.Machine.{pageNumber, found}
 use Rattle.machine.specs.Answers.{Answer, refused, number, frame, Out}
 use Rattle.machine.specs.Calls.{showCall, payloadPlace, peekCall, wordCall, foundAnswer, fixCall}
-use Rattle.machine.specs.History.{Call, reopen, root, fix, unfix, show, peek, word, write, link, unlink, evict, settle, find, Point, accepted, row}
+use Rattle.machine.specs.History.{Point, accepted}
 use Rattle.machine.specs.Demand3.{GivesPayload}
 use Rattle.machine.specs.Theorem.View.{view, Absent}
 use Rattle.machine.specs.Theorem.Invariant.{Invariant}
 use Rattle.machine.specs.Theorem.Outcomes.{Usual, granted-of, no-refusal, one-refusal, denied-of}
 use Rattle.machine.specs.Theorem.Holders.{Holder, place, held, unheld, found-absent}
-use Rattle.machine.specs.Theorem.CallCases.{open-case, root-case, handle-case, unfix-case, word-case, write-case, peek-case, find-case, link-case, unlink-case, evict-case, settle-case}
+use Rattle.machine.specs.Theorem.CallCases.{handle-case, word-case, peek-case}
 use Rattle.machine.specs.Theorem.FixCases.{pins, fills, sweeps, refuses, fix-case}
 use Rattle.machine.specs.Theorem.PointHolds.{plain-word}
 
@@ -79,7 +78,7 @@ module _ (x : Point) (I : Invariant x) where
       ap answerOf (r .1) ∙ ap number (plain-word x I (h .page .0) (h .frame .0) k (record { at = r .0 .handle .at; page = r .0 .handle .page }) (r .0 .inPage))
 
   -- ---- refusals
-  fix-usual : (h : Handle) (k n : ℕ) → fixCall (x .now) h k .answer ≡ refused n → Usual n
+  pub fix-usual : (h : Handle) (k n : ℕ) → fixCall (x .now) h k .answer ≡ refused n → Usual n
   fix-usual h k n e = elim (fix-case x I h k) [
     | pins a g w m q ↦ absurd (no-refusal _ _ n q refl e)
     | fills a w l u q ↦ absurd (no-refusal _ _ n q refl e)
@@ -87,32 +86,14 @@ module _ (x : Point) (I : Invariant x) where
     | refuses m u q ↦ rw (one-refusal _ _ m n q e) at u
   ]
 
-  show-usual : (h : Handle) (n : ℕ) → showCall (x .now) h .answer ≡ refused n → Usual n
+  pub show-usual : (h : Handle) (n : ℕ) → showCall (x .now) h .answer ≡ refused n → Usual n
   unfolding showCall
   show-usual h n e = denied-of _ _ _ _ (handle-case x I h _) refl n e
 
-  place-accepted : (p : ℕ) → accepted (payloadPlace (x .now) p) ≡ true
+  pub place-accepted : (p : ℕ) → accepted (payloadPlace (x .now) p) ≡ true
   unfolding payloadPlace
   place-accepted p = pick-either (λ (a : Answer). accepted a ≡ true) _ _ _ refl refl
 
-  found-accepted : (p : ℕ) → accepted (foundAnswer (x .now) p) ≡ true
+  pub found-accepted : (p : ℕ) → accepted (foundAnswer (x .now) p) ≡ true
   unfolding foundAnswer
   found-accepted p = pick-either (λ (a : Answer). accepted a ≡ true) _ _ _ refl refl
-
-  refusal-usual : (c : Call) (n : ℕ) → row c .out (x .now) .answer ≡ refused n → Usual n
-  refusal-usual reopen n e = denied-of _ _ _ _ (open-case x I) refl n e
-  refusal-usual root n e = denied-of _ _ _ _ (root-case x I) refl n e
-  refusal-usual (fix h k) n e = fix-usual h k n e
-  refusal-usual (unfix h) n e = denied-of _ _ _ _ (unfix-case x I h) refl n e
-  refusal-usual (show h) n e = show-usual h n e
-  refusal-usual (peek q) n e = denied-of _ _ _ _ (peek-case x I q) (place-accepted (q .0)) n e
-  refusal-usual (word h k) n e = denied-of _ _ _ _ (word-case x I h k) refl n e
-  refusal-usual (write h offset d) n e = denied-of _ _ _ _ (write-case x I h offset d) refl n e
-  refusal-usual (link h k q) n e = denied-of _ _ _ _ (link-case x I h k q) refl n e
-  refusal-usual (unlink h k) n e = denied-of _ _ _ _ (unlink-case x I h k) refl n e
-  refusal-usual (evict q) n e = denied-of _ _ _ _ (evict-case x I q) refl n e
-  refusal-usual settle n e = denied-of _ _ _ _ (settle-case x I) refl n e
-  refusal-usual (find q) n e = denied-of _ _ _ _ (find-case x I q) (found-accepted (q .0)) n e
-
-  pub never-refused : (c : Call) (n : ℕ) → row c .out (x .now) .answer ≡ refused n → (n ≢ 1) × (n ≢ 2) × (n ≢ 14)
-  never-refused c n e = let u = refusal-usual c n e in (u .not1, u .not2, u .not14)

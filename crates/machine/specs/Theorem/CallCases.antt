@@ -14,7 +14,7 @@ use Rattle.page.specs.Word.{numberWord}
 use Rattle.page.specs.Page.{slot}
 use Rattle.machine.specs.declared.Handle.{Handle}
 use Rattle.machine.specs.Tests.{_and_, Rule, firstBroken}
-use Rattle.machine.specs.TestLaws.{and-true, first-kept, kept-then}
+use Rattle.machine.specs.Laws.TestLaws.{and-true, first-kept, kept-then}
 use Rattle.machine.specs.Machine.{State, state, zeroPool, pageIn, found, unpinned}
 use Rattle.machine.specs.Moves.{plain, settled, evicted}
 use Rattle.machine.specs.Naming.{named}

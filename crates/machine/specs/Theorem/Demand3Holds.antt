@@ -6,7 +6,7 @@ use native.Mathlib.Omega.{arith}
 use lib.ListN.{length}
 use Rattle.page.specs.Figures.{pageSize}
 use Rattle.page.specs.Octets.{Octets}
-use Rattle.machine.specs.TestLaws.{first-kept}
+use Rattle.machine.specs.Laws.TestLaws.{first-kept}
 use Rattle.machine.specs.Machine.{state, zeroPool}
 use Rattle.machine.specs.Soundness.{sound}
 use Rattle.machine.specs.Rules.{lengthsFit}
@@ -18,10 +18,11 @@ use Rattle.machine.specs.Theorem.Invariant.{Invariant}
 use Rattle.machine.specs.Theorem.Keeps.{open-keeps}
 use Rattle.machine.specs.Theorem.Outcomes.{Outcome, kept, broken, outcome}
 use Rattle.machine.specs.Theorem.PointHolds.{pages-apart, other-empty, kept-frame, root-resident, named-by, named-once, leads-to-root, same-payload, swizzled-word, number-word, store-plain}
-use Rattle.machine.specs.Theorem.AnswersHold.{show-gives, peek-gives, word-gives, never-refused}
+use Rattle.machine.specs.Theorem.AnswersHold.{show-gives, peek-gives, word-gives}
 use Rattle.machine.specs.Theorem.DeniedHolds.{denied-exactly}
 use Rattle.machine.specs.Theorem.Steps.{step-keeps}
 use Rattle.machine.specs.Theorem.HandlesHold.{fix-gives, root-gives, settle-gives}
+use Rattle.machine.specs.Theorem.NeverRefused.{never-refused}
 
 pub holds : (x : Point) → Invariant x → Holds x
 holds x I = record {

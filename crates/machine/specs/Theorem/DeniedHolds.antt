@@ -12,17 +12,17 @@ use Rattle.page.specs.Word.{isNumber, frameIn, frameWord}
 use Rattle.page.specs.Page.{slot}
 use Rattle.machine.specs.declared.Handle.{Handle}
 use Rattle.machine.specs.Tests.{_and_, Rule, firstBroken}
-use Rattle.machine.specs.TestLaws.{case, on, off, is-off, kept-then, broken-here, none-broken, numbered, parts-kept}
+use Rattle.machine.specs.Laws.TestLaws.{case, on, off, is-off, kept-then, broken-here, none-broken, numbered, parts-kept}
 use Rattle.machine.specs.Rules.{wordOf, rule13, rule14, rule15}
-use Rattle.machine.specs.Ready.{Ready, ready}
+use Rattle.machine.specs.Laws.Ready.{Ready, ready}
 use Rattle.machine.specs.Answers.{refused, Out}
 use Rattle.machine.specs.Calls.{fixCall}
 use Rattle.machine.specs.History.{Point}
 use Rattle.machine.specs.Demand3.{Resident, Pinned, Names, NoRoom, LoadAsked}
-use Rattle.machine.specs.PlainLaws.{plain-low}
-use Rattle.machine.specs.Theorem.View.{view}
+use Rattle.machine.specs.Laws.PlainLaws.{plain-low}
+use Rattle.machine.specs.Theorem.View.{view, first-root, first-page, not-first}
 use Rattle.machine.specs.Theorem.Invariant.{Invariant}
-use Rattle.machine.specs.SweepLaws.{Denied, denied-of, of-denied}
+use Rattle.machine.specs.Laws.SweepLaws.{Denied, denied-of, of-denied}
 use Rattle.machine.specs.Theorem.Outcomes.{Outcome, kept, broken, lacks, lacking, kept-part, parts, first, second, broken-of}
 use Rattle.machine.specs.Theorem.Holders.{Holder}
 use Rattle.machine.specs.Theorem.TestReads.{Open, open-of, shut-of}
@@ -37,16 +37,16 @@ module _ (x : Point) (I : Invariant x) where
   is-ready = ready (x .now) (record { sized = I .sized; agreed = agreed x I })
 
   not-root : (p f : ℕ) → Holder (view (x .now)) p f → p ≢ 0 → f ≢ 0
-  not-root p f h n z = n (sym (h .page) ∙ ap (view (x .now) .page) z ∙ I .shape .rootPage)
+  not-root p f h n z = n (sym (h .page) ∙ ap (view (x .now) .page) z ∙ first-page _ (I .shape))
 
   not-page-0 : (p f : ℕ) → Holder (view (x .now)) p f → f ≢ 0 → p ≢ 0
-  not-page-0 p f h n z = n (I .shape .apart f 0 (h .at) (I .shape .root) (h .page ∙ z ∙ sym (I .shape .rootPage)))
+  not-page-0 p f h n z = n (I .shape .apart f 0 (h .at) (first-root _ (I .shape)) (h .page ∙ z ∙ sym (first-page _ (I .shape))))
 
   -- ---- every frame is used and none is open to eviction, in the words of the map and the balance
   has-child : (p f k : ℕ) → Holder (view (x .now)) p f → k < slotCount → swizzleBit ≤ slot (x .now .frames) f k → (j c : ℕ) × Names x p j c × (c ≢ 0) × Resident x c
   has-child p f k h hk l = elim (meets x I p f k h hk) [
     | number e m away ↦ absurd (omega arith)
-    | swizzledTo g e C H ↦ (k, slot (x .map) p k, record { inPage = hk; word = refl }, not-page-0 _ g H (C .notRoot), resident x I _ g H)
+    | swizzledTo g e C H ↦ (k, slot (x .map) p k, record { inPage = hk; word = refl }, not-page-0 _ g H (not-first (C .notRoot)), resident x I _ g H)
   ]
 
   closed : Denied (x .now) → (p : ℕ) → p ≢ 0 → Resident x p → Pinned x p ⊎ ((k c : ℕ) × Names x p k c × (c ≢ 0) × Resident x c)

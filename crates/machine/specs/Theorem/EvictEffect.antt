@@ -5,18 +5,20 @@ use mathlib.Core.Bool.{true, false}
 use Prim.Native.Nat.{ℕ, _≤_, _<_}
 use native.Mathlib.Omega.{arith}
 use native.Mathlib.Nat.{add-left-cancel}
-use native.Mathlib.Decide.{ℕ-discrete}
+use native.Mathlib.Decide.{ℕ-discrete, decLt}
 use Rattle.page.specs.Figures.{pageSize, slotCount, payloadStart, swizzleBit}
 use Rattle.page.specs.Word.{frameWord}
 use Rattle.machine.specs.Moves.{plain}
-use Rattle.machine.specs.TestLaws.{clash, case, on, off}
-use Rattle.machine.specs.PlainLaws.{plain-low, plain-high, reading, low, high}
+use Rattle.machine.specs.Laws.TestLaws.{clash, case, on, off}
+use Rattle.machine.specs.Laws.PlainLaws.{plain-low, plain-high, reading, low, high}
 use Rattle.machine.specs.Theorem.View.{View, Reach, top, via, Occupied, Absent, Parent, Child, Shape, Map, Content}
 
 -- frame e is emptied
 pub record Evicted (v w : View) (e : ℕ) : Type 0 where
   pub sameF : w .F ≡ v .F
   pub sameN : w .N ≡ v .N
+  pub roots : w .roots ≡ v .roots
+  pub each : w .each ≡ v .each
   pub gone : w .used e ≡ false
   pub used : (g : ℕ) → g ≢ e → w .used g ≡ v .used g
   pub page : (g : ℕ) → g ≢ e → w .page g ≡ v .page g
@@ -50,7 +52,7 @@ module _ (v w : View) (e : ℕ) (E : Evicted v w e) where
   pub evicted-absentWas : (p : ℕ) → Absent w p → p ≢ v .page e → Absent v p
   evicted-absentWas p a n g o q = elim (ℕ-discrete g e) [ yes z ↦ n (sym q ∙ ap (v .page) z) | no z ↦ a g (evicted-is g o z) (E .page g z ∙ q) ]
 
-module _ (v w : View) (e : ℕ) (S : Shape v) (E : Evicted v w e) (oe : Occupied v e) (ne : e ≢ 0)
+module _ (v w : View) (e : ℕ) (S : Shape v) (E : Evicted v w e) (oe : Occupied v e) (ne : v .roots ≤ e)
     (leaf : (k : ℕ) → k < slotCount → v .word e k < swizzleBit) where
   other : (g : ℕ) → Occupied w g → g ≢ e
   other = evicted-other v w e E
@@ -62,7 +64,7 @@ module _ (v w : View) (e : ℕ) (S : Shape v) (E : Evicted v w e) (oe : Occupied
   is = evicted-is v w e E
 
   -- e is a leaf: nobody's parent
-  notUp : (g : ℕ) → Occupied v g → g ≢ 0 → v .up g ≢ e
+  notUp : (g : ℕ) → Occupied v g → v .roots ≤ g → v .up g ≢ e
   notUp g o z q =
       let P : Parent v g = S .parent g o z in
       let l : v .word e (v .upSlot g) < swizzleBit = leaf (v .upSlot g) (P .inPage) in
@@ -70,10 +72,10 @@ module _ (v w : View) (e : ℕ) (S : Shape v) (E : Evicted v w e) (oe : Occupied
       omega arith
 
   reached : (g : ℕ) → Reach v g → Occupied v g → g ≢ e → Reach w g
-  reached g top o n = top
-  reached g (via r) o n = elim (ℕ-discrete g 0) [
-    | yes z ↦ rw z top
-    | no z ↦ via {f = g} (rw (E .up g n) (reached (v .up g) r (S .parent g o z .occupied) (notUp g o z)))
+  reached g (top l) o n = top {f = g} (rw (E .roots) l)
+  reached g (via r) o n = elim (decLt g (v .roots)) [
+    | yes l ↦ top {f = g} (rw (E .roots) l)
+    | no l ↦ let z : v .roots ≤ g = omega arith in via {f = g} (rw (E .up g n) (reached (v .up g) r (S .parent g o z .occupied) (notUp g o z)))
   ]
 
   -- a word afterwards: the parent's, or one that stays
@@ -97,8 +99,9 @@ module _ (v w : View) (e : ℕ) (S : Shape v) (E : Evicted v w e) (oe : Occupied
   pageLow : v .page e < swizzleBit
   pageLow = omega (arith, S .pageLt e oe, S .pages)
 
-  parent′ : (g : ℕ) → Occupied w g → g ≢ 0 → Parent w g
-  parent′ g o z =
+  parent′ : (g : ℕ) → Occupied w g → w .roots ≤ g → Parent w g
+  parent′ g o y =
+      let z : v .roots ≤ g = rw (E .roots) at y in
       let n : g ≢ e = other g o in
       let P : Parent v g = S .parent g (was g o) z in
       let up : w .up g ≡ v .up g = E .up g n in
@@ -119,7 +122,7 @@ module _ (v w : View) (e : ℕ) (S : Shape v) (E : Evicted v w e) (oe : Occupied
     | same x y ↦
         let C : Child v f k g = S .child f k g (was f o) hk (sym x ∙ q) in
         let n : g ≢ e = λ z. y (sym x ∙ q ∙ ap (λ (a : ℕ). frameWord a) z) in
-        record { occupied = is g (C .occupied) n; notRoot = C .notRoot; back = E .up g n ∙ C .back; backSlot = E .upSlot g n ∙ C .backSlot }
+        record { occupied = is g (C .occupied) n; notRoot = rw (E .roots) (C .notRoot); back = E .up g n ∙ C .back; backSlot = E .upSlot g n ∙ C .backSlot }
   ]
 
   numberLt′ : (f k : ℕ) → Occupied w f → k < slotCount → w .word f k < swizzleBit → w .word f k < w .N
@@ -153,8 +156,9 @@ module _ (v w : View) (e : ℕ) (S : Shape v) (E : Evicted v w e) (oe : Occupied
     most = rw (E .sameF) (S .most);
     some = rw (E .sameN) (S .some);
     pages = rw (E .sameN) (S .pages);
-    root = is 0 (S .root) (λ q. ne (sym q));
-    rootPage = E .page 0 (λ q. ne (sym q)) ∙ S .rootPage;
+    someRoots = rw (E .roots) (S .someRoots);
+    root = λ f l. let h : f < v .roots = rw (E .roots) at l in is f (S .root f h) (λ q. omega arith);
+    rootPage = λ f l. let h : f < v .roots = rw (E .roots) at l in rw (E .each) (E .page f (λ q. omega arith) ∙ S .rootPage f h);
     pageLt = λ g o. rw (E .sameN, E .page g (other g o)) (S .pageLt g (was g o));
     apart = λ f g of og q. S .apart f g (was f of) (was g og) (sym (E .page f (other f of)) ∙ q ∙ E .page g (other g og));
     parent = parent′;

@@ -11,7 +11,7 @@ use Rattle.page.specs.Figures.{maxPins, swizzleBit}
 use Rattle.page.specs.Word.{isNumber, frameIn, frameWord}
 use Rattle.machine.specs.declared.Handle.{Handle}
 use Rattle.machine.specs.Tests.{pick, _and_, Rule}
-use Rattle.machine.specs.TestLaws.{case, on, off, or-second, first-kept, kept-then, numbered, pick-yes, pick-no}
+use Rattle.machine.specs.Laws.TestLaws.{case, on, off, or-second, first-kept, kept-then, numbered, pick-yes, pick-no}
 use Rattle.machine.specs.Machine.{State}
 use Rattle.machine.specs.Naming.{loadable}
 use Rattle.machine.specs.Sweep.{firstEmpty, sweep}
@@ -21,7 +21,7 @@ use Rattle.machine.specs.Calls.{decide, pinnedOut, loadedOut, sweptOut, 
 use Rattle.machine.specs.Theorem.View.{view, Absent}
 use Rattle.machine.specs.History.{Point, accepted}
 use Rattle.machine.specs.Theorem.Invariant.{Invariant}
-use Rattle.machine.specs.SweepLaws.{empty, full, first-empty}
+use Rattle.machine.specs.Laws.SweepLaws.{empty, full, first-empty}
 use Rattle.machine.specs.Theorem.Outcomes.{Outcome, kept, broken, parts, first, second, Usual, usual, usual-breach, lacks}
 use Rattle.machine.specs.Theorem.InvariantReads.{may-load}
 use Rattle.machine.specs.Theorem.CallCases.{AtName, name-rules, after-pool}

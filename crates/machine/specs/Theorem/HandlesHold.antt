@@ -2,16 +2,13 @@
 use Prim.Native.Nat.{ℕ, _<_}
 use mathlib.Core.Path.{_≡_, refl, sym, _∙_, ap}
 use mathlib.Core.Bool.{true}
-use mathlib.Core.List.{[]}
-use native.Mathlib.Omega.{arith}
 use lib.ListN.{length, length-set}
 use Rattle.page.specs.Figures.{swizzleBit}
 use Rattle.page.specs.Page.{slot}
-use Rattle.page.specs.Octets.{Octets}
 use Rattle.machine.specs.declared.FrameRecord.{FrameRecord}
 use Rattle.machine.specs.declared.Handle.{Handle}
 use Rattle.machine.specs.Tests.{pick}
-use Rattle.machine.specs.TestLaws.{clash}
+use Rattle.machine.specs.Laws.TestLaws.{clash}
 use Rattle.machine.specs.Machine.{State, blank, recordAt, pinned, loadedRecord}
 use Rattle.machine.specs.Moves.{plain, evicted, loaded}
 use Rattle.machine.specs.Sweep.{sweep}
@@ -20,25 +17,22 @@ use Rattle.machine.specs.Answers.{Answer, handle, Out}
 use Rattle.machine.specs.Calls.{changeRecord, rootCall, fixCall, sweptOut, settleCall}
 use Rattle.machine.specs.History.{Point, root, fix, next, accepted}
 use Rattle.machine.specs.Demand3.{GivesHandle}
-use Rattle.machine.specs.PlainLaws.{plain-low, plain-high}
-use Rattle.machine.specs.Theorem.View.{view, Occupied}
+use Rattle.machine.specs.Laws.PlainLaws.{plain-low, plain-high}
+use Rattle.machine.specs.Theorem.View.{view, Occupied, first-page}
 use Rattle.machine.specs.Theorem.Invariant.{Invariant}
 use Rattle.machine.specs.Theorem.RecordChange.{change-here, record-lt}
 use Rattle.machine.specs.Theorem.Keeps.{settle-store}
-use Rattle.machine.specs.SweepLaws.{sweep-cooled, sweep-sound}
+use Rattle.machine.specs.Laws.SweepLaws.{sweep-cooled, sweep-sound}
 use Rattle.machine.specs.Theorem.Outcomes.{granted-of}
 use Rattle.machine.specs.Theorem.Holders.{Holder}
 use Rattle.machine.specs.Theorem.CallCases.{AtName, root-case, settle-case}
 use Rattle.machine.specs.Theorem.FixCases.{pins, fills, sweeps, refuses, fix-case}
 use Rattle.machine.specs.Theorem.Residence.{in-frame}
 use Rattle.machine.specs.Theorem.PointHolds.{root-holder, plain-word}
-use Rattle.machine.specs.Theorem.Steps.{step-keeps}
+use Rattle.machine.specs.Theorem.CallSteps.{root-next, fix-next}
 
 abbrev answerOf : Out → Answer
 answerOf o = o .answer
-
-no-bytes : Octets []
-no-bytes i = omega arith
 
 -- ---- which page a frame holds once its record was put
 
@@ -77,7 +71,7 @@ module _ (x : Point) (I : Invariant x) where
   gives : (h : Handle) (k f p q looks : ℕ) (o : Out) → fixCall (x .now) h k ≡ o → o .answer ≡ handle f p looks → Holder (view (o .left)) p f → p ≡ q → GivesHandle x (fix h k) q
   gives h k f p q looks o e a H m =
       let y : Point = next (fix h k) x in
-      let J : Invariant y = step-keeps x I (fix h k) no-bytes in
+      let J : Invariant y = fix-next x I h k in
       let s : y .now ≡ o .left = fix-state h k ∙ ap (λ (z : Out). z .left) e in
       (f, looks, rw (← m) (ap answerOf e ∙ a), rw (← m) (in-frame y J p f (rw s H)))
 
@@ -101,8 +95,8 @@ module _ (x : Point) (I : Invariant x) where
   pub root-gives : accepted (rootCall (x .now) .answer) ≡ true → GivesHandle x root 0
   root-gives t =
       let r = granted-of _ _ _ _ (root-case x I) t in
-      let J : Invariant (next root x) = step-keeps x I root no-bytes in
-      (0, 0, ap answerOf (r .1) ∙ ap (λ (p : ℕ). handle 0 p 0) (I .shape .rootPage), in-frame (next root x) J 0 0 (root-holder (next root x) J))
+      let J : Invariant (next root x) = root-next x I in
+      (0, 0, ap answerOf (r .1) ∙ ap (λ (p : ℕ). handle 0 p 0) (first-page _ (I .shape)), in-frame (next root x) J 0 0 (root-holder (next root x) J))
 
   pub settle-gives : accepted (settleCall (x .now) .answer) ≡ true → settleCall (x .now) .left .store ≡ x .map
   settle-gives t = let r = granted-of _ _ _ _ (settle-case x I) t in ap (λ (o : Out). o .left .store) (r .1) ∙ settle-store x I

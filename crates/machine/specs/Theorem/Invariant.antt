@@ -11,7 +11,7 @@ use Rattle.page.specs.Octets.{Octets}
 use Rattle.machine.specs.declared.FrameRecord.{FrameRecord}
 use Rattle.machine.specs.declared.Pool.{Pool}
 use Rattle.machine.specs.Machine.{blank, recordAt}
-use Rattle.machine.specs.Ready.{Sized}
+use Rattle.machine.specs.Laws.Ready.{Sized}
 use Rattle.machine.specs.Theorem.View.{View, view, Occupied, Absent, Shape, Map, Content, MapSound}
 use Rattle.machine.specs.History.{Balance, Point}
 
@@ -47,5 +47,5 @@ pub record Invariant (x : Point) : Type 0 where
   pub mapOctets : Octets (x .map)
   pub shape : Shape (view (x .now))
   pub content : Content (view (x .now)) (mapOf (x .map))
-  pub sound : MapSound (mapOf (x .map)) (x .now .pool .pages)
+  pub sound : MapSound (mapOf (x .map)) (x .now .pool .pages) 1 (x .now .pool .pages)
   pub pins : Pins (view (x .now)) (x .balance)

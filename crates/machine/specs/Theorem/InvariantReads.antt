@@ -1,100 +1,41 @@
 -- The invariant makes every test that the calls compute what it should be. Assumes nothing.
-use Prim.Native.Nat.{ℕ, suc, _*_, _/_, _<_, _≤_}
+use Prim.Native.Nat.{ℕ, _*_, _/_, _<_}
 use mathlib.Core.Path.{_≡_, refl, sym, _∙_, ap}
 use mathlib.Core.Logic.{_≢_}
 use mathlib.Core.Bool.{true, false, not}
 use mathlib.Core.List.{List, _∷_}
 use native.Mathlib.Omega.{arith}
-use native.Mathlib.Decide.{ℕ-discrete, decLt}
+use native.Mathlib.Decide.{ℕ-discrete}
 use borrow.Author.Tests.{eqb-true, eqb-false, eq-eqb, lt-ltb, not-true}
 use lib.Dec.{eqb, ltb}
 use lib.ListN.{length}
-use Rattle.page.specs.Figures.{pageSize, slotCount, swizzleBit}
-use Rattle.page.specs.Word.{frameIn, frameWord}
+use Rattle.page.specs.Figures.{pageSize, slotCount}
+use Rattle.page.specs.Word.{frameWord}
 use Rattle.page.specs.Page.{slot}
-use Rattle.machine.specs.declared.FrameRecord.{FrameRecord}
-use Rattle.machine.specs.Tests.{_and_, some, Rule, firstBroken}
-use Rattle.machine.specs.TestLaws.{clash, case, on, off, is-off, and-true, both, or-left, or-right, true-every, some-true, some-false, false-some, pick-yes, pick-no, kept-then}
+use Rattle.machine.specs.Tests.{some, Rule, firstBroken}
+use Rattle.machine.specs.Laws.TestLaws.{case, on, off, is-off, and-true, both, or-left, or-right, true-every, some-true, some-false, false-some, pick-yes, pick-no}
 use Rattle.machine.specs.Machine.{recordAt, occupied, found, blank}
-use Rattle.machine.specs.Agreement.{parentOf, isBlank}
-use Rattle.machine.specs.Parents.{climb, climb-reach}
-use Rattle.machine.specs.AgreementFacts.{occupied-lt, make-occupied, Points, InRange, Agreed, tests}
+use Rattle.machine.specs.Laws.AgreementFacts.{Agreed}
 use Rattle.machine.specs.Naming.{currentWord, named, namedByResident, repeated, wordLoadable, loadable}
 use Rattle.machine.specs.Rules.{lengthsFit, rule1, rule2}
-use Rattle.machine.specs.Ready.{of-lengths}
-use Rattle.machine.specs.Theorem.View.{view, Reach, top, via, Occupied, Absent, Parent, Child}
+use Rattle.machine.specs.Theorem.View.{view, Occupied, Absent}
 use Rattle.machine.specs.History.{Point}
-use Rattle.machine.specs.Theorem.Invariant.{NeatRecord, Invariant}
-use Rattle.machine.specs.Theorem.Holders.{occupied-of, of-occupied, Holder, holder-found, absent-found}
-
--- a blank record passes its test
-blank-is : (r : FrameRecord) → r ≡ blank → isBlank r ≡ true
-unfolding isBlank _and_
-blank-is r e = rw e refl
+use Rattle.machine.specs.Theorem.Invariant.{Invariant}
+use Rattle.machine.specs.Theorem.Fit.{fit-of, fit-blank, fit-agreed, fit-lengths, fit-unbroken}
+use Rattle.machine.specs.Theorem.Holders.{occupied-of, Holder, holder-found, absent-found}
 
 module _ (x : Point) (I : Invariant x) where
+  -- ---- rules 1 and 2
+
   -- a record that is no occupied frame's is blank
   pub blank-record : (f : ℕ) → occupied (x .now .pool) f ≡ false → recordAt (x .now .pool .records) f ≡ blank
-  blank-record f t = elim (decLt f (x .now .pool .count)) [
-    | yes l ↦ I .neat .at f .empty (is-off _ (λ u. clash (sym (make-occupied _ f l u) ∙ t)))
-    | no l ↦ I .neat .at f .empty (I .neat .beyond f (omega arith))
-  ]
-
-  -- ---- rule 2
-  blank-range : (r : FrameRecord) → r ≡ blank → InRange (x .now .pool) r
-  blank-range r e = rw e (record { page = I .shape .some; pins = omega arith; usage = omega arith; parent = omega (arith, I .shape .least); slot = omega arith })
-
-  root-range : InRange (x .now .pool) (recordAt (x .now .pool .records) 0)
-  root-range =
-      let N : NeatRecord 0 (recordAt (x .now .pool .records) 0) = I .neat .at 0 in
-      record { page = I .shape .pageLt 0 (I .shape .root); pins = N .pins; usage = N .usage; parent = rw (N .rootParent refl) (I .shape .root .lt); slot = rw (N .rootSlot refl) (omega arith) }
-
-  other-range : (f : ℕ) → Occupied (view (x .now)) f → f ≢ 0 → InRange (x .now .pool) (recordAt (x .now .pool .records) f)
-  other-range f o n =
-      let P : Parent (view (x .now)) f = I .shape .parent f o n in
-      record { page = I .shape .pageLt f o; pins = I .neat .at f .pins; usage = I .neat .at f .usage; parent = P .occupied .lt; slot = P .inPage }
-
-  in-ranges : (f : ℕ) → InRange (x .now .pool) (recordAt (x .now .pool .records) f)
-  in-ranges f = elim (case (occupied (x .now .pool) f)) [
-    | off t ↦ blank-range _ (blank-record f t)
-    | on t ↦ elim (ℕ-discrete f 0) [ yes z ↦ rw z root-range | no z ↦ other-range f (occupied-of (x .now) f t) z ]
-  ]
-
-  points : (f k : ℕ) → Occupied (view (x .now)) f → k < slotCount → swizzleBit ≤ slot (x .now .frames) f k → Points (x .now .pool) (frameIn (slot (x .now .frames) f k)) f k
-  points f k o h l =
-      let C : Child (view (x .now)) f k (frameIn (slot (x .now .frames) f k)) = I .shape .child f k (frameIn (slot (x .now .frames) f k)) o h (omega arith) in
-      record { at = of-occupied (x .now) _ (C .occupied); other = C .notRoot; parent = C .back; parentSlot = C .backSlot }
-
-  parents-below : (f : ℕ) → f < x .now .pool .count → parentOf (x .now .pool) f < x .now .pool .count
-  parents-below f l = in-ranges f .parent
-
-  steps : (f : ℕ) → Reach (view (x .now)) f → (n : ℕ) × (climb (parentOf (x .now .pool)) n f ≡ 0)
-  unfolding climb
-  steps f top = (0, refl)
-  steps f (via r) = let a = steps (parentOf (x .now .pool) f) r in (suc (a .0), a .1)
+  blank-record = fit-blank (x .now) (fit-of x I)
 
   pub agreed : Agreed (x .now .pool) (x .now .frames)
-  agreed = record {
-    root = of-occupied (x .now) 0 (I .shape .root);
-    rootPage = I .shape .rootPage;
-    rootParent = I .neat .at 0 .rootParent refl;
-    rootSlot = I .neat .at 0 .rootSlot refl;
-    apart = λ f g of og e. I .shape .apart f g (occupied-of (x .now) f of) (occupied-of (x .now) g og) e;
-    hand = I .neat .hand;
-    inRange = λ f l. in-ranges f;
-    blank = λ f l t. blank-is _ (blank-record f t);
-    parent = λ f o n. of-occupied (x .now) _ (I .shape .parent f (occupied-of (x .now) f o) n .occupied);
-    parentWord = λ f o n. I .shape .parent f (occupied-of (x .now) f o) n .names;
-    back = λ f k o h l. points f k (occupied-of (x .now) f o) h l;
-    below = λ f k o h l n. I .shape .numberLt f k (occupied-of (x .now) f o) h l;
-    away = λ f k o h l n g og. I .shape .numberAbsent f k (occupied-of (x .now) f o) h l n g (occupied-of (x .now) g og);
-    once = λ f k g j of hk og hj n l e. I .shape .once f k g j (occupied-of (x .now) f of) hk (occupied-of (x .now) g og) hj e n l;
-    reach = λ f o. climb-reach (x .now .pool) (x .now .pool .count) parents-below f (occupied-lt _ f o) (steps f (I .shape .reach f (occupied-of (x .now) f o)));
-  }
+  agreed = fit-agreed (x .now) (fit-of x I)
 
-  -- ---- rule 1
   pub lengths-fit : lengthsFit (x .now .pool .count) (x .now .pool .pages) (x .now .frames) (x .now .store) ≡ true
-  lengths-fit = of-lengths _ _ _ _ (I .sized)
+  lengths-fit = fit-lengths (x .now) (fit-of x I)
 
   -- the same for an open on the buffers as they stand
   pub lengths-fit-open : lengthsFit (length (x .now .frames) / pageSize) (length (x .now .store) / pageSize) (x .now .frames) (x .now .store) ≡ true
@@ -105,9 +46,9 @@ module _ (x : Point) (I : Invariant x) where
       let n : length (x .now .store) / pageSize ≡ x .now .pool .pages = omega arith in
       rw (f, n) lengths-fit
 
-  -- rules 1 and 2 are never broken, so that those after them decide
+  -- they are never broken, so that those after them decide
   pub unbroken : (rs : List Rule) → firstBroken (rule1 (x .now) ∷ rule2 (x .now) ∷ rs) ≡ firstBroken rs
-  unbroken rs = kept-then 1 _ lengths-fit ∙ kept-then 2 rs (tests _ _ agreed)
+  unbroken = fit-unbroken (x .now) (fit-of x I)
 
   -- ---- the word in a slot of any page: rule 9
   pub current-word : (p k : ℕ) → p < x .now .pool .pages → k < slotCount → currentWord (x .now) p k ≡ slot (x .map) p k

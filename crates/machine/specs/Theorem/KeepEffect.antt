@@ -4,13 +4,15 @@ use mathlib.Core.Bool.{false}
 use Prim.Native.Nat.{ℕ, _≤_, _<_}
 use Rattle.page.specs.Figures.{pageSize, slotCount, payloadStart}
 use Rattle.machine.specs.Moves.{plain}
-use Rattle.machine.specs.PlainLaws.{plain-low, plain-high, reading, low, high}
+use Rattle.machine.specs.Laws.PlainLaws.{plain-low, plain-high, reading, low, high}
 use Rattle.machine.specs.Theorem.View.{View, Reach, top, via, Occupied, Absent, Parent, Child, Shape, Map, Content}
 
 -- the same pages in the same frames, with the same parents
 pub record Steady (v w : View) : Type 0 where
   pub sameF : w .F ≡ v .F
   pub sameN : w .N ≡ v .N
+  pub roots : w .roots ≡ v .roots
+  pub each : w .each ≡ v .each
   pub used : (g : ℕ) → w .used g ≡ v .used g
   pub page : (g : ℕ) → w .page g ≡ v .page g
   pub up : (g : ℕ) → w .up g ≡ v .up g
@@ -24,7 +26,7 @@ module _ (v w : View) (K : Steady v w) where
   steady-is g o = record { lt = rw (K .sameF) (o .lt); on = K .used g ∙ o .on }
 
   pub steady-reach : (g : ℕ) → Reach v g → Reach w g
-  steady-reach g top = top
+  steady-reach g (top l) = top {f = g} (rw (K .roots) l)
   steady-reach g (via r) = via {f = g} (rw (K .up g) (steady-reach (v .up g) r))
 
   pub steady-absent : (p : ℕ) → Absent v p → Absent w p
@@ -91,17 +93,18 @@ module _ (v w : View) (K : Kept v w) (S : Shape v) where
     most = rw (T .sameF) (S .most);
     some = rw (T .sameN) (S .some);
     pages = rw (T .sameN) (S .pages);
-    root = is 0 (S .root);
-    rootPage = T .page 0 ∙ S .rootPage;
+    someRoots = rw (T .roots) (S .someRoots);
+    root = λ f l. is f (S .root f (rw (T .roots) at l));
+    rootPage = λ f l. rw (T .each) (T .page f ∙ S .rootPage f (rw (T .roots) at l));
     pageLt = λ g o. rw (T .sameN, T .page g) (S .pageLt g (was g o));
     apart = λ f g of og q. S .apart f g (was f of) (was g og) (sym (T .page f) ∙ q ∙ T .page g);
-    parent = λ g o z. let P : Parent v g = S .parent g (was g o) z in record {
+    parent = λ g o z. let P : Parent v g = S .parent g (was g o) (rw (T .roots) at z) in record {
       occupied = rw (T .up g) (is (v .up g) (P .occupied));
       inPage = rw (T .upSlot g) (P .inPage);
       names = rw (T .up g, T .upSlot g) (same (v .up g) (v .upSlot g) (is (v .up g) (P .occupied)) (P .inPage) ∙ P .names);
     };
     child = λ f k g o hk q. let C : Child v f k g = S .child f k g (was f o) hk (sym (same f k o hk) ∙ q) in
-        record { occupied = is g (C .occupied); notRoot = C .notRoot; back = T .up g ∙ C .back; backSlot = T .upSlot g ∙ C .backSlot };
+        record { occupied = is g (C .occupied); notRoot = rw (T .roots) (C .notRoot); back = T .up g ∙ C .back; backSlot = T .upSlot g ∙ C .backSlot };
     numberLt = λ f k o hk l. rw (same f k o hk, T .sameN) (S .numberLt f k (was f o) hk (rw (same f k o hk) at l));
     numberAbsent = λ f k o hk l z. rw (same f k o hk) (steady-absent v w T _ (S .numberAbsent f k (was f o) hk (rw (same f k o hk) at l) (rw (same f k o hk) at z)));
     once = λ f k g j of hk og hj q z l. S .once f k g j (was f of) hk (was g og) hj (sym (same f k of hk) ∙ q ∙ same g j og hj)

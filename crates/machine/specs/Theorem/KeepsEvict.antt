@@ -1,38 +1,35 @@
 -- A page that leaves its frame keeps the invariant, where it is not the root, not pinned and without a swizzled word.
 use mathlib.Core.Path.{_≡_, refl, sym, ap, _∙_}
-use mathlib.Core.Logic.{_≢_}
 use mathlib.Core.List.{List}
-use Prim.Native.Nat.{ℕ, _<_}
+use Prim.Native.Nat.{ℕ, _≤_, _<_}
 use native.Mathlib.Omega.{arith}
 use lib.ListN.{length, length-set}
 use Rattle.page.specs.Figures.{slotCount, wordRadix, swizzleBit}
 use Rattle.page.specs.Page.{putSlot-length, slot-putSlot-same, slot-putSlot-page, byte-putSlot}
-use Rattle.page.specs.Octets.{octets-putSlot}
+use Rattle.page.specs.Octets.{Octets, octets-putSlot}
 use Rattle.machine.specs.declared.FrameRecord.{FrameRecord}
 use Rattle.machine.specs.Machine.{State, blank, recordAt}
 use Rattle.machine.specs.Moves.{plain, evicted}
 use Rattle.machine.specs.History.{Point}
 use Rattle.machine.specs.Theorem.View.{View, view, Occupied, Parent}
 use Rattle.machine.specs.Theorem.Invariant.{Invariant, mapOf}
+use Rattle.machine.specs.Theorem.Fit.{Fit, fit-of}
 use Rattle.machine.specs.Theorem.EvictEffect.{Evicted, evict-shape, evict-content}
 use Rattle.machine.specs.Theorem.PinsEffect.{pins-evicted}
-use Rattle.machine.specs.MoveLaws.{writtenOutBy-length}
+use Rattle.machine.specs.Laws.MoveLaws.{writtenOutBy-length}
 use Rattle.machine.specs.Theorem.WriteOut.{out-octets, out-wordStays, out-byteStays, out-word, out-byte, plain-lt}
 use Rattle.machine.specs.Theorem.SlotChange.{slot-putSlot-other}
-use Rattle.machine.specs.Theorem.RecordChange.{change-here, change-other, neat-blank, neat-change, record-lt, lengths-kept}
+use Rattle.machine.specs.Theorem.RecordChange.{change-here, change-other, neat-blank, neat-change, lengths-kept}
 
-module _ (x : Point) (I : Invariant x) (f : ℕ) (of : Occupied (view (x .now)) f) (nz : f ≢ 0) where
-  abbrev s : State
-  s = x .now
-
+module _ (s : State) (I : Fit s) (f : ℕ) (of : Occupied (view s) f) (nz : 1 ≤ f) where
   abbrev v : View
-  v = view (x .now)
+  v = view s
 
   abbrev rs : List FrameRecord
-  rs = x .now .pool .records
+  rs = s .pool .records
 
   lt : f < length rs
-  lt = record-lt x I f (of .lt)
+  lt = omega (arith, of .lt, I .records, I .shape .most)
 
   pN : v .page f < v .N
   pN = I .shape .pageLt f of
@@ -49,6 +46,8 @@ module _ (x : Point) (I : Invariant x) (f : ℕ) (of : Occupied (view (x .now)) 
   evict-effect = record {
     sameF = refl;
     sameN = refl;
+    roots = refl;
+    each = refl;
     gone = ap (λ r. r .used) (change-here rs f blank lt);
     used = λ g n. ap (λ r. r .used) (change-other rs f blank g n);
     page = λ g n. ap (λ r. r .page .0) (change-other rs f blank g n);
@@ -66,18 +65,37 @@ module _ (x : Point) (I : Invariant x) (f : ℕ) (of : Occupied (view (x .now)) 
     storeBytes = λ p i hp l h. out-byteStays (v .page) (recordAt rs f) (s .frames) (s .store) f _ _ (I .sized .frames) (of .lt) (I .sized .store) pN p i l h;
   }
 
-  pub evict-keeps : ((k : ℕ) → k < slotCount → v .word f k < swizzleBit) → v .pins f ≡ 0 → Invariant (record { now = evicted s f; map = x .map; balance = x .balance })
+  pub evict-fit : ((k : ℕ) → k < slotCount → v .word f k < swizzleBit) → Fit (evicted s f)
   unfolding evicted
-  evict-keeps leaf free = record {
+  evict-fit leaf = record {
     sized = lengths-kept _ _ (I .sized) (putSlot-length (s .frames) _ _ _) (writtenOutBy-length (v .page) (recordAt rs f) (s .frames) (s .store) f _ _ (I .sized .frames) (I .sized .store) (of .lt) pN);
     records = length-set rs f blank ∙ I .records;
-    mapLength = I .mapLength;
     neat = neat-change (s .pool) f blank lt (of .lt) (neat-blank f) (I .neat);
     frameOctets = octets-putSlot (s .frames) _ _ _ (I .frameOctets);
-    storeOctets = out-octets (v .page) (recordAt rs f) (s .frames) (s .store) f (I .frameOctets) (I .storeOctets);
-    mapOctets = I .mapOctets;
     shape = evict-shape v _ f (I .shape) evict-effect of nz leaf;
-    content = evict-content v _ f (I .shape) evict-effect of nz leaf (mapOf (x .map)) (I .content);
-    sound = I .sound;
-    pins = pins-evicted v _ f evict-effect of free (x .balance) (I .pins);
   }
+
+module _ (x : Point) (I : Invariant x) (f : ℕ) (of : Occupied (view (x .now)) f) (nz : 1 ≤ f) where
+  abbrev E : Evicted (view (x .now)) (view (evicted (x .now) f)) f
+  E = evict-effect (x .now) (fit-of x I) f of nz
+
+  pub evict-keeps : ((k : ℕ) → k < slotCount → view (x .now) .word f k < swizzleBit) → view (x .now) .pins f ≡ 0 → Invariant (record { now = evicted (x .now) f; map = x .map; balance = x .balance })
+  unfolding evicted
+  evict-keeps leaf free =
+      let J : Fit (evicted (x .now) f) = evict-fit (x .now) (fit-of x I) f of nz leaf in
+      record {
+        sized = J .sized;
+        records = J .records;
+        mapLength = I .mapLength;
+        neat = J .neat;
+        frameOctets = J .frameOctets;
+        storeOctets = store-octets;
+        mapOctets = I .mapOctets;
+        shape = J .shape;
+        content = evict-content (view (x .now)) _ f (I .shape) E of nz leaf (mapOf (x .map)) (I .content);
+        sound = I .sound;
+        pins = pins-evicted (view (x .now)) _ f E of free (x .balance) (I .pins);
+      }
+    where
+      store-octets : Octets (evicted (x .now) f .store)
+      store-octets = out-octets (view (x .now) .page) (recordAt (x .now .pool .records) f) (x .now .frames) (x .now .store) f (I .frameOctets) (I .storeOctets)

@@ -1,5 +1,6 @@
 -- A number put in place of a number in a resident page keeps the invariant: link and unlink.
 use mathlib.Core.Path.{_≡_, refl, sym, ap, _∙_}
+use mathlib.Core.Logic.{_≢_}
 use mathlib.Core.List.{List}
 use Prim.Native.Nat.{ℕ, _*_, _<_}
 use native.Mathlib.Omega.{arith}
@@ -11,7 +12,7 @@ use Rattle.machine.specs.declared.FrameRecord.{FrameRecord}
 use Rattle.machine.specs.Machine.{State, recordAt, dirtied}
 use Rattle.machine.specs.Calls.{relinked}
 use Rattle.machine.specs.History.{Point}
-use Rattle.machine.specs.Theorem.View.{View, view, Occupied}
+use Rattle.machine.specs.Theorem.View.{View, view, Occupied, NoRoot, single-root}
 use Rattle.machine.specs.Theorem.Invariant.{Invariant, mapOf}
 use Rattle.machine.specs.Theorem.LinkEffect.{Linked, MapLinked, Unnamed, link-sound, link-shape, link-content}
 use Rattle.machine.specs.Theorem.PinsEffect.{pins-kept}
@@ -29,6 +30,10 @@ map-linked m N p k y l hp hk hy = record {
 
 module _ (x : Point) (I : Invariant x) (f : ℕ) (of : Occupied (view (x .now)) f) (k y : ℕ) (hk : k < slotCount) (old : view (x .now) .word f k < swizzleBit) (yN : y < x .now .pool .pages)
     (fresh : Unnamed (mapOf (x .map)) (x .now .pool .pages) y) where
+  -- a number but 0 is no root's page
+  noRoot : y ≢ 0 → NoRoot 1 (x .now .pool .pages) y
+  noRoot n t l = single-root _ _ n t l
+
   abbrev s : State
   s = x .now
 
@@ -76,8 +81,8 @@ module _ (x : Point) (I : Invariant x) (f : ℕ) (of : Occupied (view (x .now)) 
     frameOctets = octets-putSlot (s .frames) f k y (I .frameOctets);
     storeOctets = I .storeOctets;
     mapOctets = octets-putSlot (x .map) (v .page f) k y (I .mapOctets);
-    shape = link-shape v _ f k y (I .shape) linked of hk old yN (mapOf (x .map)) (I .content) fresh;
-    content = link-content v _ f k y (I .shape) linked of hk old yN (mapOf (x .map)) (I .content) fresh _ mapLinked;
-    sound = link-sound _ _ (v .N) (v .page f) k y mapLinked yN fresh (I .sound);
+    shape = link-shape v _ f k y (I .shape) linked of hk old yN (mapOf (x .map)) (I .content) fresh noRoot;
+    content = link-content v _ f k y (I .shape) linked of hk old yN (mapOf (x .map)) (I .content) fresh noRoot _ mapLinked;
+    sound = link-sound _ _ (v .N) (v .page f) k y mapLinked 1 _ yN fresh noRoot (I .sound);
     pins = pins-kept v _ (linked .steady) (x .balance) (I .pins) (linked .pins);
   }

@@ -10,11 +10,11 @@ use Rattle.page.specs.Figures.{pageSize, slotCount, swizzleBit}
 use Rattle.page.specs.Page.{slot, pageOf, putPage, putSlot-length, slot-putSlot-same, slot-putSlot-page, byte-putSlot, pageOf-length, putPage-length, slot-putPage-same, slot-putPage-other, byte-putPage-same, byte-putPage-other, slot-pageOf, byte-pageOf, byte-first}
 use Rattle.page.specs.Octets.{octets-putSlot, octets-pageOf, octets-putPage}
 use Rattle.machine.specs.declared.FrameRecord.{FrameRecord}
-use Rattle.machine.specs.TestLaws.{clash}
+use Rattle.machine.specs.Laws.TestLaws.{clash}
 use Rattle.machine.specs.Machine.{State, loadedRecord}
 use Rattle.machine.specs.Moves.{loaded}
 use Rattle.machine.specs.History.{Point, fixedIn}
-use Rattle.machine.specs.Theorem.View.{View, view, Occupied, Absent}
+use Rattle.machine.specs.Theorem.View.{View, view, Occupied, Absent, first-root}
 use Rattle.machine.specs.Theorem.Invariant.{Invariant, mapOf}
 use Rattle.machine.specs.Theorem.LoadEffect.{Loaded, Fits, absent-fits, empty-other, load-shape, load-content}
 use Rattle.machine.specs.Theorem.PinsEffect.{pins-loaded}
@@ -79,6 +79,8 @@ module _ (x : Point) (I : Invariant x) where
     load-effect = record {
       sameF = refl;
       sameN = refl;
+      roots = refl;
+      each = refl;
       usedE = ap (λ t. t .used) (change-here rs e r lt);
       pageE = ap (λ t. t .page .0) (change-here rs e r lt);
       upE = ap (λ t. t .parent .0) (change-here rs e r lt);
@@ -102,7 +104,7 @@ module _ (x : Point) (I : Invariant x) where
     }
 
     notRoot : e ≢ 0
-    notRoot z = other 0 (I .shape .root) (sym z)
+    notRoot z = other 0 (first-root v (I .shape)) (sym z)
 
     pub load-keeps : Invariant (record { now = loaded s f k e q; map = x .map; balance = fixedIn e q (x .balance) })
     unfolding loaded between page

@@ -5,6 +5,7 @@ use mathlib.Core.Bool.{true, not}
 use mathlib.Core.List.{List}
 use Prim.Native.Nat.{ℕ, zero, suc, _/_, _≤_, _<_}
 use native.Mathlib.Omega.{arith}
+use native.Mathlib.Nat.{mul-zero}
 use native.Mathlib.Decide.{ℕ-discrete}
 use lib.Dec.{eqb}
 use lib.ListN.{length, replicate, length-set, length-replicate}
@@ -12,15 +13,15 @@ use borrow.Author.Tests.{ltb-true, eqb-true, eq-eqb, ne-eqb}
 use Rattle.page.specs.Figures.{pageSize, slotCount, recordCount}
 use Rattle.page.specs.Page.{slot, byte, pageOf, putPage, pageOf-length, putPage-length, slot-putPage-same, byte-putPage-same, slot-pageOf, byte-pageOf, byte-first}
 use Rattle.page.specs.Octets.{Octets, octets-putPage, octets-pageOf}
-use Rattle.machine.specs.TestLaws.{clash, and-true, both, use⇒, every-true}
+use Rattle.machine.specs.Laws.TestLaws.{clash, and-true, both, use⇒, every-true}
 use Rattle.machine.specs.Machine.{State, blank, rootRecord, recordAt, openedPool}
 use Rattle.machine.specs.Soundness.{wordsBelow, wordsOnce, sound}
 use Rattle.machine.specs.Rules.{lengthsFit}
 use Rattle.machine.specs.Calls.{opened}
-use Rattle.machine.specs.Ready.{Lengths, lengths-of}
+use Rattle.machine.specs.Laws.Ready.{Lengths, lengths-of}
 use Rattle.machine.specs.History.{start}
-use Rattle.machine.specs.PlainLaws.{plain-low}
-use Rattle.machine.specs.Theorem.View.{View, view, top, Occupied, Shape, Content, MapSound}
+use Rattle.machine.specs.Laws.PlainLaws.{plain-low}
+use Rattle.machine.specs.Theorem.View.{View, view, top, Occupied, Shape, Content, MapSound, single-root}
 use Rattle.machine.specs.Theorem.Invariant.{Neat, Invariant, mapOf}
 use Rattle.machine.specs.Theorem.RecordChange.{change-here, change-other, neat-blank}
 
@@ -37,11 +38,11 @@ once-of st N t p k q j hp hk hq hj n e =
     (both _ _ (ap not (ne-eqb _ 0 n)) (eq-eqb _ _ e))) in
     (eqb-true p q (a .0), eqb-true k j (a .1))
 
-sound-map : (st : List ℕ) (N : ℕ) → sound st N ≡ true → MapSound (mapOf st) N
+sound-map : (st : List ℕ) (N : ℕ) → sound st N ≡ true → MapSound (mapOf st) N 1 N
 unfolding sound
 sound-map st N t =
     let a = and-true (wordsBelow st N) (wordsOnce st N) t in
-    record { below = below-of st N (a .0); once = once-of st N (a .1) }
+    record { notRoot = λ p k hp hk n. single-root N _ n; below = below-of st N (a .0); once = once-of st N (a .1) }
 
 -- ---- the records that open makes
 
@@ -83,7 +84,7 @@ module _ (F N : ℕ) where
 
 -- ---- the invariant
 
-module _ (fs st : List ℕ) (F N : ℕ) (of : Octets fs) (os : Octets st) (Z : Lengths F N fs st) (M : MapSound (mapOf st) N) where
+module _ (fs st : List ℕ) (F N : ℕ) (of : Octets fs) (os : Octets st) (Z : Lengths F N fs st) (M : MapSound (mapOf st) N 1 N) where
   abbrev s : State
   s = record { pool = openedPool F N; frames = putPage fs 0 (pageOf st 0); store = st }
 
@@ -120,11 +121,12 @@ module _ (fs st : List ℕ) (F N : ℕ) (of : Octets fs) (os : Octets st) (Z : L
     most = rw (opened-count F N) (Z .most);
     some = rw (opened-pages F N) (Z .some);
     pages = rw (opened-pages F N) (Z .pages);
-    root = record { lt = rw (opened-count F N) (omega (arith, Z .least)); on = ap (λ r. r .used) (root-record F N) };
-    rootPage = ap (λ r. r .page .0) (root-record F N);
+    someRoots = omega arith;
+    root = λ f l. let z : f ≡ 0 = omega arith in rw z (record { lt = rw (opened-count F N) (omega (arith, Z .least)); on = ap (λ r. r .used) (root-record F N) });
+    rootPage = λ f l. let z : f ≡ 0 = omega arith in rw z (ap (λ r. r .page .0) (root-record F N) ∙ sym (mul-zero _));
     pageLt = λ g o. rw (page-zero g o, opened-pages F N) (Z .some);
     apart = λ f g a b e. only f a ∙ sym (only g b);
-    parent = λ g o n. absurd (n (only g o));
+    parent = λ g o n. absurd (omega (arith, only g o));
     child = λ f k g o hk e. absurd (omega (arith, word-lt f k o hk, Z .pages));
     numberLt = λ f k o hk l. rw (opened-pages F N) (word-lt f k o hk);
     numberAbsent = λ f k o hk l n g og e. n (sym e ∙ page-zero g og);
@@ -132,7 +134,7 @@ module _ (fs st : List ℕ) (F N : ℕ) (of : Octets fs) (os : Octets st) (Z : L
       only f a ∙ sym (only g b),
       M .once 0 k 0 j (Z .some) hk (Z .some) hj (λ z. n (word-zero f k a hk ∙ z)) (sym (word-zero f k a hk) ∙ e ∙ word-zero g j b hj) .1,
     );
-    reach = λ g o. rw (only g o) top;
+    reach = λ g o. rw (only g o) (top {f = 0} (omega arith));
   }
 
   content : Content v (mapOf st)

@@ -11,7 +11,7 @@ use Rattle.machine.specs.declared.FrameRecord.{FrameRecord}
 use Rattle.machine.specs.declared.Pool.{Pool}
 use Rattle.machine.specs.Machine.{State, withPool, withRecord, blank, recordAt, pinned, unpinned}
 use Rattle.machine.specs.Sweep.{Swept, withSwept}
-use Rattle.machine.specs.SweepLaws.{Cooler, Cooled}
+use Rattle.machine.specs.Laws.SweepLaws.{Cooler, Cooled}
 use Rattle.machine.specs.Calls.{changeRecord}
 use Rattle.machine.specs.History.{Balance, Point, fixedIn, unfixed}
 use Rattle.machine.specs.Theorem.View.{View, view, Occupied}
@@ -23,7 +23,7 @@ use Rattle.machine.specs.Theorem.RecordChange.{SamePlace, change-here, c
 -- a record that a sweep cooled is as neat: an empty frame's stays blank
 cooler-neat : (f : ℕ) (r q : FrameRecord) → Cooler r q → NeatRecord f r → NeatRecord f q
 cooler-neat f r q c n = record {
-  usage = omega (arith, c .usage, n .usage);
+  usage = c .usage (n .usage);
   pins = rw (c .pins) (n .pins);
   empty = λ e. blanked (n .empty (sym (c .used) ∙ e));
   rootParent = λ z. ap (λ i. i .0) (c .parent) ∙ n .rootParent z;
@@ -34,7 +34,7 @@ cooler-neat f r q c n = record {
     blanked e =
         let u : q .used ≡ false = c .used ∙ ap (λ t. t .used) e in
         let d : q .dirty ≡ false = c .dirty ∙ ap (λ t. t .dirty) e in
-        let h : q .usage ≡ 0 = omega (arith, c .usage, ap (λ (t : FrameRecord). t .usage) e) in
+        let h : q .usage ≡ 0 = omega (arith, c .falls (ap (λ (t : FrameRecord). t .pins) e), ap (λ (t : FrameRecord). t .usage) e) in
         let l : q .slot ≡ 0 = c .slot ∙ ap (λ t. t .slot) e in
         let a : q .parent ≡ blank .parent = c .parent ∙ ap (λ t. t .parent) e in
         let b : q .pins ≡ 0 = c .pins ∙ ap (λ t. t .pins) e in
@@ -115,6 +115,8 @@ module _ (x : Point) (I : Invariant x) where
         K = record {
           sameF = refl;
           sameN = refl;
+          roots = refl;
+          each = refl;
           used = λ g. C .each g .used;
           page = λ g. ap (λ p. p .0) (C .each g .page);
           up = λ g. ap (λ p. p .0) (C .each g .parent);

@@ -12,17 +12,17 @@ use Rattle.page.specs.Page.{slot, byte}
 use Rattle.page.specs.Octets.{Octets, buffer-ext}
 use Rattle.machine.specs.declared.FrameRecord.{FrameRecord}
 use Rattle.machine.specs.declared.Pool.{Pool}
-use Rattle.machine.specs.TestLaws.{clash, case, on, off}
+use Rattle.machine.specs.Laws.TestLaws.{clash, case, on, off}
 use Rattle.machine.specs.Machine.{State, recordAt, cleaned, withRecords, found}
-use Rattle.machine.specs.AgreementFacts.{occupied-used, make-occupied}
+use Rattle.machine.specs.Laws.AgreementFacts.{occupied-used, make-occupied}
 use Rattle.machine.specs.Moves.{plain, writtenOut, writtenOutTo, cleanedTo, settled}
 use Rattle.machine.specs.History.{Point}
 use Rattle.machine.specs.Theorem.View.{View, view, Occupied, Absent, Content}
 use Rattle.machine.specs.Theorem.Invariant.{NeatRecord, Neat, Invariant, mapOf}
 use Rattle.machine.specs.Theorem.KeepEffect.{Kept, kept-shape, steady-was, steady-plain}
 use Rattle.machine.specs.Theorem.PinsEffect.{pins-kept}
-use Rattle.machine.specs.MoveLaws.{writtenOutTo-length}
-use Rattle.machine.specs.FoundLaws.{found-holds, found-none}
+use Rattle.machine.specs.Laws.MoveLaws.{writtenOutTo-length}
+use Rattle.machine.specs.Laws.FoundLaws.{found-holds, found-none}
 use Rattle.machine.specs.Theorem.WriteOut.{out-octets, out-wordStays, out-byteStays, out-word, out-byte, plain-lt}
 use Rattle.machine.specs.Theorem.RecordChange.{change-same, neat-change, lengths-kept}
 
@@ -157,6 +157,8 @@ module _ (x : Point) (I : Invariant x) where
     steady = record {
       sameF = refl;
       sameN = refl;
+      roots = refl;
+      each = refl;
       used = cleaned-same (λ r. r .used) (λ r. refl) rs (v .F) enough;
       page = cleaned-same (λ r. r .page .0) (λ r. refl) rs (v .F) enough;
       up = cleaned-same (λ r. r .parent .0) (λ r. refl) rs (v .F) enough;

@@ -12,7 +12,7 @@ use Rattle.page.specs.Figures.{pageSize, slotCount, payloadSize}
 use Rattle.page.specs.Page.{slot, byte, putPayload, putPayload-length, slot-putPayload, byte-putPayload-other, byte-putPayload-both, putPayload-none}
 use Rattle.page.specs.Octets.{Octets, octets-putPayload}
 use Rattle.machine.specs.declared.FrameRecord.{FrameRecord}
-use Rattle.machine.specs.TestLaws.{clash, pick-yes, pick-no, pick-either, case, on, off}
+use Rattle.machine.specs.Laws.TestLaws.{clash, pick-yes, pick-no, pick-either, case, on, off}
 use Rattle.machine.specs.Machine.{State, recordAt, dirtied}
 use Rattle.machine.specs.Calls.{dirtiedBy, written}
 use Rattle.machine.specs.History.{Point}
@@ -23,8 +23,9 @@ use Rattle.machine.specs.Theorem.PinsEffect.{pins-kept}
 use Rattle.machine.specs.Theorem.RecordChange.{SamePlace, change-here, change-other, change-same, change-steady, neat-change, neat-place, record-lt, lengths-kept}
 
 -- a map with the same words is as sound
-same-sound : (m n : Map) (N : ℕ) → ((p k : ℕ) → p < N → k < slotCount → n .mapWord p k ≡ m .mapWord p k) → MapSound m N → MapSound n N
-same-sound m n N same S = record {
+same-sound : (m n : Map) (N : ℕ) → ((p k : ℕ) → p < N → k < slotCount → n .mapWord p k ≡ m .mapWord p k) → (roots each : ℕ) → MapSound m N roots each → MapSound n N roots each
+same-sound m n N same roots each S = record {
+  notRoot = λ p k hp hk z. rw (same p k hp hk) (S .notRoot p k hp hk (rw (same p k hp hk) at z));
   below = λ p k hp hk. rw (same p k hp hk) (S .below p k hp hk);
   once = λ p k q j hp hk hq hj z e. S .once p k q j hp hk hq hj (rw (same p k hp hk) at z) (sym (same p k hp hk) ∙ e ∙ same q j hq hj);
 }
@@ -123,6 +124,6 @@ module _ (x : Point) (I : Invariant x) (f : ℕ) (of : Occupied (view (x .now)) 
     mapOctets = octets-putPayload (x .map) (v .page f) offset d (I .mapOctets) od;
     shape = kept-shape v w kept (I .shape);
     content = kept-content v w kept (I .shape) (mapOf (x .map)) (mapOf m) (I .content) rewritten;
-    sound = same-sound (mapOf (x .map)) (mapOf m) (v .N) mapWords (I .sound);
+    sound = same-sound (mapOf (x .map)) (mapOf m) (v .N) mapWords 1 _ (I .sound);
     pins = pins-kept v w (kept .steady) (x .balance) (I .pins) (change-same rs f r (λ t. t .pins) lt samePins);
   }

@@ -4,13 +4,13 @@ use mathlib.Core.Logic.{_≢_}
 use mathlib.Core.Bool.{true, false}
 use Prim.Native.Nat.{ℕ, _≤_, _<_}
 use native.Mathlib.Omega.{arith}
-use native.Mathlib.Decide.{ℕ-discrete}
+use native.Mathlib.Decide.{ℕ-discrete, decLt}
 use Rattle.page.specs.Figures.{pageSize, slotCount, payloadStart, swizzleBit}
 use Rattle.page.specs.Word.{frameWord}
 use Rattle.machine.specs.Moves.{plain}
-use Rattle.machine.specs.TestLaws.{clash}
-use Rattle.machine.specs.PlainLaws.{plain-low, plain-high}
-use Rattle.machine.specs.Theorem.View.{View, Occupied, Absent, Parent, Child, Shape, Map, Content, MapSound}
+use Rattle.machine.specs.Laws.TestLaws.{clash}
+use Rattle.machine.specs.Laws.PlainLaws.{plain-low, plain-high}
+use Rattle.machine.specs.Theorem.View.{View, Occupied, Absent, Parent, Child, Shape, Map, Content, MapSound, NoRoot}
 use Rattle.machine.specs.Theorem.KeepEffect.{Steady, steady-was, steady-is, steady-reach, steady-absent, steady-absentWas, steady-plain}
 
 -- slot k of frame f is y, and its page dirty
@@ -51,8 +51,9 @@ module _ (m n : Map) (N p k y : ℕ) (M : MapLinked m n N p k y) where
     | no a ↦ stays (M .wordPage q j hq hj a)
   ]
 
-  pub link-sound : y < N → Unnamed m N y → MapSound m N → MapSound n N
-  link-sound yN fresh S = record {
+  pub link-sound : (roots each : ℕ) → y < N → Unnamed m N y → (y ≢ 0 → NoRoot roots each y) → MapSound m N roots each → MapSound n N roots each
+  link-sound roots each yN fresh nr S = record {
+    notRoot = λ q j hq hj z. elim (mapCase q j hq hj) [ changed a b c ↦ rw c (nr (rw c at z)) | stays c ↦ rw c (S .notRoot q j hq hj (rw c at z)) ];
     below = λ q j hq hj. elim (mapCase q j hq hj) [ changed a b c ↦ rw c yN | stays c ↦ rw c (S .below q j hq hj) ];
     once = λ q j r i hq hj hr hi z e. elim (mapCase q j hq hj) [
       | changed a b c ↦ elim (mapCase r i hr hi) [
@@ -68,21 +69,21 @@ module _ (m n : Map) (N p k y : ℕ) (M : MapLinked m n N p k y) where
 
 -- ---- what the map doesn't name, no resident page's image names, and it isn't resident
 
-module _ (v : View) (m : Map) (S : Shape v) (C : Content v m) (y : ℕ) (fresh : Unnamed m (v .N) y) (nz : y ≢ 0) where
+module _ (v : View) (m : Map) (S : Shape v) (C : Content v m) (y : ℕ) (fresh : Unnamed m (v .N) y) (noRoot : y ≢ 0 → NoRoot (v .roots) (v .each) y) (nz : y ≢ 0) where
   unnamed-image : (g i : ℕ) → Occupied v g → i < slotCount → plain (v .page) (v .word g i) ≢ y
   unnamed-image g i o hi q = fresh nz (v .page g) i (S .pageLt g o) hi (sym (C .frameWord g i o hi) ∙ q)
 
   unnamed-absent : Absent v y
-  unnamed-absent g o q = elim (ℕ-discrete g 0) [
-    | yes z ↦ nz (sym q ∙ ap (v .page) z ∙ S .rootPage)
-    | no z ↦ let P : Parent v g = S .parent g o z in
+  unnamed-absent g o q = elim (decLt g (v .roots)) [
+    | yes l ↦ noRoot nz g l (sym q ∙ S .rootPage g l)
+    | no l ↦ let z : v .roots ≤ g = omega arith in let P : Parent v g = S .parent g o z in
         unnamed-image (v .up g) (v .upSlot g) (P .occupied) (P .inPage) (ap (plain (v .page)) (P .names) ∙ plain-high (v .page) g ∙ q)
   ]
 
 -- ---- shape and content
 
 module _ (v w : View) (f k y : ℕ) (S : Shape v) (L : Linked v w f k y) (of : Occupied v f) (hk : k < slotCount) (old : v .word f k < swizzleBit) (yN : y < v .N)
-    (m : Map) (C : Content v m) (fresh : Unnamed m (v .N) y) where
+    (m : Map) (C : Content v m) (fresh : Unnamed m (v .N) y) (noRoot : y ≢ 0 → NoRoot (v .roots) (v .each) y) where
   abbrev T : Steady v w
   T = L .steady
 
@@ -115,7 +116,7 @@ module _ (v w : View) (f k y : ℕ) (S : Shape v) (L : Linked v w f k y) (of : O
 
   -- a number that stays isn't y
   notY : (g j : ℕ) → Occupied v g → j < slotCount → v .word g j < swizzleBit → y ≢ 0 → v .word g j ≢ y
-  notY g j o hj l z q = unnamed-image v m S C y fresh z g j o hj (plain-low (v .page) _ l ∙ q)
+  notY g j o hj l z q = unnamed-image v m S C y fresh noRoot z g j o hj (plain-low (v .page) _ l ∙ q)
 
   pub link-shape : Shape w
   link-shape = record {
@@ -123,11 +124,12 @@ module _ (v w : View) (f k y : ℕ) (S : Shape v) (L : Linked v w f k y) (of : O
     most = rw (T .sameF) (S .most);
     some = rw (T .sameN) (S .some);
     pages = rw (T .sameN) (S .pages);
-    root = is 0 (S .root);
-    rootPage = T .page 0 ∙ S .rootPage;
+    someRoots = rw (T .roots) (S .someRoots);
+    root = λ f l. is f (S .root f (rw (T .roots) at l));
+    rootPage = λ f l. rw (T .each) (T .page f ∙ S .rootPage f (rw (T .roots) at l));
     pageLt = λ g o. rw (T .sameN, T .page g) (S .pageLt g (was g o));
     apart = λ a b oa ob q. S .apart a b (was a oa) (was b ob) (sym (T .page a) ∙ q ∙ T .page b);
-    parent = λ g o z. let P : Parent v g = S .parent g (was g o) z in record {
+    parent = λ g o z. let P : Parent v g = S .parent g (was g o) (rw (T .roots) at z) in record {
       occupied = rw (T .up g) (is (v .up g) (P .occupied));
       inPage = rw (T .upSlot g) (P .inPage);
       names = rw (T .up g, T .upSlot g) (highSame (v .up g) (v .upSlot g) g (P .occupied) (P .inPage) (P .names) ∙ P .names);
@@ -135,14 +137,14 @@ module _ (v w : View) (f k y : ℕ) (S : Shape v) (L : Linked v w f k y) (of : O
     child = λ a j g o hj q. elim (wordCase a j (was a o) hj) [
       | hit x z c ↦ absurd (omega (arith, yLow))
       | same c d ↦ let D : Child v a j g = S .child a j g (was a o) hj (sym c ∙ q) in
-          record { occupied = is g (D .occupied); notRoot = D .notRoot; back = T .up g ∙ D .back; backSlot = T .upSlot g ∙ D .backSlot }
+          record { occupied = is g (D .occupied); notRoot = rw (T .roots) (D .notRoot); back = T .up g ∙ D .back; backSlot = T .upSlot g ∙ D .backSlot }
     ];
     numberLt = λ a j o hj l. elim (wordCase a j (was a o) hj) [
       | hit x z c ↦ rw (c, T .sameN) yN
       | same c d ↦ rw (c, T .sameN) (S .numberLt a j (was a o) hj (rw c at l))
     ];
     numberAbsent = λ a j o hj l z. elim (wordCase a j (was a o) hj) [
-      | hit x b c ↦ rw c (steady-absent v w T y (unnamed-absent v m S C y fresh (rw c at z)))
+      | hit x b c ↦ rw c (steady-absent v w T y (unnamed-absent v m S C y fresh noRoot (rw c at z)))
       | same c d ↦ rw c (steady-absent v w T _ (S .numberAbsent a j (was a o) hj (rw c at l) (rw c at z)))
     ];
     once = λ a i b j oa hi ob hj q z l. elim (wordCase a i (was a oa) hi) [

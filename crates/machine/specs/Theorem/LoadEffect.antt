@@ -5,18 +5,20 @@ use mathlib.Core.Bool.{true, false}
 use Prim.Native.Nat.{ℕ, _≤_, _<_}
 use native.Mathlib.Omega.{arith}
 use native.Mathlib.Nat.{add-left-cancel}
-use native.Mathlib.Decide.{ℕ-discrete}
+use native.Mathlib.Decide.{ℕ-discrete, decLt}
 use Rattle.page.specs.Figures.{pageSize, slotCount, payloadStart, swizzleBit}
 use Rattle.page.specs.Word.{frameWord}
 use Rattle.machine.specs.Moves.{plain}
-use Rattle.machine.specs.TestLaws.{clash}
-use Rattle.machine.specs.PlainLaws.{plain-low, plain-high, reading, low, high}
-use Rattle.machine.specs.Theorem.View.{View, Reach, top, via, Occupied, Absent, Parent, Child, Shape, Map, Content, MapSound}
+use Rattle.machine.specs.Laws.TestLaws.{clash}
+use Rattle.machine.specs.Laws.PlainLaws.{plain-low, plain-high, reading, low, high}
+use Rattle.machine.specs.Theorem.View.{View, Reach, top, via, Occupied, Absent, Parent, Child, Shape, Map, Content, MapSound, NoRoot}
 
 -- page q comes into frame e, for slot k of frame f
 pub record Loaded (v w : View) (f k e q : ℕ) : Type 0 where
   pub sameF : w .F ≡ v .F
   pub sameN : w .N ≡ v .N
+  pub roots : w .roots ≡ v .roots
+  pub each : w .each ≡ v .each
   pub usedE : w .used e ≡ true
   pub pageE : w .page e ≡ q
   pub upE : w .up e ≡ f
@@ -42,14 +44,16 @@ pub record Loaded (v w : View) (f k e q : ℕ) : Type 0 where
 pub record Fits (v : View) (q : ℕ) : Type 0 where
   pub below : (j : ℕ) → j < slotCount → v .storeWord q j < v .N
   pub fresh : (j g i : ℕ) → j < slotCount → Occupied v g → i < slotCount → v .storeWord q j ≢ 0 → plain (v .page) (v .word g i) ≢ v .storeWord q j
+  pub notRoot : (j : ℕ) → j < slotCount → v .storeWord q j ≢ 0 → NoRoot (v .roots) (v .each) (v .storeWord q j)
   pub once : (i j : ℕ) → i < slotCount → j < slotCount → v .storeWord q j ≢ 0 → v .storeWord q i ≡ v .storeWord q j → i ≡ j
 
 -- where the map is a sound store, a page that isn't resident fits
-pub absent-fits : (v : View) (m : Map) → Shape v → Content v m → MapSound m (v .N) → (q : ℕ) → q < v .N → Absent v q → Fits v q
+pub absent-fits : (v : View) (m : Map) → Shape v → Content v m → MapSound m (v .N) (v .roots) (v .each) → (q : ℕ) → q < v .N → Absent v q → Fits v q
 absent-fits v m S C M q hq a = record {
   below = λ j hj. rw (stored j hj) (M .below q j hq hj);
   fresh = λ j g i hj o hi n x. a g o (M .once (v .page g) i q j (S .pageLt g o) hi hq hj
       (λ z. n (sym x ∙ C .frameWord g i o hi ∙ z)) (sym (C .frameWord g i o hi) ∙ x ∙ stored j hj) .0);
+  notRoot = λ j hj n. rw (stored j hj) (M .notRoot q j hq hj (rw (stored j hj) at n));
   once = λ i j hi hj n x. M .once q i q j hq hi hq hj (λ z. n (sym x ∙ stored i hi ∙ z)) (sym (stored i hi) ∙ x ∙ stored j hj) .1;
 }
   where
@@ -94,10 +98,10 @@ module _ (v w : View) (f k e q : ℕ) (S : Shape v) (L : Loaded v w f k e q) (of
   was = loaded-was v w f k e q L eF free
 
   reached : (g : ℕ) → Reach v g → Occupied v g → Reach w g
-  reached g top o = top
-  reached g (via r) o = elim (ℕ-discrete g 0) [
-    | yes z ↦ rw z top
-    | no z ↦ via {f = g} (rw (L .up g (other g o)) (reached (v .up g) r (S .parent g o z .occupied)))
+  reached g (top l) o = top {f = g} (rw (L .roots) l)
+  reached g (via r) o = elim (decLt g (v .roots)) [
+    | yes l ↦ top {f = g} (rw (L .roots) l)
+    | no l ↦ let z : v .roots ≤ g = omega arith in via {f = g} (rw (L .up g (other g o)) (reached (v .up g) r (S .parent g o z .occupied)))
   ]
 
   -- a word afterwards: one that came in, the parent's, or one that stays
@@ -120,9 +124,9 @@ module _ (v w : View) (f k e q : ℕ) (S : Shape v) (L : Loaded v w f k e q) (of
 
   -- what the loaded page names isn't resident, before or after
   newAbsent : (j : ℕ) → j < slotCount → v .storeWord q j ≢ 0 → Absent v (v .storeWord q j)
-  newAbsent j hj n g o x = elim (ℕ-discrete g 0) [
-    | yes z ↦ n (sym x ∙ ap (v .page) z ∙ S .rootPage)
-    | no z ↦ let P : Parent v g = S .parent g o z in
+  newAbsent j hj n g o x = elim (decLt g (v .roots)) [
+    | yes l ↦ T .notRoot j hj n g l (sym x ∙ S .rootPage g l)
+    | no l ↦ let z : v .roots ≤ g = omega arith in let P : Parent v g = S .parent g o z in
         T .fresh j (v .up g) (v .upSlot g) hj (P .occupied) (P .inPage) n (ap (plain (v .page)) (P .names) ∙ plain-high (v .page) g ∙ x)
   ]
 
@@ -150,11 +154,15 @@ module _ (v w : View) (f k e q : ℕ) (S : Shape v) (L : Loaded v w f k e q) (of
     ]
   ]
 
-  parent′ : (g : ℕ) → Occupied w g → g ≢ 0 → Parent w g
-  parent′ g o z = elim (ℕ-discrete g e) [
+  -- every root is occupied, so frame e is none
+  eNoRoot : v .roots ≤ e
+  eNoRoot = elim (decLt e (v .roots)) [ yes l ↦ absurd (other e (S .root e l) refl) | no l ↦ omega arith ]
+
+  parent′ : (g : ℕ) → Occupied w g → w .roots ≤ g → Parent w g
+  parent′ g o y = elim (ℕ-discrete g e) [
     | yes a ↦ rw a (record { occupied = rw (L .upE) (is f of); inPage = rw (L .upSlotE) hk; names = rw (L .upE, L .upSlotE) (L .wordAtParent) })
     | no a ↦
-        let P : Parent v g = S .parent g (was g o a) z in
+        let P : Parent v g = S .parent g (was g o a) (rw (L .roots) at y) in
         record {
           occupied = rw (L .up g a) (is (v .up g) (P .occupied));
           inPage = rw (L .upSlot g a) (P .inPage);
@@ -170,10 +178,10 @@ module _ (v w : View) (f k e q : ℕ) (S : Shape v) (L : Loaded v w f k e q) (of
   child′ a j g o hj c = elim (wordCase a j o hj) [
     | new x y ↦ absurd (omega (arith, T .below j hj, S .pages))
     | hit x y z ↦ let ge : g ≡ e = add-left-cancel swizzleBit (sym c ∙ z) in
-        rw ge (record { occupied = here; notRoot = λ r. other 0 (S .root) (sym r); back = L .upE ∙ sym x; backSlot = L .upSlotE ∙ sym y })
+        rw ge (record { occupied = here; notRoot = rw (L .roots) eNoRoot; back = L .upE ∙ sym x; backSlot = L .upSlotE ∙ sym y })
     | same oa x y ↦ let C : Child v a j g = S .child a j g oa hj (sym x ∙ c) in
         let n : g ≢ e = other g (C .occupied) in
-        record { occupied = is g (C .occupied); notRoot = C .notRoot; back = L .up g n ∙ C .back; backSlot = L .upSlot g n ∙ C .backSlot }
+        record { occupied = is g (C .occupied); notRoot = rw (L .roots) (C .notRoot); back = L .up g n ∙ C .back; backSlot = L .upSlot g n ∙ C .backSlot }
   ]
 
   numberLt′ : (a j : ℕ) → Occupied w a → j < slotCount → w .word a j < swizzleBit → w .word a j < w .N
@@ -219,8 +227,9 @@ module _ (v w : View) (f k e q : ℕ) (S : Shape v) (L : Loaded v w f k e q) (of
     most = rw (L .sameF) (S .most);
     some = rw (L .sameN) (S .some);
     pages = rw (L .sameN) (S .pages);
-    root = is 0 (S .root);
-    rootPage = L .page 0 (other 0 (S .root)) ∙ S .rootPage;
+    someRoots = rw (L .roots) (S .someRoots);
+    root = λ g l. is g (S .root g (rw (L .roots) at l));
+    rootPage = λ g l. let h : g < v .roots = rw (L .roots) at l in rw (L .each) (L .page g (other g (S .root g h)) ∙ S .rootPage g h);
     pageLt = pageLt′;
     apart = apart′;
     parent = parent′;

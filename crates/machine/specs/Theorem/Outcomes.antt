@@ -9,7 +9,7 @@ use native.Mathlib.Decide.{ℕ-discrete}
 use borrow.Author.Tests.{eqb-false, not-true}
 use lib.Dec.{eqb}
 use Rattle.machine.specs.Tests.{_and_, pick, Rule, firstBroken}
-use Rattle.machine.specs.TestLaws.{clash, and-true, verdict-yes, verdict-no, numbered, broken-then}
+use Rattle.machine.specs.Laws.TestLaws.{clash, and-true, verdict-yes, verdict-no, numbered, broken-then}
 use Rattle.machine.specs.Machine.{State}
 use Rattle.machine.specs.Answers.{refused, Out, out}
 use Rattle.machine.specs.Calls.{decide}

@@ -3,6 +3,7 @@ use Prim.Native.Nat.{ℕ, _<_, _≤_}
 use mathlib.Core.Path.{_≡_, refl, sym, _∙_, ap}
 use mathlib.Core.Logic.{_≢_}
 use mathlib.Core.Bool.{true}
+use native.Mathlib.Omega.{arith}
 use native.Mathlib.Decide.{ℕ-discrete}
 use borrow.Author.Tests.{lt-ltb}
 use Rattle.page.specs.Figures.{pageSize, slotCount, payloadStart, swizzleBit}
@@ -10,11 +11,11 @@ use Rattle.page.specs.Word.{isNumber, frameWord}
 use Rattle.page.specs.Page.{slot, byte}
 use Rattle.machine.specs.Machine.{recordAt, occupied, blank}
 use Rattle.machine.specs.Moves.{plain}
-use Rattle.machine.specs.TestLaws.{case, on, off}
+use Rattle.machine.specs.Laws.TestLaws.{case, on, off}
 use Rattle.machine.specs.History.{Point}
 use Rattle.machine.specs.Demand3.{InFrame, Resident, Pinned, Names, LeadsToRoot, atRoot, toParent}
-use Rattle.machine.specs.PlainLaws.{plain-low, plain-high, reading, low, high}
-use Rattle.machine.specs.Theorem.View.{view, Reach, top, via, Occupied, Absent, Parent, Child}
+use Rattle.machine.specs.Laws.PlainLaws.{plain-low, plain-high, reading, low, high}
+use Rattle.machine.specs.Theorem.View.{view, Reach, top, via, Occupied, Absent, Parent, Child, first-root, first-page, past-first, not-first}
 use Rattle.machine.specs.Theorem.Invariant.{Invariant}
 use Rattle.machine.specs.Theorem.Holders.{Holder, occupied-of}
 use Rattle.machine.specs.Theorem.InvariantReads.{blank-record}
@@ -44,7 +45,7 @@ module _ (x : Point) (I : Invariant x) where
 
   -- ---- the tree
   pub root-holder : Holder (view (x .now)) 0 0
-  root-holder = record { at = I .shape .root; page = I .shape .rootPage }
+  root-holder = record { at = first-root _ (I .shape); page = first-page _ (I .shape) }
 
   pub root-resident : Resident x 0
   root-resident = resident x I 0 0 root-holder
@@ -62,8 +63,8 @@ module _ (x : Point) (I : Invariant x) where
   pub named-by : (p : ℕ) → p ≢ 0 → Resident x p → (q k : ℕ) × Resident x q × Names x q k p
   named-by p n r =
       let h : Holder (view (x .now)) p (r .0) = holder x I p (r .0) (r .1) in
-      let z : r .0 ≢ 0 = λ q. n (sym (h .page) ∙ ap (view (x .now) .page) q ∙ I .shape .rootPage) in
-      let P : Parent (view (x .now)) (r .0) = I .shape .parent (r .0) (h .at) z in
+      let z : r .0 ≢ 0 = λ q. n (sym (h .page) ∙ ap (view (x .now) .page) q ∙ first-page _ (I .shape)) in
+      let P : Parent (view (x .now)) (r .0) = I .shape .parent (r .0) (h .at) (past-first z) in
       (view (x .now) .page (view (x .now) .up (r .0)), view (x .now) .upSlot (r .0), parent-resident (r .0) P, rw (h .page) at (parent-names (r .0) (h .at) P))
 
   page-below : (p : ℕ) → Resident x p → p < x .now .pool .pages
@@ -74,11 +75,11 @@ module _ (x : Point) (I : Invariant x) where
       I .sound .once q k r j (page-below q rq) (a .inPage) (page-below r rr) (b .inPage) (λ z. n (sym (a .word) ∙ z)) (a .word ∙ sym (b .word))
 
   leads : (f : ℕ) → Reach (view (x .now)) f → Occupied (view (x .now)) f → LeadsToRoot x (view (x .now) .page f)
-  leads f top o = rw (I .shape .rootPage) atRoot
+  leads f (top l) o = let z : f ≡ 0 = omega arith in rw (z, first-page _ (I .shape)) atRoot
   leads f (via r) o = elim (ℕ-discrete f 0) [
-    | yes z ↦ rw (z, I .shape .rootPage) atRoot
+    | yes z ↦ rw (z, first-page _ (I .shape)) atRoot
     | no z ↦
-        let P : Parent (view (x .now)) f = I .shape .parent f o z in
+        let P : Parent (view (x .now)) f = I .shape .parent f o (past-first z) in
         toParent _ _ (parent-resident f P) (parent-names f o P) (leads (view (x .now) .up f) r (P .occupied))
   ]
 
@@ -117,7 +118,7 @@ module _ (x : Point) (I : Invariant x) where
   number-word p f k c a m n = elim (meets p f k (holder x I p f a) (m .inPage)) [
     | number e l away ↦ e ∙ m .word
     | swizzledTo j e C k ↦ absurd (n
-        (λ z. C .notRoot (I .shape .apart j 0 (k .at) (I .shape .root) (k .page ∙ m .word ∙ z ∙ sym (I .shape .rootPage))))
+        (λ z. not-first (C .notRoot) (I .shape .apart j 0 (k .at) (first-root _ (I .shape)) (k .page ∙ m .word ∙ z ∙ sym (first-page _ (I .shape)))))
         (resident x I c j (record { at = k .at; page = k .page ∙ m .word })))
   ]
 

@@ -11,9 +11,9 @@ use lib.Seq.{getD-set-same, getD-set-other}
 use Rattle.page.specs.Figures.{maxUsage, maxPins}
 use Rattle.machine.specs.declared.FrameRecord.{FrameRecord}
 use Rattle.machine.specs.declared.Pool.{Pool}
-use Rattle.machine.specs.TestLaws.{clash}
+use Rattle.machine.specs.Laws.TestLaws.{clash}
 use Rattle.machine.specs.Machine.{State, state, blank, recordAt, withRecord}
-use Rattle.machine.specs.Ready.{Lengths}
+use Rattle.machine.specs.Laws.Ready.{Lengths}
 use Rattle.machine.specs.Theorem.View.{view}
 use Rattle.machine.specs.History.{Point}
 use Rattle.machine.specs.Theorem.Invariant.{NeatRecord, Neat, Invariant}
@@ -45,6 +45,8 @@ pub change-steady : (s : State) (f : ℕ) (r : FrameRecord) (fs st : List ℕ) �
 change-steady s f r fs st h P = record {
   sameF = refl;
   sameN = refl;
+  roots = refl;
+  each = refl;
   used = change-same (s .pool .records) f r (λ t. t .used) h (P .used);
   page = change-same (s .pool .records) f r (λ t. t .page .0) h (ap (λ p. p .0) (P .page));
   up = change-same (s .pool .records) f r (λ t. t .parent .0) h (ap (λ p. p .0) (P .parent));

@@ -1,88 +1,33 @@
 -- Every call keeps the invariant, accepted or refused. Assumes nothing.
-use Prim.Native.Nat.{ℕ, _/_, _<_}
-use mathlib.Core.Path.{_≡_, refl}
-use mathlib.Core.Bool.{true}
+use mathlib.Core.Path.{refl}
 use native.Mathlib.Omega.{arith}
-use lib.Dec.{ltb}
-use lib.ListN.{length}
-use Rattle.page.specs.declared.PageNumber.{PageNumber}
-use Rattle.page.specs.Figures.{pageSize}
 use Rattle.page.specs.Octets.{Octets}
-use Rattle.machine.specs.declared.Handle.{Handle}
 use Rattle.machine.specs.Tests.{pick}
-use Rattle.machine.specs.TestLaws.{pick-either}
-use Rattle.machine.specs.Machine.{state, zeroPool, found}
-use Rattle.machine.specs.Soundness.{sound}
-use Rattle.machine.specs.Sweep.{firstEmpty}
-use Rattle.machine.specs.Answers.{Answer, refused, done, handle, number, frame, nowhere, Out, out}
-use Rattle.machine.specs.Calls.{opened, showCall, fixCall, payloadPlace, foundAnswer}
-use Rattle.machine.specs.History.{Call, reopen, root, fix, unfix, show, peek, word, write, link, unlink, evict, settle, find, Row, row, Point, continued, reopened, next}
+use Rattle.machine.specs.Machine.{found}
+use Rattle.machine.specs.History.{Call, reopen, root, fix, unfix, show, peek, word, write, link, unlink, evict, settle, find, row, Point, next}
+use Rattle.machine.specs.Theorem.View.{past-first}
 use Rattle.machine.specs.Theorem.Invariant.{Invariant}
-use Rattle.machine.specs.Theorem.Keeps.{pin-keeps, unpin-keeps, write-keeps, relink-keeps, evict-keeps, load-keeps, settle-keeps, open-keeps}
-use Rattle.machine.specs.Theorem.SweepStep.{swept-keeps}
-use Rattle.machine.specs.Theorem.Outcomes.{Cases, granted, denied}
-use Rattle.machine.specs.Theorem.InvariantReads.{lengths-fit-open}
-use Rattle.machine.specs.Theorem.CallCases.{open-case, root-case, handle-case, unfix-case, word-case, write-case, peek-case, find-case, link-case, unlink-case, evict-case, settle-case}
-use Rattle.machine.specs.Theorem.AnswersHold.{place-gives}
-use Rattle.machine.specs.Theorem.FixCases.{pins, fills, sweeps, refuses, fix-case}
+use Rattle.machine.specs.Theorem.Keeps.{unpin-keeps, write-keeps, relink-keeps, evict-keeps, settle-keeps}
+use Rattle.machine.specs.Theorem.CallCases.{open-case, unfix-case, word-case, write-case, peek-case, find-case, link-case, unlink-case, evict-case, settle-case}
+use Rattle.machine.specs.Theorem.CallSteps.{call-keeps, show-keeps, peek-keeps, find-keeps, open-step, root-next, fix-next}
 
 module _ (x : Point) (I : Invariant x) where
-  -- a call that begins no new history: what its accepted case keeps, it keeps
-  refused-keeps : (r : Row) (n : ℕ) (o : Out) → o ≡ out (refused n) (x .now) → Invariant (continued r o x)
-  unfolding pick
-  refused-keeps r n o e = rw e I
-
-  call-keeps : (r : Row) (Facts : Type 0) (a o : Out) → Cases (x .now) Facts a o → (Facts → Invariant (continued r a x)) → Invariant (continued r o x)
-  call-keeps r Facts a o (granted k e) keeps = rw e (keeps k)
-  call-keeps r Facts a o (denied n u e) keeps = refused-keeps r n o e
-
-  -- ---- the calls that change nothing: show, peek, word, find
-  show-keeps : (h : Handle) → Invariant (continued (row (show h)) (showCall (x .now) h) x)
-  unfolding showCall pick
-  show-keeps h = call-keeps (row (show h)) _ _ _ (handle-case x I h _) (λ H. I)
-
-  peek-keeps : (q : PageNumber) → q .0 < x .now .pool .pages → Invariant (continued (row (peek q)) (out (payloadPlace (x .now) (q .0)) (x .now)) x)
-  unfolding pick
-  peek-keeps q l = rw (place-gives x I (q .0) l .3) I
-
-  find-keeps : (q : PageNumber) → Invariant (continued (row (find q)) (out (foundAnswer (x .now) (q .0)) (x .now)) x)
-  unfolding pick foundAnswer
-  find-keeps q = pick-either (λ (a : Answer). Invariant (continued (row (find q)) (out a (x .now)) x)) (ltb (found (x .now .pool) (q .0)) (x .now .pool .count))
-      (frame (found (x .now .pool) (q .0))) nowhere I I
-
-  -- ---- fix
-  fix-keeps : (h : Handle) (k : ℕ) → Invariant (continued (row (fix h k)) (fixCall (x .now) h k) x)
-  unfolding pick
-  fix-keeps h k = elim (fix-case x I h k) [
-    | pins A g w few e ↦ rw e (pin-keeps x I g (I .shape .child (h .frame .0) k g (A .handle .at) (A .inPage) w .occupied) few)
-    | fills A low l free e ↦ rw e (load-keeps x I (h .frame .0) k (firstEmpty (x .now .pool)) _ (A .handle .at) (A .inPage) l free refl low (A .filled))
-    | sweeps A low full t e ↦ rw e (swept-keeps x I full t (h .frame .0) k (A .handle .at) (A .handle .pinned) (A .inPage) low (A .filled))
-    | refuses n u e ↦ refused-keeps (row (fix h k)) n _ e
-  ]
-
-  -- ---- open: accepted, it begins a new history; refused, the records from before it stay
-  open-step : (o : Out) → Cases (state zeroPool (x .now .frames) (x .now .store)) (sound (x .now .store) (length (x .now .store) / pageSize) ≡ true) (out done (opened (x .now .frames) (x .now .store))) o → Invariant (reopened o x)
-  unfolding pick
-  open-step o (granted k e) = rw e (open-keeps (x .now .frames) (x .now .store) (I .frameOctets) (I .storeOctets) (lengths-fit-open x I) k)
-  open-step o (denied n u e) = rw e I
-
-  -- ---- every call
   pub step-keeps : (c : Call) → Octets (row c .bytes) → Invariant (next c x)
   unfolding next pick
-  step-keeps reopen b = open-step _ (open-case x I)
-  step-keeps root b = call-keeps (row root) _ _ _ (root-case x I) (λ few. pin-keeps x I 0 (I .shape .root) few)
-  step-keeps (fix h k) b = fix-keeps h k
-  step-keeps (unfix h) b = call-keeps (row (unfix h)) _ _ _ (unfix-case x I h) (λ H. rw (H .page) at (unpin-keeps x I (h .frame .0) (H .at) (H .pinned)))
-  step-keeps (show h) b = show-keeps h
-  step-keeps (peek q) b = call-keeps (row (peek q)) _ _ _ (peek-case x I q) (peek-keeps q)
-  step-keeps (word h k) b = call-keeps (row (word h k)) _ _ _ (word-case x I h k) (λ A. I)
-  step-keeps (write h offset d) b = call-keeps (row (write h offset d)) _ _ _ (write-case x I h offset d)
+  step-keeps reopen b = open-step x I _ (open-case x I)
+  step-keeps root b = root-next x I
+  step-keeps (fix h k) b = fix-next x I h k
+  step-keeps (unfix h) b = call-keeps x I (row (unfix h)) _ _ _ (unfix-case x I h) (λ H. rw (H .page) at (unpin-keeps x I (h .frame .0) (H .at) (H .pinned)))
+  step-keeps (show h) b = show-keeps x I h
+  step-keeps (peek q) b = call-keeps x I (row (peek q)) _ _ _ (peek-case x I q) (peek-keeps x I q)
+  step-keeps (word h k) b = call-keeps x I (row (word h k)) _ _ _ (word-case x I h k) (λ A. I)
+  step-keeps (write h offset d) b = call-keeps x I (row (write h offset d)) _ _ _ (write-case x I h offset d)
       (λ A. rw (A .handle .page) at (write-keeps x I (h .frame .0) (A .handle .at) offset d (A .fits) b))
-  step-keeps (link h k q) b = call-keeps (row (link h k q)) _ _ _ (link-case x I h k q)
+  step-keeps (link h k q) b = call-keeps x I (row (link h k q)) _ _ _ (link-case x I h k q)
       (λ A. rw (A .handle .page) at (relink-keeps x I (h .frame .0) (A .handle .at) k (q .0) (A .inPage) (rw (A .vacant) (omega arith)) (A .below) (λ n. A .fresh)))
-  step-keeps (unlink h k) b = call-keeps (row (unlink h k)) _ _ _ (unlink-case x I h k)
+  step-keeps (unlink h k) b = call-keeps x I (row (unlink h k)) _ _ _ (unlink-case x I h k)
       (λ A. rw (A .handle .page) at (relink-keeps x I (h .frame .0) (A .handle .at) k 0 (A .inPage) (A .number) (I .shape .some) (λ n. absurd (n refl))))
-  step-keeps (evict q) b = call-keeps (row (evict q)) _ _ _ (evict-case x I q)
-      (λ A. evict-keeps x I (found (x .now .pool) (q .0)) (A .holder .at) (A .isopen .notRoot) (A .isopen .leaf) (A .isopen .unpinned))
-  step-keeps settle b = call-keeps (row settle) _ _ _ (settle-case x I) (λ a. settle-keeps x I)
-  step-keeps (find q) b = call-keeps (row (find q)) _ _ _ (find-case x I q) (λ l. find-keeps q)
+  step-keeps (evict q) b = call-keeps x I (row (evict q)) _ _ _ (evict-case x I q)
+      (λ A. evict-keeps x I (found (x .now .pool) (q .0)) (A .holder .at) (past-first (A .isopen .notRoot)) (A .isopen .leaf) (A .isopen .unpinned))
+  step-keeps settle b = call-keeps x I (row settle) _ _ _ (settle-case x I) (λ a. settle-keeps x I)
+  step-keeps (find q) b = call-keeps x I (row (find q)) _ _ _ (find-case x I q) (λ l. find-keeps x I q)

@@ -12,11 +12,12 @@ use Rattle.machine.specs.Moves.{evicted, loaded}
 use Rattle.machine.specs.Sweep.{sweep, withSwept}
 use Rattle.machine.specs.Calls.{sweptOut}
 use Rattle.machine.specs.History.{Point, fixedIn}
-use Rattle.machine.specs.Theorem.View.{view, Occupied, Parent}
+use Rattle.machine.specs.Theorem.View.{view, Occupied, Parent, past-first}
 use Rattle.machine.specs.Theorem.Invariant.{Invariant}
 use Rattle.machine.specs.Theorem.EvictEffect.{Evicted, evicted-is}
+use Rattle.machine.specs.Theorem.Fit.{fit-of}
 use Rattle.machine.specs.Theorem.Keeps.{evict-effect, evict-keeps, load-keeps, sweep-keeps}
-use Rattle.machine.specs.SweepLaws.{Cooled, sweep-cooled, sweep-sound}
+use Rattle.machine.specs.Laws.SweepLaws.{Cooled, sweep-cooled, sweep-sound}
 use Rattle.machine.specs.Theorem.TestReads.{Open, open-of}
 
 -- the point with another state
@@ -28,12 +29,12 @@ at x s = record { now = s; map = x .map; balance = x .balance }
 module _ (x : Point) (I : Invariant x) (g : ℕ) (og : Occupied (view (x .now)) g) (O : Open (view (x .now)) g)
     (f k : ℕ) (of : Occupied (view (x .now)) f) (fg : f ≢ g) (hk : k < slotCount) (low : view (x .now) .word f k < swizzleBit) (nz : view (x .now) .word f k ≢ 0) where
   E : Evicted (view (x .now)) (view (evicted (x .now) g)) g
-  E = evict-effect x I g og (O .notRoot)
+  E = evict-effect (x .now) (fit-of x I) g og (past-first (O .notRoot))
 
   -- the word is no parent's, which would be swizzled
   same-word : view (evicted (x .now) g) .word f k ≡ view (x .now) .word f k
   same-word =
-      let P : Parent (view (x .now)) g = I .shape .parent g og (O .notRoot) in
+      let P : Parent (view (x .now)) g = I .shape .parent g og (past-first (O .notRoot)) in
       elim (ℕ-discrete f (view (x .now) .up g)) [
         | no a ↦ E .wordPage f k (of .lt) hk a
         | yes a ↦ elim (ℕ-discrete k (view (x .now) .upSlot g)) [
@@ -43,7 +44,7 @@ module _ (x : Point) (I : Invariant x) (g : ℕ) (og : Occupied (view (x .now)) 
       ]
 
   replace-keeps : Invariant (record { now = loaded (evicted (x .now) g) f k g (view (x .now) .word f k); map = x .map; balance = fixedIn g (view (x .now) .word f k) (x .balance) })
-  replace-keeps = load-keeps (at x (evicted (x .now) g)) (evict-keeps x I g og (O .notRoot) (O .leaf) (O .unpinned)) f k g (view (x .now) .word f k)
+  replace-keeps = load-keeps (at x (evicted (x .now) g)) (evict-keeps x I g og (past-first (O .notRoot)) (O .leaf) (O .unpinned)) f k g (view (x .now) .word f k)
       (evicted-is _ _ g E f of fg) hk (rw (E .sameF) (og .lt)) (E .gone) same-word low nz
 
 -- ---- the same after a sweep that took frame g

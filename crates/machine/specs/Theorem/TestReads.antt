@@ -7,7 +7,7 @@ use borrow.Author.Tests.{eqb-true, eqb-false, eq-eqb, ne-eqb, ltb-true, ltb-fals
 use lib.Dec.{eqb, ltb}
 use Rattle.page.specs.Figures.{slotCount, swizzleBit}
 use Rattle.machine.specs.declared.Handle.{Handle}
-use Rattle.machine.specs.TestLaws.{clash, case, on, off, and-true, every-true, false-every, pick-yes, pick-no}
+use Rattle.machine.specs.Laws.TestLaws.{clash, case, on, off, and-true, every-true, false-every, pick-yes, pick-no}
 use Rattle.machine.specs.Machine.{State, recordAt}
 use Rattle.machine.specs.Sweep.{childless, isOpen}
 use Rattle.machine.specs.Rules.{handleFits}

@@ -1,8 +1,10 @@
 -- The machine as functions: what the invariant of demand 3 speaks of. No list and no byte offset stands here.
-use mathlib.Core.Path.{_≡_}
+use mathlib.Core.Path.{_≡_, ap, _∙_}
+use native.Mathlib.Omega.{arith}
+use native.Mathlib.Nat.{mul-zero}
 use mathlib.Core.Logic.{_≢_}
 use mathlib.Core.Bool.{Bool, true, false}
-use Prim.Native.Nat.{ℕ, _≤_, _<_}
+use Prim.Native.Nat.{ℕ, _*_, _≤_, _<_}
 use Rattle.page.specs.Figures.{pageSize, slotCount, payloadStart, leastFrames, mostFrames, mostPages, swizzleBit}
 use Rattle.page.specs.Word.{frameWord}
 use Rattle.page.specs.Page.{slot, byte}
@@ -12,6 +14,9 @@ use Rattle.machine.specs.Moves.{plain}
 pub record View : Type 0 where
   pub F : ℕ
   pub N : ℕ
+  -- the roots are in the frames below this one, root t being page each × t
+  pub roots : ℕ
+  pub each : ℕ
   pub used : ℕ → Bool
   pub page : ℕ → ℕ
   pub up : ℕ → ℕ
@@ -27,6 +32,8 @@ abbrev pub view : State → View
 view s = record {
   F = s .pool .count;
   N = s .pool .pages;
+  roots = 1;
+  each = s .pool .pages;
   used = λ f. recordAt (s .pool .records) f .used;
   page = pageIn (s .pool .records);
   up = λ f. recordAt (s .pool .records) f .parent .0;
@@ -39,9 +46,9 @@ view s = record {
   storeBytes = λ p i. byte (s .store) p i;
 }
 
--- following parents reaches frame 0
+-- following parents reaches a root
 pub data Reach (v : View) : ℕ → Type 0 where
-  top : Reach v 0
+  top : {f : ℕ} → f < v .roots → Reach v f
   via : {f : ℕ} → Reach v (v .up f) → Reach v f
 
 -- frame f is occupied
@@ -61,7 +68,7 @@ pub record Parent (v : View) (f : ℕ) : Type 0 where
 -- frame g is named by slot k of frame f, and points back
 pub record Child (v : View) (f k g : ℕ) : Type 0 where
   pub occupied : Occupied v g
-  pub notRoot : g ≢ 0
+  pub notRoot : v .roots ≤ g
   pub back : v .up g ≡ f
   pub backSlot : v .upSlot g ≡ k
 
@@ -71,16 +78,21 @@ pub record Shape (v : View) : Type 0 where
   pub most : v .F ≤ mostFrames
   pub some : 1 ≤ v .N
   pub pages : v .N ≤ mostPages
-  pub root : Occupied v 0
-  pub rootPage : v .page 0 ≡ 0
+  pub someRoots : 1 ≤ v .roots
+  pub root : (f : ℕ) → f < v .roots → Occupied v f
+  pub rootPage : (f : ℕ) → f < v .roots → v .page f ≡ v .each * f
   pub pageLt : (f : ℕ) → Occupied v f → v .page f < v .N
   pub apart : (f g : ℕ) → Occupied v f → Occupied v g → v .page f ≡ v .page g → f ≡ g
-  pub parent : (f : ℕ) → Occupied v f → f ≢ 0 → Parent v f
+  pub parent : (f : ℕ) → Occupied v f → v .roots ≤ f → Parent v f
   pub child : (f k g : ℕ) → Occupied v f → k < slotCount → v .word f k ≡ frameWord g → Child v f k g
   pub numberLt : (f k : ℕ) → Occupied v f → k < slotCount → v .word f k < swizzleBit → v .word f k < v .N
   pub numberAbsent : (f k : ℕ) → Occupied v f → k < slotCount → v .word f k < swizzleBit → v .word f k ≢ 0 → Absent v (v .word f k)
   pub once : (f k g j : ℕ) → Occupied v f → k < slotCount → Occupied v g → j < slotCount → v .word f k ≡ v .word g j → v .word f k ≢ 0 → v .word f k < swizzleBit → (f ≡ g) × (k ≡ j)
   pub reach : (f : ℕ) → Occupied v f → Reach v f
+
+-- p is none of the roots' pages
+abbrev pub NoRoot : ℕ → ℕ → ℕ → Type 0
+NoRoot roots each p = (t : ℕ) → t < roots → p ≢ each * t
 
 -- the plain map, as functions
 pub record Map : Type 0 where
@@ -98,6 +110,25 @@ pub record Content (v : View) (m : Map) : Type 0 where
   pub storePlain : (p k : ℕ) → p < v .N → k < slotCount → v .storeWord p k < swizzleBit
 
 -- the map is a sound store
-pub record MapSound (m : Map) (N : ℕ) : Type 0 where
+pub record MapSound (m : Map) (N roots each : ℕ) : Type 0 where
   pub below : (p k : ℕ) → p < N → k < slotCount → m .mapWord p k < N
   pub once : (p k q j : ℕ) → p < N → k < slotCount → q < N → j < slotCount → m .mapWord p k ≢ 0 → m .mapWord p k ≡ m .mapWord q j → (p ≡ q) × (k ≡ j)
+  pub notRoot : (p k : ℕ) → p < N → k < slotCount → m .mapWord p k ≢ 0 → NoRoot roots each (m .mapWord p k)
+
+-- of a single store: a number but 0 is no root's page
+pub single-root : (each p : ℕ) → p ≢ 0 → NoRoot 1 each p
+single-root each p n t l e = let z : t ≡ 0 = omega arith in n (e ∙ ap (λ (x : ℕ). each * x) z ∙ mul-zero each)
+
+-- and a frame but 0 is no root's
+pub past-first : {f : ℕ} → f ≢ 0 → 1 ≤ f
+past-first n = omega arith
+
+pub not-first : {f : ℕ} → 1 ≤ f → f ≢ 0
+not-first l z = omega arith
+
+-- the first root is page 0
+pub first-root : (v : View) → Shape v → Occupied v 0
+first-root v S = S .root 0 (S .someRoots)
+
+pub first-page : (v : View) → Shape v → v .page 0 ≡ 0
+first-page v S = S .rootPage 0 (S .someRoots) ∙ mul-zero (v .each)

@@ -9,11 +9,11 @@ use Rattle.page.specs.Figures.{pageSize, slotCount, payloadStart, wordRadix}
 use Rattle.page.specs.Page.{slot, byte, pageOf, putPage, pageOf-length, byte-putPage-same, byte-putPage-other, slot-putPage-same, slot-putPage-other, byte-pageOf, slot-pageOf, byte-first}
 use Rattle.page.specs.Octets.{Octets, octets-pageOf, octets-putPage}
 use Rattle.machine.specs.declared.FrameRecord.{FrameRecord}
-use Rattle.machine.specs.TestLaws.{clash, pick-yes, pick-no, pick-either, case, on, off}
+use Rattle.machine.specs.Laws.TestLaws.{clash, pick-yes, pick-no, pick-either, case, on, off}
 use Rattle.machine.specs.Moves.{plain, imageTo, writtenOutBy}
-use Rattle.machine.specs.PlainLaws.{plain-low, plain-high, reading, low, high}
+use Rattle.machine.specs.Laws.PlainLaws.{plain-low, plain-high, reading, low, high}
 use Rattle.machine.specs.Theorem.View.{View, Occupied, Shape}
-use Rattle.machine.specs.MoveLaws.{image-length, octets-image, image-byte, image-slot}
+use Rattle.machine.specs.Laws.MoveLaws.{image-length, octets-image, image-byte, image-slot}
 
 -- the image of the page in frame f goes to the store, by its record r
 module _ (page : ℕ → ℕ) (r : FrameRecord) (fs st : List ℕ) (f : ℕ) where

@@ -2,7 +2,7 @@
 use mathlib.Core.Path.{refl}
 use borrow.Author.Needs.{needs}
 use borrow.Author.Tests.{eq-eqb, ne-eqb}
-use Rattle.machine.specs.TestLaws.{pick-yes, pick-no}
+use Rattle.machine.specs.Laws.TestLaws.{pick-yes, pick-no}
 use Rattle.machine.specs.Sweep.{isOpen}
 use Rattle.scan.proofs.is_open.Statement.{statement}
 use Rattle.scan.proofs.is_open.Tie as tie

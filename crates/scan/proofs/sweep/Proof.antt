@@ -1,4 +1,4 @@
--- `scan::sweep` meets its contract. The loop's invariant: the whole sweep is the sweep over the usages from the hand as they are, with the looks that are left. Assumes nothing.
+-- `scan::sweep` meets its contract. The loop's invariant: the whole sweep is the sweep over what is left of what it saw, from the hand on, with the looks that are left. Assumes nothing.
 use Prim.Native.Nat.{ℕ, suc, _≤_, _<_, _-_, _+_}
 use mathlib.Core.Path.{_≡_, refl, _∙_}
 use mathlib.Core.Logic.{_≢_}
@@ -11,16 +11,16 @@ use lib.ListN.{getD, set}
 use Rattle.page.specs.declared.FrameIndex.{FrameIndex}
 use Rattle.machine.specs.Machine.{frameIndex}
 use Rattle.machine.specs.Sweep.{after, mostLooks}
-use Rattle.scan.specs.Walk.{shut, WalkEnd, walkFrom, Walked, walk-takes, walk-passes, walk-cools}
+use Rattle.scan.specs.Walk.{lookedAt, WalkEnd, walkFrom, Walked, walk-takes, walk-goes}
 use Rattle.scan.proofs.sweep.Statement.{statement}
 use Rattle.scan.proofs.sweep.Tie as tie
 
 abbrev Inv-loop : tie.InvT-loop
-Inv-loop usages₀ count most hand₀ looks₀ usages hand looks =
-    (hand .0 < count) × (looks ≤ most) × (walkFrom count most 0 usages₀ (hand₀ .0) ≡ walkFrom count (most - looks) looks usages (hand .0))
+Inv-loop sights₀ count most hand₀ looks₀ sights hand looks =
+    (hand .0 < count) × (looks ≤ most) × (walkFrom count most 0 sights₀ (hand₀ .0) ≡ walkFrom count (most - looks) looks sights (hand .0))
 
 abbrev μ-loop : tie.MeasureT-loop
-μ-loop usages₀ count most hand₀ looks₀ usages hand looks = most - looks
+μ-loop sights₀ count most hand₀ looks₀ sights hand looks = most - looks
 
 module _ (F k n : ℕ) (us : List ℕ) (h : ℕ) {g : FrameIndex} (x : n < k) (hg : g ≡ frameIndex (after F h)) where
   left : k - n ≡ suc (k - (n + 1))
@@ -29,11 +29,8 @@ module _ (F k n : ℕ) (us : List ℕ) (h : ℕ) {g : FrameIndex} (x : n < k) (h
   takes : getD us h 0 ≡ 0 → walkFrom F (k - n) n us h ≡ record { walk = record { taken = true; frame = frameIndex h; looks = n + 1; hand = g }; left = us }
   takes e = rw (left, hg) (walk-takes F _ n us h e)
 
-  passes : getD us h 0 ≡ shut → walkFrom F (k - n) n us h ≡ walkFrom F (k - (n + 1)) (n + 1) us (g .0)
-  passes e = rw (left, hg) (walk-passes F _ n us h e)
-
-  cools : getD us h 0 ≢ 0 → getD us h 0 ≢ shut → walkFrom F (k - n) n us h ≡ walkFrom F (k - (n + 1)) (n + 1) (set us h (getD us h 0 - 1)) (g .0)
-  cools z e = rw (left, hg) (walk-cools F _ n us h z e)
+  goes : {v : ℕ} → getD us h 0 ≢ 0 → v ≡ lookedAt (getD us h 0) → walkFrom F (k - n) n us h ≡ walkFrom F (k - (n + 1)) (n + 1) (set us h v) (g .0)
+  goes z e = rw (left, hg, e) (walk-goes F _ n us h z)
 
 over : (F k n : ℕ) (us : List ℕ) (h : ℕ) → k ≤ n → walkFrom F (k - n) n us h ≡ record { walk = record { taken = false; frame = frameIndex 0; looks = n; hand = frameIndex h }; left = us }
 unfolding walkFrom
@@ -51,8 +48,8 @@ loop-holds c = (omega arith, omega arith, rw sub-zero)
 cast-at : tie.Need-cast-at Inv-loop μ-loop
 cast-at c = search needs
 
-element-copy-out-usage : tie.Need-element-copy-out-usage Inv-loop μ-loop
-element-copy-out-usage c = search needs
+element-copy-out-sight : tie.Need-element-copy-out-sight Inv-loop μ-loop
+element-copy-out-sight c = search needs
 
 next-frame-requires : tie.Need-next-frame-requires Inv-loop μ-loop
 next-frame-requires c κs = search needs
@@ -63,11 +60,11 @@ add-looks c = search needs
 returns : tie.Need-returns Inv-loop μ-loop
 returns c = walked (c .before .before .before .before .before .loop .inv .2 ∙ takes _ _ _ _ _ (c .before .before .before .before .loop-test .taken) (c .before .next-frame .ensures .0) (c .if1 .taken))
 
-sub-usages : tie.Need-sub-usages Inv-loop μ-loop
-sub-usages c = search needs
+looked-at-requires : tie.Need-looked-at-requires Inv-loop μ-loop
+looked-at-requires c κs = c .if1 .left
 
-element-write-usages : tie.Need-element-write-usages Inv-loop μ-loop
-element-write-usages c = search needs
+element-write-sights : tie.Need-element-write-sights Inv-loop μ-loop
+element-write-sights c = search needs
 
 loop-less : tie.Need-loop-less Inv-loop μ-loop
 loop-less c = search needs
@@ -76,17 +73,7 @@ loop-again : tie.Need-loop-again Inv-loop μ-loop
 loop-again c = (
   c .before .before .next-frame .ensures .1,
   omega arith,
-  c .before .before .before .before .before .before .loop .inv .2 ∙ cools _ _ _ _ _ (c .before .before .before .before .before .loop-test .taken) (c .before .before .next-frame .ensures .0) (c .before .if1 .left) (c .if2 .taken),
-)
-
-loop-less-2 : tie.Need-loop-less-2 Inv-loop μ-loop
-loop-less-2 c = search needs
-
-loop-again-2 : tie.Need-loop-again-2 Inv-loop μ-loop
-loop-again-2 c = (
-  c .before .before .next-frame .ensures .1,
-  omega arith,
-  c .before .before .before .before .before .before .loop .inv .2 ∙ passes _ _ _ _ _ (c .before .before .before .before .before .loop-test .taken) (c .before .before .next-frame .ensures .0) (c .if2 .left),
+  c .before .before .before .before .before .before .loop .inv .2 ∙ goes _ _ _ _ _ (c .before .before .before .before .before .loop-test .taken) (c .before .before .next-frame .ensures .0) (c .before .if1 .left) (c .looked-at .ensures),
 )
 
 returns-2 : tie.Need-returns-2 Inv-loop μ-loop
@@ -101,14 +88,12 @@ sweep-spec =
     mul-most
     loop-holds
     cast-at
-    element-copy-out-usage
+    element-copy-out-sight
     next-frame-requires
     add-looks
     returns
-    sub-usages
-    element-write-usages
+    looked-at-requires
+    element-write-sights
     loop-less
     loop-again
-    loop-less-2
-    loop-again-2
     returns-2)

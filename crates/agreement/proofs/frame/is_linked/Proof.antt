@@ -1,7 +1,7 @@
 -- `is_linked` meets its contract. Assumes nothing.
 use borrow.Author.Needs.{needs}
 use mathlib.Core.Path.{sym, _∙_}
-use Rattle.machine.specs.TestLaws.{clash}
+use Rattle.machine.specs.Laws.TestLaws.{clash}
 use Rattle.agreement.specs.Deciding.{decide-equal}
 use Rattle.agreement.specs.FitLaws.{slot-from}
 use Rattle.agreement.proofs.frame.is_linked.Statement.{statement}

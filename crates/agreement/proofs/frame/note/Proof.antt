@@ -4,7 +4,7 @@ use borrow.Author.Tests.{not-true, not-false}
 use Prim.Native.Nat.{_<_}
 use native.Mathlib.Omega.{arith}
 use mathlib.Core.Path.{refl, sym, _∙_}
-use Rattle.machine.specs.TestLaws.{clash}
+use Rattle.machine.specs.Laws.TestLaws.{clash}
 use Rattle.agreement.specs.Deciding.{holds, fails}
 use Rattle.agreement.specs.Seen.{pass-zeros}
 use Rattle.agreement.specs.Fit.{Fits}

@@ -1,7 +1,7 @@
 -- `is_blank` meets its contract. Assumes nothing.
 use borrow.Author.Needs.{needs}
 use mathlib.Core.Path.{sym, _∙_}
-use Rattle.machine.specs.TestLaws.{clash}
+use Rattle.machine.specs.Laws.TestLaws.{clash}
 use Rattle.agreement.specs.Deciding.{decide-equal}
 use Rattle.agreement.specs.Fit.{Blank}
 use Rattle.agreement.proofs.record.is_blank.Statement.{statement}

@@ -5,7 +5,7 @@ use native.Mathlib.Nat.{add-zero, add-assoc}
 use native.Mathlib.Omega.{arith}
 use mathlib.Core.Path.{_≡_, sym, _∙_}
 use mathlib.Core.Logic.{⊎-elim}
-use Rattle.machine.specs.TestLaws.{clash}
+use Rattle.machine.specs.Laws.TestLaws.{clash}
 use Rattle.agreement.specs.Seen.{Passed, Progress, progress}
 use Rattle.agreement.specs.Fit.{HasWords}
 use Rattle.agreement.specs.FitLaws.{numbers-lt}

@@ -3,7 +3,7 @@ use borrow.Author.Needs.{needs}
 use Prim.Native.Nat.{_<_, _+_}
 use native.Mathlib.Omega.{arith}
 use mathlib.Core.Path.{_≡_, refl, sym, _∙_}
-use Rattle.machine.specs.TestLaws.{clash}
+use Rattle.machine.specs.Laws.TestLaws.{clash}
 use Rattle.agreement.specs.Counting.{count-le}
 use Rattle.agreement.specs.Seen.{twice-here, twice-more, pass-noted, pass-zeros}
 use Rattle.agreement.specs.Fit.{overFrom}

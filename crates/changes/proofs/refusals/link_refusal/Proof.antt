@@ -9,12 +9,12 @@ use lib.Dec.{ltb}
 use lib.ListN.{length}
 use Rattle.page.specs.Figures.{pageSize}
 use Rattle.machine.specs.Tests.{_and_, Rule, firstBroken}
-use Rattle.machine.specs.TestLaws.{and-yes, and-no, kept-then, broken-here, none-broken}
+use Rattle.machine.specs.Laws.TestLaws.{and-yes, and-no, kept-then, broken-here, none-broken}
 use Rattle.machine.specs.Machine.{State, state}
 use Rattle.machine.specs.Naming.{named}
 use Rattle.machine.specs.Rules.{wordOf, rule6-link, rule8, rule9}
 use Rattle.machine.specs.Calls.{linkRules}
-use Rattle.machine.specs.RuleLaws.{SlotKept, slot-kept, slot-stops, slot-passes}
+use Rattle.machine.specs.Laws.RuleLaws.{SlotKept, slot-kept, slot-stops, slot-passes}
 use Rattle.residents.specs.Handed.{Handed}
 use Rattle.naming.specs.ByTable.{namedBy, named-by}
 use borrow.Author.Needs.{needs}

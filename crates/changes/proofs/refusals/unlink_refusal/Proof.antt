@@ -7,11 +7,11 @@ use native.Mathlib.Omega.{arith}
 use borrow.Author.Tests.{eq-eqb, ne-eqb}
 use Rattle.page.specs.Word.{isNumber}
 use Rattle.machine.specs.Tests.{Rule, firstBroken}
-use Rattle.machine.specs.TestLaws.{call-no, call-yes, kept-then, broken-here, none-broken}
+use Rattle.machine.specs.Laws.TestLaws.{call-no, call-yes, kept-then, broken-here, none-broken}
 use Rattle.machine.specs.Machine.{State, state}
 use Rattle.machine.specs.Rules.{wordOf, rule7, rule10}
 use Rattle.machine.specs.Calls.{unlinkRules}
-use Rattle.machine.specs.RuleLaws.{SlotKept, slot-kept, slot-stops, slot-passes}
+use Rattle.machine.specs.Laws.RuleLaws.{SlotKept, slot-kept, slot-stops, slot-passes}
 use borrow.Author.Needs.{needs}
 use Rattle.changes.proofs.refusals.unlink_refusal.Statement.{statement}
 use Rattle.changes.proofs.refusals.unlink_refusal.Tie as tie

@@ -2,10 +2,10 @@
 use mathlib.Core.Path.{sym, _∙_}
 use mathlib.Core.List.{List, [], _∷_}
 use Rattle.machine.specs.Tests.{Rule}
-use Rattle.machine.specs.TestLaws.{call-no, call-yes, kept-then, broken-here, none-broken}
+use Rattle.machine.specs.Laws.TestLaws.{call-no, call-yes, kept-then, broken-here, none-broken}
 use Rattle.machine.specs.Machine.{State, state}
 use Rattle.machine.specs.Rules.{rule5}
-use Rattle.machine.specs.RuleLaws.{handle-stops, handle-passes}
+use Rattle.machine.specs.Laws.RuleLaws.{handle-stops, handle-passes}
 use borrow.Author.Needs.{needs}
 use Rattle.changes.proofs.refusals.write_refusal.Statement.{statement}
 use Rattle.changes.proofs.refusals.write_refusal.Tie as tie

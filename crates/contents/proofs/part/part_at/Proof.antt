@@ -1,7 +1,7 @@
 -- `contents::part::part_at` meets its contract: refused, in the store, in the frames. Assumes nothing.
 use native.Mathlib.Omega.{arith}
 use Rattle.page.specs.Page.{bytesFrom}
-use Rattle.machine.specs.TestLaws.{case, on, off}
+use Rattle.machine.specs.Laws.TestLaws.{case, on, off}
 use Rattle.machine.specs.Answers.{lent, cut}
 use Rattle.contents.specs.Places.{cut-part, hand-refused, hand-frames, hand-store}
 use borrow.Author.Needs.{needs}

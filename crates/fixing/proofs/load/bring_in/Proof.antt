@@ -3,10 +3,11 @@ use Prim.Native.Nat.{_≤_, _-_}
 use mathlib.Core.Path.{_≡_, refl}
 use native.Mathlib.Omega.{arith}
 use borrow.Author.Tests.{not-true, not-false}
-use Rattle.machine.specs.TestLaws.{call-no, call-yes}
+use Rattle.machine.specs.Laws.TestLaws.{call-no, call-yes}
 use Rattle.machine.specs.Machine.{state}
+use Rattle.machine.specs.Sweep.{kind}
 use Rattle.machine.specs.Answers.{Out}
-use Rattle.machine.specs.Ready.{ready}
+use Rattle.machine.specs.Laws.Ready.{ready}
 use Rattle.scan.specs.Walk.{Sees, sees-none, sees-next}
 use Rattle.fixing.specs.Steps.{missDecided, sweptDecided}
 use Rattle.fixing.specs.StepLaws.{Cooling, Took, cooling-none, cooling-next, took, loadable-told, empty-told, load-given, victim-below, victim-removable, victim-fitting, swept-given, swept-denied, miss-denied, miss-empty, miss-full}
@@ -15,23 +16,23 @@ use Rattle.fixing.proofs.load.bring_in.Statement.{statement}
 use Rattle.fixing.proofs.load.bring_in.Tie as tie
 
 abbrev Inv-loop : tie.InvT-loop
-Inv-loop pool frames store parent slot page pages seen next n hand count most empty usages₀ f₀ usages f = (f ≤ most) × Sees (next .records) frames usages f
+Inv-loop pool frames store parent slot page pages seen next n hand count most empty sights₀ f₀ sights f = (f ≤ most) × Sees (kind frames) (next .records) sights f
 
 abbrev μ-loop : tie.MeasureT-loop
-μ-loop pool frames store parent slot page pages seen next n hand count most empty usages₀ f₀ usages f = most - f
+μ-loop pool frames store parent slot page pages seen next n hand count most empty sights₀ f₀ sights f = most - f
 
 abbrev Inv-loop2 : tie.InvT-loop2
-Inv-loop2 frames store parent slot page pages seen next₀ n count most empty usages f walk taken g₀ next g = (g ≤ most) × Cooling next₀ next usages g
+Inv-loop2 frames store parent slot page pages seen next₀ n count most empty sights f walk taken g₀ next g = (g ≤ most) × Cooling next₀ next sights g
 
 abbrev μ-loop2 : tie.MeasureT-loop2
-μ-loop2 frames store parent slot page pages seen next₀ n count most empty usages f walk taken g₀ next g = most - g
+μ-loop2 frames store parent slot page pages seen next₀ n count most empty sights f walk taken g₀ next g = most - g
 
 -- rule 14 is kept, and no frame is empty
 full : (c : tie.Else2 Inv-loop μ-loop Inv-loop2 μ-loop2) → let a = c .before .before .before .before .before .before .before .before .before .args in (x : Out) → let s = state (a .pool) (a .frames .now) (a .store .now) in x ≡ sweptDecided s (a .parent .0) (a .slot) (a .page .0) → x ≡ missDecided s (a .parent .0) (a .slot) (a .page .0)
 full c x = let h = c .before .before .before .before .before .before .before .before .before .pre in miss-full _ _ _ _ (call-yes (loadable-told _ (h .0) (h .1) _ (c .before .before .before .before .is-loadable .ensures)) (c .before .before .before .if1 .left)) (empty-told _ (h .0) (h .1) (c .before .first-empty .ensures)) (c .if2 .left)
 
 -- the sweep sees every frame
-seen-all : (c : tie.After-loop Inv-loop μ-loop Inv-loop2 μ-loop2) → let a = c .before .before .before .before .before .before .before .before .before .before .before .args in Sees (a .pool .records) (a .frames .now) (c .before .loop .usages) (a .pool .count)
+seen-all : (c : tie.After-loop Inv-loop μ-loop Inv-loop2 μ-loop2) → let a = c .before .before .before .before .before .before .before .before .before .before .before .args in Sees (kind (a .frames .now)) (a .pool .records) (c .before .loop .sights) (a .pool .count)
 seen-all c =
     let e : c .before .loop .f ≡ c .before .before .before .before .before .before .before .before .before .before .before .args .pool .count = omega arith in
     rw e at (c .before .loop .inv .1)
@@ -96,11 +97,11 @@ element-copy-out-rec c = search needs
 cast-t51 : tie.Need-cast-t51 Inv-loop μ-loop Inv-loop2 μ-loop2
 cast-t51 c = search needs
 
-open-usage-requires : tie.Need-open-usage-requires Inv-loop μ-loop Inv-loop2 μ-loop2
-open-usage-requires c κs = let z = c .before .before .before .before .before .before .before .before .before .before .before .before .before .pre .0 .sized in omega arith
+sight-requires : tie.Need-sight-requires Inv-loop μ-loop Inv-loop2 μ-loop2
+sight-requires c κs = let K = c .before .before .before .before .before .before .before .before .before .before .before .before .before .pre .0 in (omega (arith, K .sized), K .agreed .inRange (c .before .before .before .loop .f) (omega (arith, K .sized .most)) .usage)
 
-array-write-usages : tie.Need-array-write-usages Inv-loop μ-loop Inv-loop2 μ-loop2
-array-write-usages c = search needs
+array-write-sights : tie.Need-array-write-sights Inv-loop μ-loop Inv-loop2 μ-loop2
+array-write-sights c = search needs
 
 add-f : tie.Need-add-f Inv-loop μ-loop Inv-loop2 μ-loop2
 add-f c = search needs
@@ -109,7 +110,7 @@ loop-less : tie.Need-loop-less Inv-loop μ-loop Inv-loop2 μ-loop2
 loop-less c = search needs
 
 loop-again : tie.Need-loop-again Inv-loop μ-loop Inv-loop2 μ-loop2
-loop-again c = let z = c .before .before .before .before .before .before .before .before .before .before .before .before .before .before .pre .0 .sized in (omega arith, sees-next (c .before .before .before .before .loop .inv .1) (omega arith) (c .open-usage .ensures))
+loop-again c = let z = c .before .before .before .before .before .before .before .before .before .before .before .before .before .before .pre .0 .sized in (omega arith, sees-next (c .before .before .before .before .loop .inv .1) (omega arith) (c .sight .ensures))
 
 sweep-requires : tie.Need-sweep-requires Inv-loop μ-loop Inv-loop2 μ-loop2
 sweep-requires c κs = search needs
@@ -212,8 +213,8 @@ bring-in-spec =
     mul-rec
     element-copy-out-rec
     cast-t51
-    open-usage-requires
-    array-write-usages
+    sight-requires
+    array-write-sights
     add-f
     loop-less
     loop-again

@@ -1,7 +1,7 @@
 -- `plain_word` meets its contract: the test is the definition's own. Assumes nothing.
 use borrow.Author.Needs.{needs}
 use mathlib.Core.Path.{refl, sym, _∙_}
-use Rattle.machine.specs.TestLaws.{pick-yes, pick-no}
+use Rattle.machine.specs.Laws.TestLaws.{pick-yes, pick-no}
 use Rattle.moves.proofs.image.plain_word.Statement.{statement}
 use Rattle.moves.proofs.image.plain_word.Tie as tie
 

@@ -11,7 +11,7 @@ use Rattle.page.specs.Word.{wordAt, putWord, putWord-length, isNumber, frameIn}
 use Rattle.page.specs.Page.{slot, slot-first, putSlot-first}
 use Rattle.machine.specs.Tests.{pick}
 use Rattle.machine.specs.Moves.{plain, imageTo}
-use Rattle.machine.specs.MoveLaws.{image-suc, image-zero}
+use Rattle.machine.specs.Laws.MoveLaws.{image-suc, image-zero}
 use Rattle.residents.specs.Table.{pageBy}
 use Rattle.moves.specs.WriteOut.{Named}
 use Rattle.moves.proofs.image.put_image.Statement.{statement}

@@ -1,9 +1,9 @@
 -- `residency::releasing::evict` meets its contract. Assumes nothing.
 use mathlib.Core.Path.{refl}
 use native.Mathlib.Omega.{arith}
-use Rattle.machine.specs.TestLaws.{call-no, call-yes}
+use Rattle.machine.specs.Laws.TestLaws.{call-no, call-yes}
 use Rattle.machine.specs.Calls.{evictCall}
-use Rattle.machine.specs.RuleLaws.{page-stops, done-no}
+use Rattle.machine.specs.Laws.RuleLaws.{page-stops, done-no}
 use Rattle.scan.specs.ByTable.{few}
 use Rattle.residency.specs.CallLaws.{evict-absent, evict-shut, evict-removable, evict-done}
 use borrow.Author.Needs.{needs}

@@ -2,7 +2,7 @@
 use mathlib.Core.Path.{refl, ap}
 use Rattle.machine.specs.Machine.{recordAt}
 use Rattle.machine.specs.Calls.{unfixCall}
-use Rattle.machine.specs.RuleLaws.{done-no}
+use Rattle.machine.specs.Laws.RuleLaws.{done-no}
 use Rattle.residency.specs.CallLaws.{unfix-pinned, unfix-done}
 use borrow.Author.Needs.{needs}
 use Rattle.residency.proofs.releasing.unfix.Statement.{statement}

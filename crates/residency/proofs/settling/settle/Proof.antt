@@ -1,8 +1,8 @@
 -- `residency::settling::settle` meets its contract. Assumes nothing.
 use mathlib.Core.Path.{sym, _∙_}
 use Rattle.machine.specs.Calls.{settleCall}
-use Rattle.machine.specs.Ready.{rules-kept, ready}
-use Rattle.machine.specs.RuleLaws.{done-no, done-yes}
+use Rattle.machine.specs.Laws.Ready.{rules-kept, ready}
+use Rattle.machine.specs.Laws.RuleLaws.{done-no, done-yes}
 use borrow.Author.Needs.{needs}
 use Rattle.residency.proofs.settling.settle.Statement.{statement}
 use Rattle.residency.proofs.settling.settle.Tie as tie

@@ -10,7 +10,7 @@ use Rattle.page.specs.Figures.{slotCount}
 use Rattle.page.specs.Word.{wordAt, isNumber}
 use Rattle.page.specs.Page.{slot}
 use Rattle.machine.specs.Tests.{every}
-use Rattle.machine.specs.TestLaws.{every-zero, every-keep, every-drop, call-no, call-yes}
+use Rattle.machine.specs.Laws.TestLaws.{every-zero, every-keep, every-drop, call-no, call-yes}
 use Rattle.machine.specs.Sweep.{childless}
 use Rattle.scan.proofs.look.childless.Statement.{statement}
 use Rattle.scan.proofs.look.childless.Tie as tie

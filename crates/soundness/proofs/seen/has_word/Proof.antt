@@ -10,7 +10,7 @@ use native.Mathlib.Omega.{arith}
 use lib.Dec.{eqb}
 use Rattle.page.specs.Figures.{slotCount}
 use Rattle.machine.specs.Tests.{some}
-use Rattle.machine.specs.TestLaws.{some-zero}
+use Rattle.machine.specs.Laws.TestLaws.{some-zero}
 use Rattle.soundness.specs.Seen.{wordsFrom, hasWord}
 use Rattle.soundness.specs.SeenLaws.{some-keep, some-hit}
 use Rattle.soundness.proofs.seen.has_word.Statement.{statement}

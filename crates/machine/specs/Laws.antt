@@ -1,0 +1,10 @@
+-- Laws of the definitions, for the code and for the theorem.
+pub mod TestLaws
+pub mod PlainLaws
+pub mod AgreementFacts
+pub mod Parents
+pub mod FoundLaws
+pub mod SweepLaws
+pub mod MoveLaws
+pub mod Ready
+pub mod RuleLaws

@@ -1,0 +1,245 @@
+-- Laws of images and of the moves: what an image holds, what the moves keep, and that a page written out and loaded again is that page. Assumes nothing.
+use Prim.Native.Nat.{ℕ, zero, suc, _+_, _*_, _<_, _≤_}
+use mathlib.Core.Path.{_≡_, refl, sym, _∙_, ap}
+use mathlib.Core.Logic.{_≢_}
+use mathlib.Core.Bool.{Bool, true, false}
+use mathlib.Core.List.{List}
+use native.Mathlib.Omega.{arith}
+use native.Mathlib.Decide.{decLt, ℕ-discrete}
+use borrow.Author.Tests.{ltb-true}
+use lib.ListN.{length, set}
+use lib.Seq.{ext-getD, getD-set-other}
+use Rattle.page.specs.Figures.{pageSize, slotCount, payloadStart, mostFrames, wordRadix, swizzleBit}
+use Rattle.page.specs.Word.{isNumber, frameIn, frameWord, putWord-before, putWord-after}
+use Rattle.page.specs.Page.{slot, byte, pageOf, putSlot, putPage, putSlot-length, slot-putSlot-same, slot-putSlot-slot, byte-putSlot, pageOf-length, putPage-length, byte-first, byte-pageOf, slot-pageOf, pageOf-putPage}
+use Rattle.page.specs.Octets.{Octets, octets-putSlot, octets-pageOf, buffer-ext}
+use Rattle.machine.specs.declared.FrameRecord.{FrameRecord}
+use Rattle.machine.specs.Tests.{pick}
+use Rattle.machine.specs.Laws.TestLaws.{every-true, pick-yes, pick-either}
+use Rattle.machine.specs.Machine.{State, blank, cleaned, recordAt, pageIn}
+use Rattle.machine.specs.Moves.{plain, imageTo, imageOf, writtenOutBy, writtenOut, writtenOutTo, cleanedTo, settled, evicted, loaded}
+use Rattle.machine.specs.Sweep.{childless}
+use Rattle.machine.specs.Laws.Ready.{Sized, Ready}
+use Rattle.machine.specs.Laws.PlainLaws.{plain-low}
+
+-- ---- the image of the bytes g
+
+module _ (page : ℕ → ℕ) (g : List ℕ) where
+  pub image-zero : imageTo page g 0 ≡ g
+  unfolding imageTo
+  image-zero = refl
+
+  pub image-suc : (n : ℕ) → imageTo page g (suc n) ≡ putSlot (imageTo page g n) 0 n (plain page (slot g 0 n))
+  unfolding imageTo
+  image-suc n = refl
+
+  pub image-length : (n : ℕ) → length (imageTo page g n) ≡ length g
+  unfolding imageTo
+  image-length zero = refl
+  image-length (suc n) = putSlot-length (imageTo page g n) 0 n _ ∙ image-length n
+
+  pub octets-image : (n : ℕ) → Octets g → Octets (imageTo page g n)
+  unfolding imageTo
+  octets-image zero h = h
+  octets-image (suc n) h = octets-putSlot (imageTo page g n) 0 n _ (octets-image n h)
+
+  -- payload bytes stay
+  pub image-byte : (n i : ℕ) → n ≤ slotCount → payloadStart ≤ i → i < pageSize → byte (imageTo page g n) 0 i ≡ byte g 0 i
+  unfolding imageTo
+  image-byte zero i h lo hi = refl
+  image-byte (suc n) i h lo hi = byte-putSlot (imageTo page g n) 0 n _ 0 i (omega arith) lo hi ∙ image-byte n i (omega arith) lo hi
+
+  -- each word is the number that it stands for
+  pub image-slot : length g ≡ pageSize → ((k : ℕ) → k < slotCount → plain page (slot g 0 k) < wordRadix) → (n k : ℕ) → n ≤ slotCount → k < n → slot (imageTo page g n) 0 k ≡ plain page (slot g 0 k)
+  unfolding imageTo
+  image-slot l small zero k h lk = absurd (omega arith)
+  image-slot l small (suc n) k h lk = elim (ℕ-discrete k n) [
+    | yes q ↦ rw q (slot-putSlot-same (imageTo page g n) 0 n _ 1 (image-length n ∙ l) (omega arith) (omega arith) (small n (omega arith)))
+    | no q ↦ slot-putSlot-slot (imageTo page g n) 0 n _ k (λ x. q (sym x)) ∙ image-slot l small n k (omega arith) (omega arith)
+  ]
+
+  -- a page without a swizzled word is its own image
+  pub image-own : length g ≡ pageSize → Octets g → ((k : ℕ) → k < slotCount → slot g 0 k < swizzleBit) → imageTo page g slotCount ≡ g
+  image-own l o low =
+      let same : (k : ℕ) → k < slotCount → plain page (slot g 0 k) ≡ slot g 0 k = λ k h. plain-low page (slot g 0 k) (low k h) in
+      let small : (k : ℕ) → k < slotCount → plain page (slot g 0 k) < wordRadix = λ k h. omega (arith, same k h, low k h) in
+      buffer-ext (imageTo page g slotCount) g 1 (octets-image slotCount o) o (image-length slotCount ∙ l) l
+      (λ p k hp hk. let z : p ≡ 0 = omega arith in rw z (image-slot l small slotCount k (omega arith) hk ∙ same k hk))
+      (λ p i hp lo hi. let z : p ≡ 0 = omega arith in rw z (image-byte slotCount i (omega arith) lo hi))
+
+-- an image asks of the frames only what the swizzled words name
+plain-ext : (a b : ℕ → ℕ) (w : ℕ) → w < swizzleBit + mostFrames → ((g : ℕ) → g < mostFrames → a g ≡ b g) → plain a w ≡ plain b w
+unfolding plain
+plain-ext a b w h e = ap (pick (isNumber w) w) (e (frameIn w) (omega arith))
+
+pub image-ext : (a b : ℕ → ℕ) (g : List ℕ) (n : ℕ) → n ≤ slotCount → ((k : ℕ) → k < slotCount → slot g 0 k < swizzleBit + mostFrames) → ((j : ℕ) → j < mostFrames → a j ≡ b j)
+    → imageTo a g n ≡ imageTo b g n
+unfolding imageTo
+image-ext a b g zero l h e = refl
+image-ext a b g (suc n) l h e = rw (image-ext a b g n (omega arith) h e, plain-ext a b (slot g 0 n) (h n (omega arith)) e)
+
+-- ---- writing out
+
+-- where a and b give the same pages to 64 frames, and a dirty page's swizzled words name one of those
+pub writtenOutBy-ext : (a b : ℕ → ℕ) (r : FrameRecord) (fs st : List ℕ) (f : ℕ) → (r .dirty ≡ true → (k : ℕ) → k < slotCount → slot fs f k < swizzleBit + mostFrames)
+    → ((j : ℕ) → j < mostFrames → a j ≡ b j) → writtenOutBy a r fs st f ≡ writtenOutBy b r fs st f
+unfolding writtenOutBy pick
+writtenOutBy-ext a b r fs st f h e = by-dirty (r .dirty) h
+  where
+    by-dirty : (d : Bool) → (d ≡ true → (k : ℕ) → k < slotCount → slot fs f k < swizzleBit + mostFrames)
+        → pick d (putPage st (r .page .0) (imageTo a (pageOf fs f) slotCount)) st ≡ pick d (putPage st (r .page .0) (imageTo b (pageOf fs f) slotCount)) st
+    by-dirty true k = ap (λ (g : List ℕ). pick true (putPage st (r .page .0) g) st) (image-ext a b (pageOf fs f) slotCount (omega arith) (λ j l. rw (slot-pageOf fs f j l) (k refl j l)) e)
+    by-dirty false k = refl
+
+pub writtenOutBy-length : (page : ℕ → ℕ) (r : FrameRecord) (fs st : List ℕ) (f F N : ℕ) → length fs ≡ pageSize * F → length st ≡ pageSize * N → f < F → r .page .0 < N
+    → length (writtenOutBy page r fs st f) ≡ length st
+unfolding writtenOutBy
+writtenOutBy-length page r fs st f F N lf ls hf hp =
+    pick-either (λ (x : List ℕ). length x ≡ length st) (r .dirty) _ _
+    (putPage-length st (r .page .0) _ N ls (image-length page (pageOf fs f) slotCount ∙ pageOf-length fs f F lf hf) hp) refl
+
+pub writtenOutTo-zero : (rs : List FrameRecord) (fs st : List ℕ) → writtenOutTo rs fs st 0 ≡ st
+unfolding writtenOutTo
+writtenOutTo-zero rs fs st = refl
+
+pub writtenOutTo-suc : (rs : List FrameRecord) (fs st : List ℕ) (n : ℕ) → writtenOutTo rs fs st (suc n) ≡ writtenOut rs fs (writtenOutTo rs fs st n) n
+unfolding writtenOutTo
+writtenOutTo-suc rs fs st n = refl
+
+pub writtenOutTo-length : (rs : List FrameRecord) (fs st : List ℕ) (F N : ℕ) → length fs ≡ pageSize * F → length st ≡ pageSize * N → ((f : ℕ) → f < F → pageIn rs f < N)
+    → (n : ℕ) → n ≤ F → length (writtenOutTo rs fs st n) ≡ length st
+unfolding writtenOutTo
+writtenOutTo-length rs fs st F N lf ls hp zero h = refl
+writtenOutTo-length rs fs st F N lf ls hp (suc n) h =
+    let e = writtenOutTo-length rs fs st F N lf ls hp n (omega arith) in
+    writtenOutBy-length (pageIn rs) (recordAt rs n) fs (writtenOutTo rs fs st n) n F N lf (e ∙ ls) (omega arith) (hp n (omega arith)) ∙ e
+
+pub cleanedTo-zero : (rs : List FrameRecord) → cleanedTo rs 0 ≡ rs
+unfolding cleanedTo
+cleanedTo-zero rs = refl
+
+pub cleanedTo-suc : (rs : List FrameRecord) (n : ℕ) → cleanedTo rs (suc n) ≡ set (cleanedTo rs n) n (cleaned (recordAt (cleanedTo rs n) n))
+unfolding cleanedTo
+cleanedTo-suc rs n = refl
+
+-- the records from n on stay as they were
+pub cleanedTo-above : (rs : List FrameRecord) (n m : ℕ) → n ≤ m → recordAt (cleanedTo rs n) m ≡ recordAt rs m
+unfolding cleanedTo
+cleanedTo-above rs zero m h = refl
+cleanedTo-above rs (suc n) m h = getD-set-other (cleanedTo rs n) n m _ blank (omega arith) ∙ cleanedTo-above rs n m (omega arith)
+
+-- ---- the moves keep F, N and the lengths
+
+pub evicted-counts : (s : State) (f : ℕ) → (evicted s f .pool .count ≡ s .pool .count) × (evicted s f .pool .pages ≡ s .pool .pages)
+unfolding evicted
+evicted-counts s f = (refl, refl)
+
+pub evicted-sized : (s : State) (f : ℕ) → Ready s → f < s .pool .count → Sized (evicted s f)
+unfolding evicted
+evicted-sized s f R l =
+    let z = R .sized in
+    record {
+      least = z .least;
+      most = z .most;
+      some = z .some;
+      pages = z .pages;
+      frames = putSlot-length (s .frames) _ _ _ ∙ z .frames;
+      store = writtenOutBy-length _ (recordAt (s .pool .records) f) (s .frames) (s .store) f _ _ (z .frames) (z .store) l (R .inRange f l .page) ∙ z .store;
+    }
+
+pub loaded-counts : (s : State) (f k e q : ℕ) → (loaded s f k e q .pool .count ≡ s .pool .count) × (loaded s f k e q .pool .pages ≡ s .pool .pages)
+unfolding loaded
+loaded-counts s f k e q = (refl, refl)
+
+pub loaded-sized : (s : State) (f k e q : ℕ) → Sized s → e < s .pool .count → q < s .pool .pages → Sized (loaded s f k e q)
+unfolding loaded
+loaded-sized s f k e q z he hq =
+    record {
+      least = z .least;
+      most = z .most;
+      some = z .some;
+      pages = z .pages;
+      frames = putSlot-length (putPage (s .frames) e (pageOf (s .store) q)) f k _
+          ∙ putPage-length (s .frames) e (pageOf (s .store) q) _ (z .frames) (pageOf-length (s .store) q _ (z .store) hq) he ∙ z .frames;
+      store = z .store;
+    }
+
+pub settled-counts : (s : State) → (settled s .pool .count ≡ s .pool .count) × (settled s .pool .pages ≡ s .pool .pages)
+unfolding settled
+settled-counts s = (refl, refl)
+
+pub settled-sized : (s : State) → Ready s → Sized (settled s)
+unfolding settled
+settled-sized s R =
+    let z = R .sized in
+    record {
+      least = z .least;
+      most = z .most;
+      some = z .some;
+      pages = z .pages;
+      frames = z .frames;
+      store = writtenOutTo-length (s .pool .records) (s .frames) (s .store) _ _ (z .frames) (z .store) (λ f l. R .inRange f l .page) (s .pool .count) (omega arith) ∙ z .store;
+    }
+
+-- ---- "A page written out and loaded again is that page."
+
+-- a word put into one page leaves the bytes of every other
+byte-putSlot-other : (b : List ℕ) (p k w q i : ℕ) → k < slotCount → q ≢ p → i < pageSize → byte (putSlot b p k w) q i ≡ byte b q i
+unfolding byte putSlot
+byte-putSlot-other b p k w q i hk ne hi = elim (decLt q p) [
+  | yes h ↦ putWord-before b (256 * p + 4 * k) w (256 * q + i) (omega arith)
+  | no h ↦ putWord-after b (256 * p + 4 * k) w (256 * q + i) (omega arith)
+]
+
+pageOf-putSlot-other : (b : List ℕ) (p k w q n : ℕ) → length b ≡ pageSize * n → q < n → k < slotCount → q ≢ p → pageOf (putSlot b p k w) q ≡ pageOf b q
+pageOf-putSlot-other b p k w q n l hq hk ne =
+    let l1 : length (pageOf (putSlot b p k w) q) ≡ pageSize = pageOf-length (putSlot b p k w) q n (putSlot-length b p k w ∙ l) hq in
+    let l2 : length (pageOf b q) ≡ pageSize = pageOf-length b q n l hq in
+    ext-getD 0 (pageOf (putSlot b p k w) q) (pageOf b q) (l1 ∙ sym l2) (λ i hi.
+    let h : i < pageSize = omega arith in
+    sym (byte-first (pageOf (putSlot b p k w) q) i) ∙ byte-pageOf (putSlot b p k w) q i h ∙ byte-putSlot-other b p k w q i hk ne h ∙ sym (byte-pageOf b q i h) ∙ byte-first (pageOf b q) i)
+
+-- an eviction writes a dirty page's image to the store
+pub evicted-stored : (s : State) (f : ℕ) → Ready s → f < s .pool .count → recordAt (s .pool .records) f .dirty ≡ true
+    → pageOf (evicted s f .store) (pageIn (s .pool .records) f) ≡ imageOf (s .pool .records) (s .frames) f
+unfolding evicted writtenOutBy
+evicted-stored s f R l d =
+    let z = R .sized in
+    let lg : length (imageOf (s .pool .records) (s .frames) f) ≡ pageSize = image-length _ (pageOf (s .frames) f) slotCount ∙ pageOf-length (s .frames) f _ (z .frames) l in
+    ap (λ (st : List ℕ). pageOf st (pageIn (s .pool .records) f)) (sym (pick-yes (s .store) d refl)) ∙ pageOf-putPage (s .store) _ _ _ (z .store) lg (R .inRange f l .page)
+
+-- a load brings the bytes of the stored page into its frame
+pub loaded-bytes : (s : State) (f k e q : ℕ) → Sized s → k < slotCount → e < s .pool .count → q < s .pool .pages → e ≢ f → pageOf (loaded s f k e q .frames) e ≡ pageOf (s .store) q
+unfolding loaded
+loaded-bytes s f k e q z hk he hq ne =
+    let lg : length (pageOf (s .store) q) ≡ pageSize = pageOf-length (s .store) q _ (z .store) hq in
+    let l : length (putPage (s .frames) e (pageOf (s .store) q)) ≡ pageSize * s .pool .count = putPage-length (s .frames) e (pageOf (s .store) q) _ (z .frames) lg he ∙ z .frames in
+    pageOf-putSlot-other (putPage (s .frames) e (pageOf (s .store) q)) f k (frameWord e) e _ l he hk ne ∙ pageOf-putPage (s .frames) e (pageOf (s .store) q) _ (z .frames) lg he
+
+-- the image of a frame without a swizzled word is its bytes
+pub childless-image : (s : State) (f : ℕ) → Sized s → Octets (s .frames) → f < s .pool .count → childless (s .frames) f ≡ true → imageOf (s .pool .records) (s .frames) f ≡ pageOf (s .frames) f
+unfolding childless
+childless-image s f z o l c =
+    image-own (pageIn (s .pool .records)) (pageOf (s .frames) f) (pageOf-length (s .frames) f _ (z .frames) l) (octets-pageOf (s .frames) f o)
+    (λ k h. rw (slot-pageOf (s .frames) f k h) (ltb-true _ swizzleBit (every-true slotCount (λ j. isNumber (slot (s .frames) f j)) c k h)))
+
+-- the page in frame f leaves it, and comes into frame e for slot k of frame up
+abbrev pub outAndIn : State → ℕ → ℕ → ℕ → ℕ → State
+outAndIn s f up k e = loaded (evicted s f) up k e (pageIn (s .pool .records) f)
+
+pub record CameBack (s : State) (f up k e : ℕ) : Type 0 where
+  -- what went to the store is the image
+  pub stored : pageOf (evicted s f .store) (pageIn (s .pool .records) f) ≡ imageOf (s .pool .records) (s .frames) f
+  -- what came into frame e is the image
+  pub image : pageOf (outAndIn s f up k e .frames) e ≡ imageOf (s .pool .records) (s .frames) f
+  -- and that is, byte for byte, the page that was in frame f
+  pub same : pageOf (outAndIn s f up k e .frames) e ≡ pageOf (s .frames) f
+
+-- of any dirty page without a swizzled word (a dirty record is in use), for any slot of any frame but its own new one
+pub written-out-and-loaded : (s : State) (f up k e : ℕ) → Ready s → Octets (s .frames) → f < s .pool .count → recordAt (s .pool .records) f .dirty ≡ true → childless (s .frames) f ≡ true
+    → k < slotCount → e < s .pool .count → e ≢ up → CameBack s f up k e
+written-out-and-loaded s f up k e R o l d c hk he ne =
+    let stored = evicted-stored s f R l d in
+    let n = evicted-counts s f in
+    let image = loaded-bytes (evicted s f) up k e _ (evicted-sized s f R l) hk (rw (n .0) he) (rw (n .1) (R .inRange f l .page)) ne ∙ stored in
+    record { stored = stored; image = image; same = image ∙ childless-image s f (R .sized) o l c }

@@ -1,0 +1,390 @@
+-- The laws of the sweep: at most 4 × F looks, a frame is taken exactly where one is open to eviction, usage counts and the hand alone change; and rule 15 in those words. Assumes nothing.
+use Prim.Native.Nat.{ℕ, zero, suc, _+_, _*_, _-_, _<_, _≤_}
+use mathlib.Core.Path.{_≡_, refl, sym, _∙_, ap}
+use mathlib.Core.Logic.{_≢_}
+use mathlib.Core.Bool.{Bool, true, false}
+use mathlib.Core.List.{List, [], _∷_}
+use native.Mathlib.Omega.{arith}
+use native.Mathlib.Nat.{mul-le-mul-left}
+use native.Mathlib.Decide.{decLt, ℕ-discrete}
+use borrow.Author.Tests.{eqb-false, lt-ltb, le-ltb}
+use lib.Dec.{eqb, ltb}
+use lib.ListN.{length, set, length-set}
+use lib.Seq.{getD-set-other}
+use Rattle.page.specs.Figures.{maxUsage}
+use Rattle.machine.specs.declared.FrameRecord.{FrameRecord}
+use Rattle.machine.specs.declared.Pool.{Pool}
+use Rattle.machine.specs.Tests.{pick, _and_, _or_, some}
+use Rattle.machine.specs.Laws.TestLaws.{clash, case, on, off, is-off, same, and-left, both, or-none, or-off, true-some, some-true, pick-either}
+use Rattle.machine.specs.Machine.{State, withPool, blank, cooled, recordAt}
+use Rattle.machine.specs.Laws.AgreementFacts.{InRange}
+use Rattle.machine.specs.Sweep.{Class, rest, warm, yield, yields, Kind, kind, Swept, after, emptyFrom, firstEmpty, childless, isOpen, lookLeaves, lookTakes, sweepFrom, mostLooks, sweep, withSwept}
+use Rattle.machine.specs.Rules.{rule15}
+use Rattle.machine.specs.Laws.Ready.{Ready}
+
+-- what holds of each value in its case holds of the one that is picked
+pick-by : {A : Type 0} (P : A → Type 0) (t : Bool) (a b : A) → (t ≡ true → P a) → (t ≡ false → P b) → P (pick t a b)
+unfolding pick
+pick-by P true a b h k = h refl
+pick-by P false a b h k = k refl
+
+-- ---- going round
+
+after-next : (F h : ℕ) → h + 1 < F → after F h ≡ h + 1
+unfolding after pick
+after-next F h l = rw (lt-ltb (h + 1) F l)
+
+after-last : (F h : ℕ) → F ≤ h + 1 → after F h ≡ 0
+unfolding after pick
+after-last F h l = rw (le-ltb (h + 1) F l)
+
+pub after-in : (F h : ℕ) → h < F → after F h < F
+after-in F h l = elim (decLt (h + 1) F) [ yes k ↦ rw (after-next F h k) k | no k ↦ rw (after-last F h (omega arith)) (omega arith) ]
+
+-- frame g lies d frames on from h, going round
+pub data Away (F h g d : ℕ) : Type 0 where
+  near : h + d ≡ g → Away F h g d
+  round : h + d ≡ g + F → d < F → Away F h g d
+
+-- every frame lies fewer than F on
+pub away : (F h g : ℕ) → h < F → g < F → (d : ℕ) × (d < F) × Away F h g d
+away F h g hF gF = elim (decLt g h) [ yes l ↦ (g + F - h, omega arith, round (omega arith) (omega arith)) | no l ↦ (g - h, omega arith, near (omega arith)) ]
+
+away-here : (F h g : ℕ) → h < F → Away F h g 0 → g ≡ h
+away-here F h g hF (near e) = omega arith
+away-here F h g hF (round e l) = absurd (omega arith)
+
+away-next : (F h g d : ℕ) → h < F → g < F → Away F h g (suc d) → Away F (after F h) g d
+away-next F h g d hF gF (near e) = rw (after-next F h (omega arith)) (near (omega arith))
+away-next F h g d hF gF (round e l) = elim (decLt (h + 1) F) [
+  | yes k ↦ rw (after-next F h k) (round (omega arith) (omega arith))
+  | no k ↦ rw (after-last F h (omega arith)) (near (omega arith))
+]
+
+-- the frame that was just left lies F − 1 on
+away-left : (F h d : ℕ) → h < F → suc d ≡ F → Away F (after F h) h d
+away-left F h d hF e = elim (decLt (h + 1) F) [
+  | yes k ↦ rw (after-next F h k) (round (omega arith) (omega arith))
+  | no k ↦ rw (after-last F h (omega arith)) (near (omega arith))
+]
+
+-- ---- one look
+
+-- a frame open to eviction has no swizzled word
+pub open-childless : (r : FrameRecord) (fs : List ℕ) (f : ℕ) → isOpen r fs f ≡ true → childless fs f ≡ true
+unfolding isOpen
+open-childless r fs f =
+    let P : Bool → Type 0 = λ b. b ≡ true → childless fs f ≡ true in
+    pick-either P (eqb f 0) false _ (λ e. absurd (clash (sym e))) (pick-either P (eqb (r .pins) 0) (childless fs f) false (λ e. e) (λ e. absurd (clash (sym e))))
+
+-- q is r with another usage count: in its range, and not more where there are no pins
+pub record Cooler (r q : FrameRecord) : Type 0 where
+  pub used : q .used ≡ r .used
+  pub dirty : q .dirty ≡ r .dirty
+  pub usage : r .usage ≤ maxUsage → q .usage ≤ maxUsage
+  pub falls : r .pins ≡ 0 → q .usage ≤ r .usage
+  pub slot : q .slot ≡ r .slot
+  pub parent : q .parent ≡ r .parent
+  pub pins : q .pins ≡ r .pins
+  pub page : q .page ≡ r .page
+
+pub cooler-self : (r : FrameRecord) → Cooler r r
+cooler-self r = record { used = refl; dirty = refl; usage = λ h. h; falls = λ z. omega arith; slot = refl; parent = refl; pins = refl; page = refl }
+
+pub cooler-then : (r q t : FrameRecord) → Cooler r q → Cooler q t → Cooler r t
+cooler-then r q t a b = record {
+  used = b .used ∙ a .used;
+  dirty = b .dirty ∙ a .dirty;
+  usage = λ h. b .usage (a .usage h);
+  falls = λ z. let x = a .falls z in let y = b .falls (a .pins ∙ z) in omega arith;
+  slot = b .slot ∙ a .slot;
+  parent = b .parent ∙ a .parent;
+  pins = b .pins ∙ a .pins;
+  page = b .page ∙ a .page;
+}
+
+-- a class goes by the record without its usage, and no frame without pins is warmed
+pub record Settled (k : Kind) : Type 0 where
+  pub same : (r q : FrameRecord) (f : ℕ) → Cooler r q → k q f ≡ k r f
+  pub pinned : (r : FrameRecord) (f : ℕ) → k r f ≡ warm → r .pins ≢ 0
+
+look-cooler : (r : FrameRecord) (c : Class) → (c ≡ warm → r .pins ≢ 0) → Cooler r (lookLeaves r c)
+unfolding lookLeaves
+look-cooler r rest p = cooler-self r
+look-cooler r warm p = record { used = refl; dirty = refl; usage = λ h. omega arith; falls = λ z. absurd (p refl z); slot = refl; parent = refl; pins = refl; page = refl }
+look-cooler r yield p = record { used = refl; dirty = refl; usage = λ h. omega arith; falls = λ z. omega arith; slot = refl; parent = refl; pins = refl; page = refl }
+
+-- the records after a look at frame h
+abbrev pub looked : Kind → List FrameRecord → ℕ → List FrameRecord
+looked k rs h = set rs h (lookLeaves (recordAt rs h) (k (recordAt rs h) h))
+
+-- at an index past the end nothing is set, and the record there stays the blank one
+set-relates : (R : FrameRecord → FrameRecord → Type 0) (rs : List FrameRecord) (h g : ℕ) (x : FrameRecord) → ((r : FrameRecord) → R r r) → R (recordAt rs h) x → R (recordAt rs g) (recordAt (set rs h x) g)
+set-relates R [] h g x s e = s blank
+set-relates R (y ∷ rs) zero zero x s e = e
+set-relates R (y ∷ rs) zero (suc g) x s e = s (recordAt rs g)
+set-relates R (y ∷ rs) (suc h) zero x s e = s y
+set-relates R (y ∷ rs) (suc h) (suc g) x s e = set-relates R rs h g x s e
+
+pub looked-cooler : (k : Kind) → Settled k → (rs : List FrameRecord) (h g : ℕ) → Cooler (recordAt rs g) (recordAt (looked k rs h) g)
+looked-cooler k K rs h g = set-relates Cooler rs h g _ cooler-self (look-cooler (recordAt rs h) _ (K .pinned (recordAt rs h) h))
+
+-- an open frame that is looked at loses one usage
+set-usage : (rs : List FrameRecord) (h : ℕ) (x : FrameRecord) → x .usage ≡ recordAt rs h .usage - 1 → recordAt (set rs h x) h .usage ≡ recordAt rs h .usage - 1
+set-usage [] h x e = refl
+set-usage (y ∷ rs) zero x e = e
+set-usage (y ∷ rs) (suc h) x e = set-usage rs h x e
+
+leaves-cooled : (r : FrameRecord) (c : Class) → yields c ≡ true → lookLeaves r c .usage ≡ r .usage - 1
+unfolding lookLeaves
+leaves-cooled r rest e = absurd (clash (sym e))
+leaves-cooled r warm e = absurd (clash (sym e))
+leaves-cooled r yield e = refl
+
+looked-usage : (k : Kind) (rs : List FrameRecord) (h : ℕ) → yields (k (recordAt rs h) h) ≡ true → recordAt (looked k rs h) h .usage ≡ recordAt rs h .usage - 1
+looked-usage k rs h o = set-usage rs h _ (leaves-cooled (recordAt rs h) _ o)
+
+looked-open : (k : Kind) → Settled k → (rs : List FrameRecord) (h g : ℕ) → yields (k (recordAt (looked k rs h) g) g) ≡ yields (k (recordAt rs g) g)
+looked-open k K rs h g = ap yields (K .same (recordAt rs g) (recordAt (looked k rs h) g) g (looked-cooler k K rs h g))
+
+takes-open : (r : FrameRecord) (c : Class) → lookTakes r c ≡ true → yields c ≡ true
+unfolding lookTakes
+takes-open r c t = and-left (yields c) (eqb (r .usage) 0) t
+
+leaves-warm : (r : FrameRecord) (c : Class) → yields c ≡ true → lookTakes r c ≡ false → r .usage ≢ 0
+unfolding lookTakes
+leaves-warm r c e t = elim (case (eqb (r .usage) 0)) [ on z ↦ absurd (clash (sym (both (yields c) _ e z) ∙ t)) | off z ↦ eqb-false (r .usage) 0 z ]
+
+-- ---- the classes of document 01
+
+kind-open : (fs : List ℕ) (r : FrameRecord) (f : ℕ) → isOpen r fs f ≡ true → yields (kind fs r f) ≡ true
+unfolding kind pick
+kind-open fs r f o = rw o
+
+open-kind : (fs : List ℕ) (r : FrameRecord) (f : ℕ) → yields (kind fs r f) ≡ true → isOpen r fs f ≡ true
+unfolding kind
+open-kind fs r f = pick-by (λ (c : Class). yields c ≡ true → isOpen r fs f ≡ true) (isOpen r fs f) yield rest (λ o e. o) (λ o e. absurd (clash (sym e)))
+
+-- being open goes by the pins and the words
+open-same : (r q : FrameRecord) (fs : List ℕ) (f : ℕ) → q .pins ≡ r .pins → isOpen q fs f ≡ isOpen r fs f
+unfolding isOpen
+open-same r q fs f e = rw e
+
+pub kind-settled : (fs : List ℕ) → Settled (kind fs)
+unfolding kind
+kind-settled fs = record {
+  same = λ r q f c. ap (λ (o : Bool). pick o yield rest) (open-same r q fs f (c .pins));
+  pinned = λ r f. pick-by (λ (c : Class). c ≡ warm → r .pins ≢ 0) (isOpen r fs f) yield rest (λ o e. absurd (other (sym e))) (λ o e. absurd (other′ e));
+}
+  where
+    other : warm ≡ yield → ⊥
+    other e = let z : _≡_ {A = ℕ} 0 1 = cc in omega arith
+
+    other′ : rest ≡ warm → ⊥
+    other′ e = let z : _≡_ {A = ℕ} 0 1 = cc in omega arith
+
+-- ---- how many looks
+
+looks-most : (k : Kind) (F m n : ℕ) (rs : List FrameRecord) (h : ℕ) → sweepFrom k F m n rs h .looks ≤ n + m
+unfolding sweepFrom
+looks-most k F zero n rs h = omega arith
+looks-most k F (suc m) n rs h =
+    let l : sweepFrom k F m (n + 1) (looked k rs h) (after F h) .looks ≤ n + 1 + m = looks-most k F m (n + 1) (looked k rs h) (after F h) in
+    pick-either (λ (v : Swept). v .looks ≤ n + suc m) _ _ _ (omega arith) (omega arith)
+
+looks-some : (k : Kind) (F m n : ℕ) (rs : List FrameRecord) (h : ℕ) → sweepFrom k F m n rs h .taken ≡ true → n + 1 ≤ sweepFrom k F m n rs h .looks
+unfolding sweepFrom
+looks-some k F zero n rs h = λ e. absurd (clash (sym e))
+looks-some k F (suc m) n rs h =
+    pick-either (λ (v : Swept). v .taken ≡ true → n + 1 ≤ v .looks) _ _ _ (λ e. omega arith)
+    (λ e. let l : n + 1 + 1 ≤ sweepFrom k F m (n + 1) (looked k rs h) (after F h) .looks = looks-some k F m (n + 1) (looked k rs h) (after F h) e in omega arith)
+
+-- "A sweep takes at most 4 × F looks", and one at least where a frame is taken
+pub sweep-looks : (p : Pool) (fs : List ℕ) → sweep p fs .looks ≤ mostLooks (p .count)
+sweep-looks p fs = let l = looks-most (kind fs) (p .count) (mostLooks (p .count)) 0 (p .records) (p .hand .0) in omega arith
+
+pub sweep-looked : (p : Pool) (fs : List ℕ) → sweep p fs .taken ≡ true → 1 ≤ sweep p fs .looks
+sweep-looked p fs e = let l = looks-some (kind fs) (p .count) (mostLooks (p .count)) 0 (p .records) (p .hand .0) e in omega arith
+
+-- ---- an open frame is enough: at distance d with so many usages, it is taken within d + F × usage + 1 looks
+
+cool-down : (F u d m : ℕ) → 0 < F → u ≢ 0 → d + F * u < suc m → F - 1 + F * (u - 1) < m
+cool-down F zero d m hF n l = absurd (n refl)
+cool-down F (suc u) d m hF n l = let e : suc u - 1 ≡ u = omega arith in rw e (omega arith)
+
+-- with m looks left, an open frame that its distance and usage let be taken in fewer is enough
+abbrev Finds : Kind → ℕ → ℕ → Type 0
+Finds k F m =
+    (n : ℕ) (rs : List FrameRecord) (h g d : ℕ) → h < F → g < F → yields (k (recordAt rs g) g) ≡ true → Away F h g d → d + F * recordAt rs g .usage < m
+    → sweepFrom k F m n rs h .taken ≡ true
+
+module _ (k : Kind) (K : Settled k) (F m : ℕ) (finds : Finds k F m) (n : ℕ) (rs : List FrameRecord) (h g : ℕ) (hF : h < F) (gF : g < F) (o : yields (k (recordAt rs g) g) ≡ true) where
+  abbrev Goes : Type 0
+  Goes = sweepFrom k F m (n + 1) (looked k rs h) (after F h) .taken ≡ true
+
+  again : (d : ℕ) → Away F (after F h) g d → d + F * recordAt (looked k rs h) g .usage < m → Goes
+  again d a l = finds (n + 1) (looked k rs h) (after F h) g d (after-in F h hF) gF (looked-open k K rs h g ∙ o) a l
+
+  -- the hand stands at g, whose usage is above 0
+  here : (d : ℕ) → g ≡ h → lookTakes (recordAt rs h) (k (recordAt rs h) h) ≡ false → d + F * recordAt rs g .usage < suc m → Goes
+  here d e t l =
+      let oh : yields (k (recordAt rs h) h) ≡ true = rw e at o in
+      let w : recordAt rs h .usage ≢ 0 = leaves-warm (recordAt rs h) _ oh t in
+      again (F - 1) (rw e (away-left F h (F - 1) hF (omega arith)))
+      (rw (e, looked-usage k rs h oh) (cool-down F (recordAt rs h .usage) d m (omega arith) w (rw e at l)))
+
+  further : (d : ℕ) → g ≢ h → Away F h g d → d + F * recordAt rs g .usage < suc m → Goes
+  further zero q a l = absurd (q (away-here F h g hF a))
+  further (suc d) q a l = again d (away-next F h g d hF gF a) (rw (getD-set-other rs h g (lookLeaves (recordAt rs h) (k (recordAt rs h) h)) blank q) (omega arith))
+
+  finds-suc : (d : ℕ) → Away F h g d → d + F * recordAt rs g .usage < suc m → sweepFrom k F (suc m) n rs h .taken ≡ true
+  unfolding sweepFrom
+  finds-suc d a l = pick-by (λ (v : Swept). v .taken ≡ true) _ _ _ (λ t. refl) (λ t. elim (ℕ-discrete g h) [ yes e ↦ here d e t l | no q ↦ further d q a l ])
+
+sweep-finds : (k : Kind) → Settled k → (F m : ℕ) → Finds k F m
+sweep-finds k K F zero n rs h g d hF gF o a l = absurd (omega arith)
+sweep-finds k K F (suc m) n rs h g d hF gF o a l = finds-suc k K F m (sweep-finds k K F m) n rs h g hF gF o d a l
+
+pub sweep-enough : (p : Pool) (fs : List ℕ) (g : ℕ) → p .hand .0 < p .count → g < p .count → recordAt (p .records) g .usage ≤ maxUsage
+    → isOpen (recordAt (p .records) g) fs g ≡ true → sweep p fs .taken ≡ true
+sweep-enough p fs g hF gF u o =
+    let a = away (p .count) (p .hand .0) g hF gF in
+    sweep-finds (kind fs) (kind-settled fs) (p .count) (mostLooks (p .count)) 0 (p .records) (p .hand .0) g (a .0) hF gF (kind-open fs _ g o) (a .2) (bound (p .count) (recordAt (p .records) g .usage) (a .0) u (a .1))
+  where
+    bound : (F u d : ℕ) → u ≤ maxUsage → d < F → d + F * u < mostLooks F
+    bound F u d h l = omega (arith, mul-le-mul-left F h)
+
+-- ---- what is taken was open
+
+-- a sweep over the records rs that took a frame took one of the F, open in rs
+abbrev Sound : Kind → ℕ → List FrameRecord → Swept → Type 0
+Sound k F rs v = v .taken ≡ true → (v .frame .0 < F) × (yields (k (recordAt rs (v .frame .0)) (v .frame .0)) ≡ true)
+
+sound-from : (k : Kind) → Settled k → (F m n : ℕ) (rs : List FrameRecord) (h : ℕ) → h < F → Sound k F rs (sweepFrom k F m n rs h)
+unfolding sweepFrom
+sound-from k K F zero n rs h hF = λ e. absurd (clash (sym e))
+sound-from k K F (suc m) n rs h hF = pick-by (Sound k F rs) _ _ _ (λ t e. (hF, takes-open (recordAt rs h) _ t)) (λ t e.
+    let r = sound-from k K F m (n + 1) (looked k rs h) (after F h) (after-in F h hF) e in
+    (r .0, sym (looked-open k K rs h _) ∙ r .1))
+
+pub sweep-sound : (p : Pool) (fs : List ℕ) → p .hand .0 < p .count → sweep p fs .taken ≡ true
+    → (sweep p fs .frame .0 < p .count) × (isOpen (recordAt (p .records) (sweep p fs .frame .0)) fs (sweep p fs .frame .0) ≡ true)
+sweep-sound p fs hF e =
+    let r = sound-from (kind fs) (kind-settled fs) (p .count) (mostLooks (p .count)) 0 (p .records) (p .hand .0) hF e in
+    (r .0, open-kind fs _ (sweep p fs .frame .0) (r .1))
+
+-- a frame is taken exactly where one of the F is open to eviction
+pub taken-exactly : (p : Pool) (fs : List ℕ) → p .hand .0 < p .count → ((g : ℕ) → g < p .count → recordAt (p .records) g .usage ≤ maxUsage)
+    → sweep p fs .taken ≡ some (p .count) (λ g. isOpen (recordAt (p .records) g) fs g)
+taken-exactly p fs hF u =
+    same _ _
+    (λ e. let r = sweep-sound p fs hF e in true-some (p .count) (λ g. isOpen (recordAt (p .records) g) fs g) (sweep p fs .frame .0) (r .0) (r .1))
+    (λ e. let r = some-true (p .count) (λ g. isOpen (recordAt (p .records) g) fs g) e in sweep-enough p fs (r .0) hF (r .1) (u (r .0) (r .1)) (r .2))
+
+-- ---- what a sweep leaves: all but usage counts and the hand
+
+pub record Cooled (F : ℕ) (rs : List FrameRecord) (v : Swept) : Type 0 where
+  pub size : length (v .records) ≡ length rs
+  pub each : (g : ℕ) → Cooler (recordAt rs g) (recordAt (v .records) g)
+  pub hand : v .hand .0 < F
+
+cooled-then : (F : ℕ) (rs qs : List FrameRecord) (v : Swept) → length qs ≡ length rs → ((g : ℕ) → Cooler (recordAt rs g) (recordAt qs g)) → Cooled F qs v → Cooled F rs v
+cooled-then F rs qs v l c t = record { size = t .size ∙ l; each = λ g. cooler-then (recordAt rs g) (recordAt qs g) (recordAt (v .records) g) (c g) (t .each g); hand = t .hand }
+
+pub cooled-from : (k : Kind) → Settled k → (F m n : ℕ) (rs : List FrameRecord) (h : ℕ) → h < F → Cooled F rs (sweepFrom k F m n rs h)
+unfolding sweepFrom
+cooled-from k K F zero n rs h hF = record { size = refl; each = λ g. cooler-self (recordAt rs g); hand = hF }
+cooled-from k K F (suc m) n rs h hF =
+    let l : length (looked k rs h) ≡ length rs = length-set rs h _ in
+    pick-either (Cooled F rs) _ _ _ (record { size = l; each = looked-cooler k K rs h; hand = after-in F h hF })
+    (cooled-then F rs (looked k rs h) _ l (looked-cooler k K rs h) (cooled-from k K F m (n + 1) (looked k rs h) (after F h) (after-in F h hF)))
+
+pub sweep-cooled : (p : Pool) (fs : List ℕ) → p .hand .0 < p .count → Cooled (p .count) (p .records) (sweep p fs)
+sweep-cooled p fs hF = cooled-from (kind fs) (kind-settled fs) (p .count) (mostLooks (p .count)) 0 (p .records) (p .hand .0) hF
+
+pub swept-ready : (s : State) → Ready s → Ready (withPool s (withSwept (s .pool) (sweep (s .pool) (s .frames))))
+swept-ready s h =
+    let c = sweep-cooled (s .pool) (s .frames) (h .hand) in
+    record {
+      sized = h .sized;
+      hand = c .hand;
+      inRange = λ f l. in-range f (c .each f) (h .inRange f l);
+      dirtyUsed = λ f l d. c .each f .used ∙ h .dirtyUsed f l (sym (c .each f .dirty) ∙ d);
+      words = λ f k l u. h .words f k l (sym (c .each f .used) ∙ u);
+    }
+  where
+    after-sweep : Pool
+    after-sweep = withSwept (s .pool) (sweep (s .pool) (s .frames))
+
+    in-range : (f : ℕ) → Cooler (recordAt (s .pool .records) f) (recordAt (after-sweep .records) f) → InRange (s .pool) (recordAt (s .pool .records) f) → InRange after-sweep (recordAt (after-sweep .records) f)
+    in-range f c r = record {
+      page = rw (c .page) (r .page);
+      pins = rw (c .pins) (r .pins);
+      usage = c .usage (r .usage);
+      parent = rw (c .parent) (r .parent);
+      slot = rw (c .slot) (r .slot);
+    }
+
+-- ---- the first empty frame
+
+-- of the n frames from h on, e is an empty one, or none is empty and e is F
+data Vacant (rs : List FrameRecord) (F n h e : ℕ) : Type 0 where
+  vacant : e < F → recordAt rs e .used ≡ false → Vacant rs F n h e
+  none : e ≡ F → ((g d : ℕ) → g < F → Away F h g d → d < n → recordAt rs g .used ≡ true) → Vacant rs F n h e
+
+vacant-suc : (rs : List FrameRecord) (F n h e : ℕ) → h < F → recordAt rs h .used ≡ true → Vacant rs F n (after F h) e → Vacant rs F (suc n) h e
+vacant-suc rs F n h e hF u (vacant l x) = vacant l x
+vacant-suc rs F n h e hF u (none x k) = none x go
+  where
+    go : (g d : ℕ) → g < F → Away F h g d → d < suc n → recordAt rs g .used ≡ true
+    go g zero gF a l = rw (away-here F h g hF a) u
+    go g (suc d) gF a l = k g d gF (away-next F h g d hF gF a) (omega arith)
+
+vacant-from : (rs : List FrameRecord) (F n h : ℕ) → h < F → Vacant rs F n h (emptyFrom rs F n h)
+unfolding emptyFrom
+vacant-from rs F zero h hF = none refl (λ g d gF a l. absurd (omega arith))
+vacant-from rs F (suc n) h hF = pick-by (Vacant rs F (suc n) h) _ _ _ (λ u. vacant-suc rs F n h _ hF u (vacant-from rs F n (after F h) (after-in F h hF))) (λ u. vacant hF u)
+
+-- the first empty frame is below F and empty, or it is F and every frame is used
+pub data FirstEmpty (p : Pool) : Type 0 where
+  empty : firstEmpty p < p .count → recordAt (p .records) (firstEmpty p) .used ≡ false → FirstEmpty p
+  full : ((f : ℕ) → f < p .count → recordAt (p .records) f .used ≡ true) → firstEmpty p ≡ p .count → FirstEmpty p
+
+pub first-empty : (p : Pool) → p .hand .0 < p .count → FirstEmpty p
+first-empty p hF = go (vacant-from (p .records) (p .count) (p .count) (p .hand .0) hF)
+  where
+    go : Vacant (p .records) (p .count) (p .count) (p .hand .0) (firstEmpty p) → FirstEmpty p
+    go (vacant l u) = empty l u
+    go (none e k) = full (λ f l. let a = away (p .count) (p .hand .0) f hF l in k f (a .0) l (a .2) (a .1)) e
+
+-- ---- rule 15
+
+-- "No frame is empty and a sweep could take none", of the frames alone: every one is used, and none is open to eviction
+pub record Denied (s : State) : Type 0 where
+  pub used : (f : ℕ) → f < s .pool .count → recordAt (s .pool .records) f .used ≡ true
+  pub shut : (f : ℕ) → f < s .pool .count → isOpen (recordAt (s .pool .records) f) (s .frames) f ≡ false
+
+pub denied-of : (s : State) → Ready s → rule15 s .1 ≡ false → Denied s
+denied-of s h e =
+    let r = or-none (ltb (firstEmpty (s .pool)) (s .pool .count)) (sweep (s .pool) (s .frames) .taken) e in
+    record {
+      used = all-used (r .0) (first-empty (s .pool) (h .hand));
+      shut = λ f l. is-off _ (λ o. clash (sym (sweep-enough (s .pool) (s .frames) f (h .hand) l (h .inRange f l .usage) o) ∙ r .1));
+    }
+  where
+    all-used : ltb (firstEmpty (s .pool)) (s .pool .count) ≡ false → FirstEmpty (s .pool) → (f : ℕ) → f < s .pool .count → recordAt (s .pool .records) f .used ≡ true
+    all-used n (empty l u) = absurd (clash (sym (lt-ltb _ _ l) ∙ n))
+    all-used n (full u e) = u
+
+pub of-denied : (s : State) → Ready s → Denied s → rule15 s .1 ≡ false
+of-denied s h d = or-off (no-empty (first-empty (s .pool) (h .hand))) (is-off _ (λ e.
+    let r = sweep-sound (s .pool) (s .frames) (h .hand) e in
+    clash (sym (r .1) ∙ d .shut _ (r .0))))
+  where
+    no-empty : FirstEmpty (s .pool) → ltb (firstEmpty (s .pool)) (s .pool .count) ≡ false
+    no-empty (empty l u) = absurd (clash (sym (d .used _ l) ∙ u))
+    no-empty (full u e) = le-ltb (firstEmpty (s .pool)) (s .pool .count) (omega arith)
+
+-- 15 is answered exactly where every frame is used and none is open to eviction
+pub denied-exactly : (s : State) → Ready s → (rule15 s .1 ≡ false → Denied s) × (Denied s → rule15 s .1 ≡ false)
+denied-exactly s h = (denied-of s h, of-denied s h)

@@ -1,0 +1,2 @@
+-- Cases computed from the definitions.
+pub mod BenchCases

@@ -1,0 +1,159 @@
+// The pool's thirteen calls for programs in C and Rust. A lent buffer is a pointer and a length there, and an answer a struct by value.
+// include/pagepool.h declares them for C, the package rust/ for Rust.
+mod answers;
+mod layout;
+
+use answers::Fixed;
+use answers::Found;
+use answers::Named;
+use pool::Done;
+use pool::Handle;
+use pool::PageNumber;
+use pool::Place;
+use pool::Pool;
+ghost use mathlib.Core.Path.{_≡_};
+ghost use Rattle.machine.specs.Machine.{state};
+ghost use Rattle.machine.specs.Answers.{out, doneAnswer, placeAnswer};
+ghost use Rattle.machine.specs.Calls.{openCall, rootCall, fixCall, unfixCall, showCall, peekCall, wordCall, writeCall, linkCall, unlinkCall, evictCall, settleCall, findCall};
+ghost use Rattle.pagepool.specs.Structs.{fixedAnswer, namedAnswer, foundAnswer};
+
+// Brings page 0 into frame 0 and gives the records of a new pool; refused, all-zero ones.
+#[no_mangle]
+pub extern "C" fn pool_open(frames: &mut [u8], store: &[u8]) -> Done
+    ensures { λ r. ⌜ out (doneAnswer (r .refusal)) (state (r .pool) (now (frames .exit)) (now (store .entry))) ≡ openCall (now (frames .entry)) (now (store .entry)) ⌝ }
+{
+    pool::open(frames, store)
+}
+
+// Pins page 0.
+#[no_mangle]
+pub extern "C" fn pool_root(pool: Pool, frames: &[u8], store: &[u8]) -> Fixed
+    ensures { λ r. ⌜ out (fixedAnswer r) (state (r .pool) (now (frames .entry)) (now (store .entry))) ≡ rootCall (state pool (now (frames .entry)) (now (store .entry))) ⌝ }
+{
+    answers::from_fix(pool::root(pool, frames, store))
+}
+
+// Pins the page that a slot of a handle's page names.
+#[no_mangle]
+pub extern "C" fn pool_fix(
+    pool: Pool,
+    frames: &mut [u8],
+    store: &mut [u8],
+    handle: Handle,
+    slot: usize,
+) -> Fixed
+    ensures { λ r. ⌜ out (fixedAnswer r) (state (r .pool) (now (frames .exit)) (now (store .exit))) ≡ fixCall (state pool (now (frames .entry)) (now (store .entry))) handle slot ⌝ }
+{
+    answers::from_fix(pool::fix(pool, frames, store, handle, slot))
+}
+
+// Takes one pin off a handle's page.
+#[no_mangle]
+pub extern "C" fn pool_unfix(pool: Pool, frames: &[u8], store: &[u8], handle: Handle) -> Done
+    ensures { λ r. ⌜ out (doneAnswer (r .refusal)) (state (r .pool) (now (frames .entry)) (now (store .entry))) ≡ unfixCall (state pool (now (frames .entry)) (now (store .entry))) handle ⌝ }
+{
+    pool::unfix(pool, frames, store, handle)
+}
+
+// Where the payload of the handle's page lies, for the host to read in its own buffer.
+#[no_mangle]
+pub extern "C" fn pool_show(pool: Pool, frames: &[u8], store: &[u8], handle: Handle) -> Place
+    ensures { λ r. ⌜ placeAnswer r ≡ showCall (state pool (now (frames .entry)) (now (store .entry))) handle .answer ⌝ }
+{
+    pool::show_place(pool, frames, store, handle)
+}
+
+// Where the payload of a page lies, in its frame if it is resident, otherwise in the store.
+#[no_mangle]
+pub extern "C" fn pool_peek(pool: Pool, frames: &[u8], store: &[u8], page: PageNumber) -> Place
+    ensures { λ r. ⌜ placeAnswer r ≡ peekCall (state pool (now (frames .entry)) (now (store .entry))) page .answer ⌝ }
+{
+    pool::peek_place(pool, frames, store, page)
+}
+
+// The page number in a slot of the handle's page.
+#[no_mangle]
+pub extern "C" fn pool_word(
+    pool: Pool,
+    frames: &[u8],
+    store: &[u8],
+    handle: Handle,
+    slot: usize,
+) -> Named
+    ensures { λ r. ⌜ namedAnswer r ≡ wordCall (state pool (now (frames .entry)) (now (store .entry))) handle slot .answer ⌝ }
+{
+    answers::from_word(pool::word(pool, frames, store, handle, slot))
+}
+
+// Puts bytes at a payload offset of the handle's page.
+#[no_mangle]
+pub extern "C" fn pool_write(
+    pool: Pool,
+    frames: &mut [u8],
+    store: &[u8],
+    handle: Handle,
+    offset: usize,
+    bytes: &[u8],
+) -> Done
+    ensures { λ r. ⌜ out (doneAnswer (r .refusal)) (state (r .pool) (now (frames .exit)) (now (store .entry))) ≡ writeCall (state pool (now (frames .entry)) (now (store .entry))) handle offset (now (bytes .entry)) ⌝ }
+{
+    pool::write(pool, frames, store, handle, offset, bytes)
+}
+
+// Stores a page number in an empty slot of the handle's page.
+#[no_mangle]
+pub extern "C" fn pool_link(
+    pool: Pool,
+    frames: &mut [u8],
+    store: &[u8],
+    handle: Handle,
+    slot: usize,
+    page: PageNumber,
+) -> Done
+    ensures { λ r. ⌜ out (doneAnswer (r .refusal)) (state (r .pool) (now (frames .exit)) (now (store .entry))) ≡ linkCall (state pool (now (frames .entry)) (now (store .entry))) handle slot page ⌝ }
+{
+    pool::link(pool, frames, store, handle, slot, page)
+}
+
+// Clears a slot of the handle's page.
+#[no_mangle]
+pub extern "C" fn pool_unlink(
+    pool: Pool,
+    frames: &mut [u8],
+    store: &[u8],
+    handle: Handle,
+    slot: usize,
+) -> Done
+    ensures { λ r. ⌜ out (doneAnswer (r .refusal)) (state (r .pool) (now (frames .exit)) (now (store .entry))) ≡ unlinkCall (state pool (now (frames .entry)) (now (store .entry))) handle slot ⌝ }
+{
+    pool::unlink(pool, frames, store, handle, slot)
+}
+
+// Takes a page out of its frame.
+#[no_mangle]
+pub extern "C" fn pool_evict(
+    pool: Pool,
+    frames: &mut [u8],
+    store: &mut [u8],
+    page: PageNumber,
+) -> Done
+    ensures { λ r. ⌜ out (doneAnswer (r .refusal)) (state (r .pool) (now (frames .exit)) (now (store .exit))) ≡ evictCall (state pool (now (frames .entry)) (now (store .entry))) page ⌝ }
+{
+    pool::evict(pool, frames, store, page)
+}
+
+// Writes the image of each dirty page to the store.
+#[no_mangle]
+pub extern "C" fn pool_settle(pool: Pool, frames: &[u8], store: &mut [u8]) -> Done
+    ensures { λ r. ⌜ out (doneAnswer (r .refusal)) (state (r .pool) (now (frames .entry)) (now (store .exit))) ≡ settleCall (state pool (now (frames .entry)) (now (store .entry))) ⌝ }
+{
+    pool::settle(pool, frames, store)
+}
+
+// The frame that holds a page.
+#[no_mangle]
+pub extern "C" fn pool_find(pool: Pool, frames: &[u8], store: &[u8], page: PageNumber) -> Found
+    ensures { λ r. ⌜ foundAnswer r ≡ findCall (state pool (now (frames .entry)) (now (store .entry))) page .answer ⌝ }
+{
+    answers::from_find(pool::find(pool, frames, store, page))
+}

@@ -1,0 +1,96 @@
+//! The exported functions and the structs that they answer, as `include/pagepool.h` declares and explains them.
+use crate::records::{FrameIndex, Handle, PageNumber, Pool};
+
+#[repr(C)]
+#[derive(Clone, Copy, Debug)]
+pub struct Done {
+    pub pool: Pool,
+    pub refusal: u8,
+}
+
+#[repr(C)]
+#[derive(Clone, Copy, Debug)]
+pub struct Fixed {
+    pub pool: Pool,
+    pub refusal: u8,
+    pub handle: Handle,
+    pub looks: u16,
+}
+
+#[repr(C)]
+#[derive(Clone, Copy, Debug)]
+pub struct Named {
+    pub refusal: u8,
+    pub page: PageNumber,
+}
+
+#[repr(C)]
+#[derive(Clone, Copy, Debug)]
+pub struct Found {
+    pub refusal: u8,
+    pub present: bool,
+    pub frame: FrameIndex,
+}
+
+#[repr(C)]
+#[derive(Clone, Copy, Debug)]
+pub struct Place {
+    pub refusal: u8,
+    pub in_store: bool,
+    pub start: usize,
+    pub size: usize,
+}
+
+/// Declares functions that take the records, frames and store lent as the pointers say, and then their own arguments.
+macro_rules! exported {
+    ($frames:ty, $store:ty; $($name:ident($($argument:ident: $kind:ty),*) -> $answer:ty;)*) => {
+        extern "C" {
+            $(pub fn $name(
+                pool: Pool,
+                frames: $frames,
+                frames_size: usize,
+                store: $store,
+                store_size: usize,
+                $($argument: $kind),*
+            ) -> $answer;)*
+        }
+    };
+}
+
+exported! {
+    *const u8, *const u8;
+    pool_root() -> Fixed;
+    pool_unfix(handle: Handle) -> Done;
+    pool_show(handle: Handle) -> Place;
+    pool_peek(page: PageNumber) -> Place;
+    pool_word(handle: Handle, slot: usize) -> Named;
+    pool_find(page: PageNumber) -> Found;
+}
+
+exported! {
+    *mut u8, *const u8;
+    pool_write(handle: Handle, offset: usize, bytes: *const u8, bytes_size: usize) -> Done;
+    pool_link(handle: Handle, slot: usize, page: PageNumber) -> Done;
+    pool_unlink(handle: Handle, slot: usize) -> Done;
+}
+
+exported! {
+    *const u8, *mut u8;
+    pool_settle() -> Done;
+}
+
+exported! {
+    *mut u8, *mut u8;
+    pool_fix(handle: Handle, slot: usize) -> Fixed;
+    pool_evict(page: PageNumber) -> Done;
+}
+
+extern "C" {
+    pub fn pool_open(frames: *mut u8, frames_size: usize, store: *const u8, store_size: usize) -> Done;
+
+    pub fn pool_layout_done() -> Done;
+    pub fn pool_layout_fixed() -> Fixed;
+    pub fn pool_layout_named() -> Named;
+    pub fn pool_layout_found() -> Found;
+    pub fn pool_layout_place() -> Place;
+}
