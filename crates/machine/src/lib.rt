@@ -62,7 +62,7 @@ pub enum FindAnswer {
     Refused(u8),
 }
 
-// Where a payload lies, as numbers: in the store or in the frames, from `start` on, `size` bytes. Beside a refusal these say nothing.
+// Where a payload lies, as numbers: in the store or in the frames, from `start` on, `size` bytes. Beside a refusal: no bytes, at the start of the frames.
 #[repr(C)]
 pub struct Place {
     pub refusal: u8,
