@@ -1,9 +1,9 @@
 //! The calls that are timed, each with the state that it is made on.
 use crate::boundary;
 use crate::timing::{repeat, Variants};
+use pagepool::{Handle, PageNumber, Refusal, MAX_PINS, PAGE_SIZE};
 use pool_bench::baseline;
 use pool_bench::tree::{State, FAN_OUT};
-use pagepool::{Handle, PageNumber, Refusal, MAX_PINS, PAGE_SIZE};
 use std::hint::black_box;
 
 /// The pinned pages: the root, and the page in its slot 0.

@@ -1,7 +1,7 @@
 //! The deepest stack of each exported call: a thread's stack is painted, and what the call leaves of the paint tells.
 use crate::calls::{accept, dirtied, CHILD, ROOT};
-use pool_bench::tree::{State, FAN_OUT};
 use pagepool::PageNumber;
+use pool_bench::tree::{State, FAN_OUT};
 use std::hint::black_box;
 use std::ptr;
 use std::thread::Builder;

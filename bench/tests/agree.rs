@@ -1,8 +1,8 @@
 //! The baseline answers and leaves exactly what the linked library does, on random calls, refused ones too.
+use pagepool::{Handle, PageNumber, Pool, Refusal, PAGE_SIZE, PAYLOAD_SIZE, SLOTS};
 use pool_bench::random::Random;
 use pool_bench::tree::{self, State};
 use pool_bench::{baseline, tree::FAN_OUT};
-use pagepool::{Handle, PageNumber, Pool, Refusal, PAGE_SIZE, PAYLOAD_SIZE, SLOTS};
 use std::fmt::Debug;
 
 /// Makes a call in both, each on its own state, and compares answers and states.
