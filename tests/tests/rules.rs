@@ -1,4 +1,5 @@
 //! The table of rules against the C header and the Rust package: numbers, names, and which call is refused by which.
+use pagepool::Refusal;
 use pool_tests::calls::NAMES;
 use std::collections::BTreeSet;
 use std::fs;
@@ -52,12 +53,18 @@ fn the_packages_refusals() {
     let table = Table::standing();
     let refusals = table.rules.iter().filter(|rule| rule.number != 0);
     let rules: Vec<_> = refusals.filter_map(|rule| Some((in_rust(rule.name?), rule.number))).collect();
-    let package = package();
-    if package.contains("pub type Refusal = u8;") {
-        return;
+    let named = Refusal::ALL.iter().map(|refusal| (format!("{refusal:?}"), refusal.number()));
+    assert_eq!(named.collect::<Vec<_>>(), rules);
+}
+
+/// The header and the package say each rule in the same words.
+#[test]
+fn the_same_sentences() {
+    for (refusal, rule) in Refusal::ALL.iter().zip(&Table::standing().rules[1..]) {
+        let entry =
+            format!("/* {} */\n    {} = {}", refusal.sentence(), rule.name.unwrap_or("-"), refusal.number());
+        assert!(HEADER.contains(&entry), "no '{entry}'");
     }
-    let named = named_numbers(&package, "pub enum Refusal {").into_iter();
-    assert_eq!(named.map(|(name, number)| (name.to_string(), number)).collect::<Vec<_>>(), rules);
 }
 
 /// What each call is refused by, as the header and the package say beside it.
