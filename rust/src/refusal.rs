@@ -41,11 +41,12 @@ rules! {
     BadRange = 5, "The offset is above 192, or the length above 192 - offset.";
     BadPage = 6, "The page number isn't below N, or is 0 in link.";
     EmptySlot = 7, "Fix or unlink meets a word of 0.";
+    FullSlot = 8, "Link meets a word that isn't 0.";
     AlreadyNamed = 9, "Link's page is named already, by a word of any page.";
-    Resident = 10, "Unlink's page is in a frame.";
+    Resident = 10, "Unlink's page is resident.";
     NotResident = 11, "Evict's page isn't resident.";
     NotOpen = 12, "Evict's page is the root, is pinned, or names a resident page.";
-    TooManyPin = 13, "A resident page to be pinned has 65,535 pins.";
+    TooManyPins = 13, "A resident page to be pinned has 65,535 pins.";
     BadStoredPage = 14, "The stored page to be loaded has words that it can't have: only after the store was altered from outside.";
     NoFrame = 15, "No frame is empty, and a sweep could take none.";
     UnsoundStore = 16, "Open's store isn't sound: a word is no page number, or a number stands in two words.";
