@@ -13,7 +13,7 @@ use Rattle.machine.specs.Tests.{pick, _and_, _or_, _⇒_, every, some, f
 use Rattle.machine.specs.Machine.{State, state, blank, frameIndex, pageNumber, occupied, foundFrom}
 use Rattle.machine.specs.Agreement.{isBlank, rootInPlace, pagesApart, handInRange, fieldsInRange, allInRange, emptyBlank, parentsName, pointsBack, swizzledPointBack, absent, numbersAbsent, givesPage, numbersOnce, reachesRoot, allReachRoot, agree}
 use Rattle.machine.specs.Moves.{plain, imageTo, imageOf, writtenOutBy, evicted, loaded}
-use Rattle.machine.specs.Sweep.{after, emptyFrom, childless, isOpen, kind, lookLeaves, lookTakes, sweepFrom}
+use Rattle.machine.specs.Sweep.{after, emptyFrom, childless, standing, lookLeaves, lookTakes, sweepFrom}
 use Rattle.machine.specs.Naming.{namedByResident, repeated, wordLoadable, loadable}
 use Rattle.machine.specs.Answers.{Answer, refused, done, handle, payload, number, frame, nowhere, Out}
 use Rattle.machine.specs.Rules.{lengthsFit, handleFits, rangeFits}
@@ -104,5 +104,5 @@ allHold [] = true
 allHold (c ∷ cs) = sameNumbers (c .gives) (c .says) && allHold cs
 
 pub bench-cases : allHold table ≡ true
-unfolding table allHold sameNumbers rootCall fixCall wordCall writeCall missOut decide verdict firstBroken pick _and_ _or_ _⇒_ every some lengthsFit handleFits rangeFits agree rootInPlace pagesApart handInRange allInRange fieldsInRange emptyBlank isBlank parentsName pointsBack swizzledPointBack absent numbersAbsent givesPage numbersOnce reachesRoot allReachRoot occupied foundFrom slot wordAt putSlot putWord pageOf putPage plain imageTo writtenOutBy evicted loaded after emptyFrom childless isOpen kind lookLeaves lookTakes sweepFrom namedByResident repeated wordLoadable loadable
+unfolding table allHold sameNumbers rootCall fixCall wordCall writeCall missOut decide verdict firstBroken pick _and_ _or_ _⇒_ every some lengthsFit handleFits rangeFits agree rootInPlace pagesApart handInRange allInRange fieldsInRange emptyBlank isBlank parentsName pointsBack swizzledPointBack absent numbersAbsent givesPage numbersOnce reachesRoot allReachRoot occupied foundFrom slot wordAt putSlot putWord pageOf putPage plain imageTo writtenOutBy evicted loaded after emptyFrom childless standing lookLeaves lookTakes sweepFrom namedByResident repeated wordLoadable loadable
 bench-cases = refl
