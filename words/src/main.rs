@@ -3,6 +3,7 @@
 use std::io::{self, BufRead, Read, Write};
 use std::process::ExitCode;
 use words::record::SIZE;
+use words::rules::Table;
 use words::{line, refusal};
 
 const USAGE: &str = "usage: words records | words lines | words explain | words rule N    (standard input to standard output)";
@@ -10,11 +11,12 @@ const USAGE: &str = "usage: words records | words lines | words explain | words 
 fn main() -> ExitCode {
     let arguments: Vec<String> = std::env::args().skip(1).collect();
     let words: Vec<&str> = arguments.iter().map(String::as_str).collect();
+    let table = Table::standing();
     let done = match words[..] {
         ["records"] => each_line(|text| Ok(line::parse(text)?.map(|record| record.to_vec()))),
         ["lines"] => lines_of_records(),
-        ["explain"] => each_line(|text| Ok(Some(format!("{}\n", refusal::explain(text)?).into_bytes()))),
-        ["rule", number] => rule(number),
+        ["explain"] => each_line(|text| Ok(Some(format!("{}\n", refusal::explain(&table, text)?).into_bytes()))),
+        ["rule", number] => rule(&table, number),
         _ => Err(USAGE.to_string()),
     };
     match done {
@@ -49,9 +51,7 @@ fn lines_of_records() -> Result<(), String> {
     out.flush().map_err(|error| error.to_string())
 }
 
-fn rule(number: &str) -> Result<(), String> {
-    let meaning = number.parse().ok().and_then(refusal::meaning);
-    let meaning = meaning.ok_or_else(|| format!("expected a number from 0 to {}, found '{number}'", refusal::RULES.len()))?;
-    println!("{number}: {meaning}");
+fn rule(table: &Table, number: &str) -> Result<(), String> {
+    println!("{number}: {}", refusal::meaning(table, number)?);
     Ok(())
 }

@@ -1,7 +1,8 @@
 //! Lines to records and back, and the meanings of refusals.
 use words::line::{format, parse};
 use words::record::{Record, SIZE};
-use words::refusal::{explain, meaning, RULES};
+use words::refusal::{explain, meaning};
+use words::rules::Table;
 
 fn record(line: &str) -> Record {
     parse(line).expect(line).expect("a call")
@@ -73,10 +74,12 @@ fn a_bad_line_says_what_was_expected() {
 
 #[test]
 fn refusals_are_explained() {
-    assert_eq!(explain("7 12 0 0").unwrap(), format!("7 12 0 0  # 12: {}", RULES[11]));
-    assert_eq!(explain("2 0 1 7").unwrap(), "2 0 1 7");
-    assert!(explain("7 18 0 0").is_err());
-    assert!(explain("7 12 0").is_err());
-    assert_eq!(meaning(4), Some("The slot is above 15."));
-    assert_eq!(meaning(18), None);
+    let table = Table::standing();
+    let twelve = meaning(&table, "12").unwrap();
+    assert_eq!(explain(&table, "7 12 0 0").unwrap(), format!("7 12 0 0  # 12: {twelve}"));
+    assert_eq!(explain(&table, "2 0 1 7").unwrap(), "2 0 1 7");
+    assert!(explain(&table, "7 255 0 0").is_err());
+    assert!(explain(&table, "7 12 0").is_err());
+    assert_eq!(meaning(&table, "4"), Ok("The slot is above 15."));
+    assert!(meaning(&table, "255").is_err());
 }
