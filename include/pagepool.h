@@ -19,11 +19,10 @@
  * again.
  *
  * Payloads. Show and peek answer a place in the host's own buffers, to be read there until the next call that takes that
- * buffer without const. A part of frames or store must not be handed to write as its bytes: to copy a payload to another
- * page, copy it to a buffer of one's own first.
+ * buffer without const. A part of frames or store must not be handed to write as its bytes. To copy a payload to another
+ * page, copy it to a buffer of one's own, and hand that to write:
  *     uint8_t copy[POOL_PAYLOAD_SIZE];
  *     memcpy(copy, pool_payload(place, frames, store), sizeof copy);
- *     pool_write(pool, frames, frames_size, store, store_size, handle, 0, copy, sizeof copy);
  *
  * Arguments. A call takes any lengths, records, handle, slot, offset and page number, and refuses what it can't use. Of the
  * pointers it asks what C asks: each has its length's bytes behind it, and a buffer that is not const overlaps no other.
