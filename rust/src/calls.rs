@@ -48,7 +48,7 @@ impl raw::Place {
 pub fn open(frames: &mut [u8], store: &[u8]) -> Result<Pool, Refusal> {
     // SAFETY: as in `call`.
     let done = unsafe { raw::pool_open(frames.as_mut_ptr(), frames.len(), store.as_ptr(), store.len()) };
-    unless_refused(done.refusal, done.pool)
+    unless_refused(done.refusal, ()).map(|()| done.pool)
 }
 
 /// Pins page 0. Refused: 1, 2, 13.
