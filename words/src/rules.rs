@@ -29,7 +29,8 @@ impl Table {
 
     /// The table of a text. The error names the line that is none.
     pub fn read(text: &'static str) -> Result<Table, String> {
-        let mut lines = text.lines().enumerate().filter(|(_, line)| !line.is_empty() && !line.starts_with('#'));
+        let mut lines =
+            text.lines().enumerate().filter(|(_, line)| !line.is_empty() && !line.starts_with('#'));
         let (_, head) = lines.next().ok_or("no line names the columns")?;
         let calls = match &head.split_whitespace().collect::<Vec<_>>()[..] {
             ["number", "name", calls @ .., "listing", "sentence"] => calls.to_vec(),
@@ -39,7 +40,11 @@ impl Table {
         for (index, line) in lines {
             let rule = row(&table.calls, line).map_err(|why| format!("line {}: {why}", index + 1))?;
             if table.rules.last().is_some_and(|before| before.number >= rule.number) {
-                return Err(format!("line {}: rule {} doesn't follow a smaller number", index + 1, rule.number));
+                return Err(format!(
+                    "line {}: rule {} doesn't follow a smaller number",
+                    index + 1,
+                    rule.number
+                ));
             }
             table.rules.push(rule);
         }

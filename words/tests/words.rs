@@ -44,7 +44,7 @@ fn any_record_comes_back() {
             seed ^= seed >> 7;
             seed ^= seed << 17;
             // most bytes small, so that calls, slots and lengths are often good ones
-            *byte = if seed % 3 == 0 { (seed >> 32) as u8 } else { (seed >> 32) as u8 % 12 };
+            *byte = if seed.is_multiple_of(3) { (seed >> 32) as u8 } else { (seed >> 32) as u8 % 12 };
         }
         if round % 2 == 0 {
             bytes[10..].fill(0);
@@ -56,8 +56,10 @@ fn any_record_comes_back() {
 #[test]
 fn a_bad_line_says_what_was_expected() {
     for (line, expected) in [
-        ("fix", "expected root | fix SLOT of FRAME PAGE"),
-        ("fix 3 0 0", "expected root | fix SLOT of FRAME PAGE"),
+        ("pin 3", "expected a call, found 'pin'"),
+        ("fix", "expected fix SLOT of FRAME PAGE"),
+        ("fix 3 0 0", "expected fix SLOT of FRAME PAGE"),
+        ("root 0", "expected root"),
         ("fix 256 of 0 0", "expected a slot from 0 to 255, found '256'"),
         ("unfix 0 65536", "expected a page from 0 to 65535, found '65536'"),
         ("evict seven", "expected a page from 0 to 65535, found 'seven'"),
