@@ -19,7 +19,7 @@ use Rattle.machine.specs.Answers.{Answer, refused, done, handle, payload
 use Rattle.machine.specs.Rules.{lengthsFit, handleFits, rangeFits}
 use Rattle.machine.specs.Calls.{decide, openCall, rootCall, fixCall, missOut, unfixCall, showCall, payloadPlace, peekCall, wordCall, writeCall, linkCall, unlinkCall, evictCall, settleCall, foundAnswer, findCall}
 
-abbrev joined : List (List ℕ) → List ℕ
+abbrev pub joined : List (List ℕ) → List ℕ
 joined = foldr (λ (x y : List ℕ). x ++ y) []
 
 -- ---- small machines
