@@ -18,8 +18,8 @@ pub fn empty_record() -> FrameRecord
     ensures { λ r. ⌜ r ≡ blank ⌝ }
 {
     FrameRecord {
-        used: false,
-        dirty: false,
+        used: 0,
+        dirty: 0,
         usage: 0,
         slot: 0,
         parent: FrameIndex(0),
@@ -55,8 +55,8 @@ pub fn load_page(
     let at = PageNumber::SIZE * parent.0 as usize + page::word::SIZE * slot;
     page::word::put_word(frames, at, FrameIndex::word(frame));
     FrameRecord {
-        used: true,
-        dirty: false,
+        used: 1,
+        dirty: 0,
         usage: 1,
         slot: slot as u8,
         parent,
@@ -81,7 +81,7 @@ pub fn settle_pages(
     while f < count {
         let mut record = next.records[f];
         out::write_out(record, table, frames, store, FrameIndex(f as u8));
-        record.dirty = false;
+        record.dirty = 0;
         next.records[f] = record;
         f += 1;
     }

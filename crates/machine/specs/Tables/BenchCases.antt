@@ -41,7 +41,7 @@ withHandAfter o = numbers (o .answer) ++ (o .left .pool .hand .0 ∷ [])
 
 -- page p's record, with its pins and usage count (heat): in the root's slot p − 1, and the root itself in none
 abbrev resident : ℕ → ℕ → ℕ → FrameRecord
-resident p pins usage = record { used = true; dirty = false; usage = usage; slot = p - 1; parent = frameIndex 0; pins = pins; page = pageNumber p }
+resident p pins usage = record { used = 1; dirty = 0; usage = usage; slot = p - 1; parent = frameIndex 0; pins = pins; page = pageNumber p }
 
 -- two frames over one page, the root pinned so often
 abbrev small : ℕ → State

@@ -8,7 +8,7 @@ use Rattle.page.specs.Figures.{slotCount, wordRadix, swizzleBit}
 use Rattle.page.specs.Page.{putSlot-length, slot-putSlot-same, slot-putSlot-page, byte-putSlot}
 use Rattle.page.specs.Octets.{Octets, octets-putSlot}
 use Rattle.machine.specs.declared.FrameRecord.{FrameRecord}
-use Rattle.machine.specs.Machine.{State, blank, recordAt}
+use Rattle.machine.specs.Machine.{State, blank, isUsed, isDirty, recordAt}
 use Rattle.machine.specs.Moves.{plain, evicted}
 use Rattle.machine.specs.History.{Point}
 use Rattle.machine.specs.Theorem.View.{View, view, Occupied, Parent}
@@ -48,12 +48,12 @@ module _ (s : State) (I : Fit s) (f : ℕ) (of : Occupied (view s) f) (nz : 1 �
     sameN = refl;
     roots = refl;
     each = refl;
-    gone = ap (λ r. r .used) (change-here rs f blank lt);
-    used = λ g n. ap (λ r. r .used) (change-other rs f blank g n);
+    gone = ap isUsed (change-here rs f blank lt);
+    used = λ g n. ap isUsed (change-other rs f blank g n);
     page = λ g n. ap (λ r. r .page .0) (change-other rs f blank g n);
     up = λ g n. ap (λ r. r .parent .0) (change-other rs f blank g n);
     upSlot = λ g n. ap (λ r. r .slot) (change-other rs f blank g n);
-    dirty = λ g n. ap (λ r. r .dirty) (change-other rs f blank g n);
+    dirty = λ g n. ap isDirty (change-other rs f blank g n);
     pins = λ g n. ap (λ r. r .pins) (change-other rs f blank g n);
     wordAtParent = slot-putSlot-same (s .frames) _ _ _ _ (I .sized .frames) (P .occupied .lt) (P .inPage) (omega (arith, pN, I .shape .pages));
     wordPage = λ g k hg hk n. slot-putSlot-page (s .frames) _ _ _ g k (P .inPage) hk (λ q. n (sym q));
