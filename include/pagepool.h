@@ -80,8 +80,10 @@ typedef uint16_t pool_page_number;
 
 /* What is known of one frame. The all-zero record is the empty frame's. */
 struct pool_record {
-    bool used;
-    bool dirty;
+    /* Whether the frame holds a page, and whether that was changed since it was loaded or settled: 0 or 1. Any other byte is
+     * refused, by 2. */
+    uint8_t used;
+    uint8_t dirty;
     /* The usage count of the clock sweep, 0 to 3. */
     uint8_t usage;
     /* The slot of the parent's word that names the page, and the parent's frame. */

@@ -6,6 +6,9 @@ ghost use mathlib.Core.Path.{_≡_};
 ghost use Rattle.agreement.specs.Deciding.{Decides};
 ghost use Rattle.agreement.specs.Fit.{Blank, firstFields, lastFields, RootFits, Resident};
 
+// The largest value of a flag.
+const MAX_FLAG: u8 = 1;
+
 // A record's fields before its parent, and those after it, as the digits of one number.
 pub fn first_fields(used: u8, dirty: u8, usage: u8, slot: u8) -> u32
     ensures { λ r. ⌜ r ≡ firstFields used dirty usage slot ⌝ }
@@ -54,7 +57,7 @@ pub fn root_fits(rec: FrameRecord) -> bool
     if FrameIndex::MAX_USAGE < rec.usage {
         return false;
     }
-    if 1 < rec.dirty {
+    if MAX_FLAG < rec.dirty {
         return false;
     }
     if rec.slot != 0 {
@@ -79,7 +82,7 @@ pub fn resident_fits(rec: FrameRecord, count: usize, pages: u32) -> bool
     if FrameIndex::MAX_USAGE < rec.usage {
         return false;
     }
-    if 1 < rec.dirty {
+    if MAX_FLAG < rec.dirty {
         return false;
     }
     if PageNumber::SLOTS <= rec.slot as usize {
