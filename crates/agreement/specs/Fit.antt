@@ -4,7 +4,6 @@ use mathlib.Core.Path.{_≡_}
 use mathlib.Core.Logic.{_≢_}
 use mathlib.Core.Bool.{Bool, true, false}
 use mathlib.Core.List.{List}
-use mir.Val.{boolByte}
 use lib.Dec.{eqb, ltb, leb}
 use lib.ListN.{length, getD}
 use Rattle.page.specs.Figures.{pageSize, slotCount, mostFrames, recordCount, maxUsage, maxPins, wordSize}
@@ -13,7 +12,7 @@ use Rattle.page.specs.Page.{slot}
 use Rattle.machine.specs.declared.FrameRecord.{FrameRecord}
 use Rattle.machine.specs.declared.Pool.{Pool}
 use Rattle.machine.specs.Tests.{pick, _and_}
-use Rattle.machine.specs.Machine.{isUsed, isDirty, recordAt, pageIn}
+use Rattle.machine.specs.Machine.{isUsed, recordAt, pageIn}
 use Rattle.machine.specs.Agreement.{agree}
 use Rattle.machine.specs.Laws.Parents.{climb}
 use Rattle.residents.specs.Table.{Table}

@@ -1,6 +1,6 @@
 -- The machine: records, frames and store as values.
 use Prim.Native.Nat.{ℕ, zero, suc, _+_, _-_, min}
-use mathlib.Core.Bool.{Bool, true, false}
+use mathlib.Core.Bool.{Bool}
 use mathlib.Core.List.{List}
 use lib.Dec.{eqb, ltb}
 use lib.ListN.{getD, set, replicate}
@@ -56,13 +56,17 @@ pinned r = record { used = r .used; dirty = r .dirty; usage = min maxUsage (r .u
 abbrev pub unpinned : FrameRecord → FrameRecord
 unpinned r = record { used = r .used; dirty = r .dirty; usage = r .usage; slot = r .slot; parent = r .parent; pins = r .pins - 1; page = r .page }
 
+-- another usage (heat)
+abbrev pub withUsage : FrameRecord → ℕ → FrameRecord
+withUsage r u = record { used = r .used; dirty = r .dirty; usage = u; slot = r .slot; parent = r .parent; pins = r .pins; page = r .page }
+
 -- one usage (heat) off
 abbrev pub cooled : FrameRecord → FrameRecord
-cooled r = record { used = r .used; dirty = r .dirty; usage = r .usage - 1; slot = r .slot; parent = r .parent; pins = r .pins; page = r .page }
+cooled r = withUsage r (r .usage - 1)
 
 -- one usage (heat) more, to 3 at most
 abbrev pub warmed : FrameRecord → FrameRecord
-warmed r = record { used = r .used; dirty = r .dirty; usage = min maxUsage (r .usage + 1); slot = r .slot; parent = r .parent; pins = r .pins; page = r .page }
+warmed r = withUsage r (min maxUsage (r .usage + 1))
 
 abbrev pub dirtied : FrameRecord → FrameRecord
 dirtied r = record { used = r .used; dirty = 1; usage = r .usage; slot = r .slot; parent = r .parent; pins = r .pins; page = r .page }

@@ -19,7 +19,7 @@ use Rattle.machine.specs.declared.Standing.the-variants.{Root, Pinned, P
 use Rattle.machine.specs.Tests.{pick, _and_, _or_, some}
 use Rattle.machine.specs.Laws.Flags.{same-flag}
 use Rattle.machine.specs.Laws.TestLaws.{clash, case, on, off, is-off, same, and-left, both, or-none, or-off, true-some, some-true, pick-either}
-use Rattle.machine.specs.Machine.{State, withPool, isRoot, blank, cooled, isUsed, recordAt}
+use Rattle.machine.specs.Machine.{State, withPool, isRoot, blank, isUsed, recordAt}
 use Rattle.machine.specs.Laws.AgreementFacts.{InRange}
 use Rattle.machine.specs.Sweep.{Class, rest, warm, yield, yields, Kind, classOf, kind, Swept, after, emptyFrom, firstEmpty, childless, standing, evictable, isOpen, lookLeaves, lookTakes, sweepFrom, mostLooks, sweep, withSwept}
 use Rattle.machine.specs.Rules.{rule15}

@@ -2,12 +2,12 @@
 use Prim.Native.Nat.{ℕ, zero, suc, _<_, _≤_}
 use mathlib.Core.Path.{_≡_, refl, sym, _∙_, ap}
 use mathlib.Core.Logic.{_≢_}
-use mathlib.Core.Bool.{Bool, true, false, not}
+use mathlib.Core.Bool.{true, false}
 use mathlib.Core.List.{List, _∷_}
 use native.Mathlib.Omega.{arith}
 use native.Mathlib.Nat.{mul-zero}
 use native.Mathlib.Decide.{ℕ-discrete, decLt}
-use borrow.Author.Tests.{eqb-true, not-true}
+use borrow.Author.Tests.{eqb-true}
 use lib.Dec.{eqb}
 use lib.ListN.{length, List·getD-eq-default}
 use Rattle.page.specs.Figures.{recordCount, slotCount, swizzleBit}
@@ -17,7 +17,7 @@ use Rattle.page.specs.Octets.{Octets}
 use Rattle.machine.specs.declared.FrameRecord.{FrameRecord}
 use Rattle.machine.specs.Tests.{_and_, Rule, firstBroken}
 use Rattle.machine.specs.Laws.TestLaws.{clash, case, on, off, is-off, and-true, or-second, kept-then}
-use Rattle.machine.specs.Machine.{State, isUsed, isDirty, recordAt, occupied, blank, frameIndex, pageNumber}
+use Rattle.machine.specs.Machine.{State, isUsed, recordAt, occupied, blank, frameIndex, pageNumber}
 use Rattle.machine.specs.Agreement.{parentOf, isBlank, reachesRoot}
 use Rattle.machine.specs.Laws.Parents.{climb, climb-reach}
 use Rattle.machine.specs.Laws.AgreementFacts.{occupied-lt, occupied-used, make-occupied, Points, InRange, Agreed, tests}
