@@ -9,3 +9,4 @@ pub mod SweepLaws
 pub mod MoveLaws
 pub mod Ready
 pub mod RuleLaws
+pub mod ResidentWords

@@ -9,4 +9,6 @@ pub mod EvictRows
 pub mod SettleRows
 pub mod ChangeRows
 pub mod AnswerRows
+pub mod AgreeRows
+pub mod RuleRows
 pub mod OrderRows
