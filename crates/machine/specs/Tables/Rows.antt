@@ -25,7 +25,7 @@ joined = foldr (λ (x y : List ℕ). x ++ y) []
 -- ---- small machines
 
 -- a record by its fields: used, dirty, usage count (heat), slot, parent, pins, page
-abbrev made : ℕ → ℕ → ℕ → ℕ → ℕ → ℕ → ℕ → FrameRecord
+abbrev pub made : ℕ → ℕ → ℕ → ℕ → ℕ → ℕ → ℕ → FrameRecord
 made used dirty usage slot parent pins page =
     record { used = used; dirty = dirty; usage = usage; slot = slot; parent = frameIndex parent; pins = pins; page = pageNumber page }
 
