@@ -3,11 +3,12 @@ use crate::raw;
 use crate::records::{FrameIndex, Handle, PageNumber, Pool};
 use crate::refusal::{unless_refused, Refusal};
 
-/// The answer of root and fix: the handle of the page that was pinned, and the looks of the sweep that made room for it, 0
-/// if none.
+/// The answer of root and fix.
 #[derive(Clone, Copy, Debug, PartialEq, Eq)]
 pub struct Fixed {
+    /// The handle of the page that was pinned.
     pub handle: Handle,
+    /// The looks of the sweep that made room for it, 0 if none.
     pub looks: u16,
 }
 

@@ -34,8 +34,11 @@ use crate::refusal::Refusal;
 /// ```
 #[derive(Clone, Debug, PartialEq, Eq)]
 pub struct PagePool<F, S> {
+    /// The pool's records.
     pub records: Pool,
+    /// F frames of 256 bytes.
     pub frames: F,
+    /// N pages of 256 bytes.
     pub store: S,
 }
 
