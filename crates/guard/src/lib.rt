@@ -6,6 +6,8 @@ use machine::Handle;
 use machine::Pool;
 use page::FrameIndex;
 use page::PageNumber;
+use residents::Residents;
+use seen::Seen;
 ghost use mathlib.Core.Path.{_≡_};
 ghost use Prim.Native.Nat.{_+_, _*_, _≤_, _<_};
 ghost use lib.ListN.{length};
@@ -68,18 +70,18 @@ pub fn table_refusal(
     pool: Pool,
     frames: &[u8],
     store: &[u8],
-    pages: &mut [u16; FrameIndex::MOST],
-    seen: &mut [bool; PageNumber::MOST],
+    residents: &mut Residents,
+    seen: &mut Seen,
 ) -> u8
-    requires { ⌜ Clear (now pages) (now seen) ⌝ }
-    ensures { λ r. ⌜ (r ≡ firstBroken (poolRules (state pool (now (frames .entry)) (now (store .entry))))) × (r ≡ 0 → Handed pool (now (frames .entry)) (now (pages .exit)) (now (seen .exit))) ⌝ }
+    requires { ⌜ Clear (now residents) (now seen) ⌝ }
+    ensures { λ r. ⌜ (r ≡ firstBroken (poolRules (state pool (now (frames .entry)) (now (store .entry))))) × (r ≡ 0 → Handed pool (now (frames .entry)) (now (residents .exit)) (now (seen .exit))) ⌝ }
 {
     let count = pool.count as usize;
     let n = pool.pages as usize;
     if !lengths_fit(count, n, frames, store) {
         return 1;
     }
-    if !agreement::agrees(pool, frames, pages, seen) {
+    if !agreement::agrees(pool, frames, residents, seen) {
         return 2;
     }
     0
@@ -89,9 +91,9 @@ pub fn table_refusal(
 pub fn pool_refusal(pool: Pool, frames: &[u8], store: &[u8]) -> u8
     ensures { λ r. ⌜ r ≡ firstBroken (poolRules (state pool (now (frames .entry)) (now (store .entry)))) ⌝ }
 {
-    let mut pages: [u16; FrameIndex::MOST] = [0; FrameIndex::MOST];
-    let mut seen = [false; PageNumber::MOST];
-    table_refusal(pool, frames, store, &mut pages, &mut seen)
+    let mut residents = residents::NONE;
+    let mut seen = seen::NONE;
+    table_refusal(pool, frames, store, &mut residents, &mut seen)
 }
 
 // Rules 1 to 3, with the record at the handle's place, and the tables.
@@ -101,13 +103,13 @@ pub fn handle_refusal(
     frames: &[u8],
     store: &[u8],
     handle: Handle,
-    pages: &mut [u16; FrameIndex::MOST],
-    seen: &mut [bool; PageNumber::MOST],
+    residents: &mut Residents,
+    seen: &mut Seen,
 ) -> u8
-    requires { ⌜ (held ≡ recordAt (pool .records) (recordPlace handle)) × Clear (now pages) (now seen) ⌝ }
-    ensures { λ r. ⌜ (r ≡ firstBroken (handleRules (state pool (now (frames .entry)) (now (store .entry))) handle)) × (r ≡ 0 → Handed pool (now (frames .entry)) (now (pages .exit)) (now (seen .exit))) ⌝ }
+    requires { ⌜ (held ≡ recordAt (pool .records) (recordPlace handle)) × Clear (now residents) (now seen) ⌝ }
+    ensures { λ r. ⌜ (r ≡ firstBroken (handleRules (state pool (now (frames .entry)) (now (store .entry))) handle)) × (r ≡ 0 → Handed pool (now (frames .entry)) (now (residents .exit)) (now (seen .exit))) ⌝ }
 {
-    let refusal = table_refusal(pool, frames, store, pages, seen);
+    let refusal = table_refusal(pool, frames, store, residents, seen);
     if refusal != 0 {
         return refusal;
     }
@@ -125,13 +127,13 @@ pub fn slot_refusal(
     store: &[u8],
     handle: Handle,
     slot: usize,
-    pages: &mut [u16; FrameIndex::MOST],
-    seen: &mut [bool; PageNumber::MOST],
+    residents: &mut Residents,
+    seen: &mut Seen,
 ) -> u8
-    requires { ⌜ (held ≡ recordAt (pool .records) (recordPlace handle)) × Clear (now pages) (now seen) ⌝ }
-    ensures { λ r. ⌜ (r ≡ firstBroken (wordRules (state pool (now (frames .entry)) (now (store .entry))) handle slot)) × (r ≡ 0 → Handed pool (now (frames .entry)) (now (pages .exit)) (now (seen .exit))) ⌝ }
+    requires { ⌜ (held ≡ recordAt (pool .records) (recordPlace handle)) × Clear (now residents) (now seen) ⌝ }
+    ensures { λ r. ⌜ (r ≡ firstBroken (wordRules (state pool (now (frames .entry)) (now (store .entry))) handle slot)) × (r ≡ 0 → Handed pool (now (frames .entry)) (now (residents .exit)) (now (seen .exit))) ⌝ }
 {
-    let refusal = handle_refusal(pool, held, frames, store, handle, pages, seen);
+    let refusal = handle_refusal(pool, held, frames, store, handle, residents, seen);
     if refusal != 0 {
         return refusal;
     }
@@ -147,13 +149,13 @@ pub fn page_refusal(
     frames: &[u8],
     store: &[u8],
     page: PageNumber,
-    pages: &mut [u16; FrameIndex::MOST],
-    seen: &mut [bool; PageNumber::MOST],
+    residents: &mut Residents,
+    seen: &mut Seen,
 ) -> u8
-    requires { ⌜ Clear (now pages) (now seen) ⌝ }
-    ensures { λ r. ⌜ (r ≡ firstBroken (pageRules (state pool (now (frames .entry)) (now (store .entry))) page)) × (r ≡ 0 → Handed pool (now (frames .entry)) (now (pages .exit)) (now (seen .exit))) ⌝ }
+    requires { ⌜ Clear (now residents) (now seen) ⌝ }
+    ensures { λ r. ⌜ (r ≡ firstBroken (pageRules (state pool (now (frames .entry)) (now (store .entry))) page)) × (r ≡ 0 → Handed pool (now (frames .entry)) (now (residents .exit)) (now (seen .exit))) ⌝ }
 {
-    let refusal = table_refusal(pool, frames, store, pages, seen);
+    let refusal = table_refusal(pool, frames, store, residents, seen);
     if refusal != 0 {
         return refusal;
     }

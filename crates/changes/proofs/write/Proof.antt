@@ -72,8 +72,8 @@ copy-into-requires c κs = search needs
 dirtied-requires : tie.Need-dirtied-requires
 dirtied-requires c κs = search needs
 
-mul-t25 : tie.Need-mul-t25
-mul-t25 c = search needs
+mul-t27 : tie.Need-mul-t27
+mul-t27 c = search needs
 
 element-set-from-next : tie.Need-element-set-from-next
 element-set-from-next c = search needs
@@ -109,7 +109,7 @@ write-spec =
     part-copy-into-end
     copy-into-requires
     dirtied-requires
-    mul-t25
+    mul-t27
     element-set-from-next
     same-length-3
     returns-3)
