@@ -112,6 +112,11 @@ fn a_hint_where_the_input_is_no_recording() {
         assert_eq!(status, 0);
         assert!(why.contains("a recording is"), "{why}");
     }
+    let mut cut = run(&["records"], b"root\nsettle\n", Stdio::piped()).stdout;
+    cut.truncate(21);
+    let told = "1  root: page 0 in frame 0\n".to_string();
+    let why = "a part record of 5 bytes at the end is left out\n".to_string();
+    assert_eq!(words(&["replay", LISTING, "-"], &cut), (0, told, why));
     assert_eq!(words(&["replay", LISTING, "no/such/file"], b"").0, 2);
 }
 
