@@ -23,7 +23,7 @@ const DOCS: &str = concat!(env!("CARGO_MANIFEST_DIR"), "/../docs");
 const USAGE: &str = "\
 usage: pool-bench [CALL]                   print the table, or the rows of one call
        pool-bench --write                  also put it into docs/
-       pool-bench --check FOLDER           the same in one pass, and into another folder
+       pool-bench --check FOLDER           put it into another folder, after one pass, and print nothing
        pool-bench --figures CALL           print a round of a comparison
        pool-bench --compare A B [CALL]     print the table of two programs
 ";
@@ -42,7 +42,7 @@ fn main() -> io::Result<ExitCode> {
         return Ok(refused(&format!("no row begins with '{call}'; the calls are {calls}\n")));
     }
     match words[..] {
-        ["--write"] => write(Path::new(DOCS), PASSES)?,
+        ["--write"] => print!("{}", write(Path::new(DOCS), PASSES)?),
         ["--check", folder] => check(Path::new(folder))?,
         ["--figures", _] => print!("{}", compare::lines(&rows::measured(call, PASSES_OF_A_ROUND))),
         ["--compare", a, b, ..] => print!("{}", compare::text([a, b], call)?),
@@ -60,20 +60,20 @@ fn text(figures: &[Figure]) -> String {
     report::text(figures, &stack::measured())
 }
 
-/// Puts the figures of so many passes into a folder's page and plot.
-fn write(folder: &Path, passes: u32) -> io::Result<()> {
+/// Puts the figures of so many passes into a folder's page and plot. Gives the table.
+fn write(folder: &Path, passes: u32) -> io::Result<String> {
     let figures = rows::measured("", passes);
     let text = text(&figures);
-    print!("{text}");
     fs::write(folder.join("performance.svg"), plot::svg(&figures))?;
     let page = folder.join("PERFORMANCE.md");
     let filled = report::filled(&fs::read_to_string(&page)?, &text);
-    fs::write(page, filled)
+    fs::write(page, filled)?;
+    Ok(text)
 }
 
 /// All that `--write` does, in one pass and on a copy of the page: the figures aren't worth anything.
 fn check(folder: &Path) -> io::Result<()> {
     fs::create_dir_all(folder)?;
     fs::copy(Path::new(DOCS).join("PERFORMANCE.md"), folder.join("PERFORMANCE.md"))?;
-    write(folder, 1)
+    write(folder, 1).map(|_| ())
 }

@@ -54,6 +54,8 @@ fn legend() -> String {
         let _ = writeln!(out, "<path d=\"M{x} 42h34\" stroke=\"black\" stroke-width=\"1.5\"{dash}/>");
         let _ = writeln!(out, "<text x=\"{}\" y=\"46\" font-size=\"12\">{name}</text>", x + 42.0);
     }
+    let sizes = "N = 256 where F grows, 16 with few pages; F = 16 where N grows";
+    let _ = writeln!(out, "<text x=\"322\" y=\"46\" font-size=\"12\" fill=\"#555\">{sizes}</text>");
     out
 }
 
@@ -92,8 +94,8 @@ impl<'a> Scale<'a> {
 
     fn size_axis(&self) -> &'static str {
         match self.grows {
-            Grows::Frames => "F, frames (N = 256; few pages: N = 16)",
-            Grows::Pages => "N, pages (F = 16)",
+            Grows::Frames => "F, frames",
+            Grows::Pages => "N, pages",
         }
     }
 
