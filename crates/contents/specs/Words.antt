@@ -8,13 +8,13 @@ use native.Mathlib.Decide.{ℕ-discrete}
 use lib.ListN.{length}
 use Rattle.page.specs.declared.PageNumber.{PageNumber}
 use Rattle.page.specs.Figures.{pageSize, slotCount, mostPages, mostFrames, swizzleBit}
-use Rattle.page.specs.Word.{frameIn}
+use Rattle.page.specs.Word.{frameIn, reading, low, high}
 use Rattle.machine.specs.declared.Handle.{Handle}
 use Rattle.machine.specs.Tests.{firstBroken}
 use Rattle.machine.specs.Machine.{State, pageNumber, pageIn}
 use Rattle.machine.specs.Laws.AgreementFacts.{occupied-lt}
 use Rattle.machine.specs.Moves.{plain}
-use Rattle.machine.specs.Laws.PlainLaws.{plain-low, plain-high, reading, low, high}
+use Rattle.machine.specs.Laws.PlainLaws.{plain-low, plain-high}
 use Rattle.machine.specs.Answers.{number}
 use Rattle.machine.specs.Rules.{wordOf}
 use Rattle.machine.specs.Calls.{wordRules, wordCall}

@@ -9,7 +9,7 @@ use native.Mathlib.Decide.{ℕ-discrete}
 use borrow.Author.Tests.{eq-eqb, ne-eqb, eqb-true, eqb-false, not-true}
 use lib.Dec.{eqb}
 use Rattle.page.specs.Figures.{slotCount, mostFrames, swizzleBit}
-use Rattle.page.specs.Word.{frameIn, frameWord}
+use Rattle.page.specs.Word.{frameIn, frameWord, reading, low, high}
 use Rattle.page.specs.Page.{slot}
 use Rattle.machine.specs.declared.FrameRecord.{FrameRecord}
 use Rattle.machine.specs.Tests.{_and_, _or_}
@@ -19,7 +19,7 @@ use Rattle.machine.specs.Agreement.{parentOf, parentSlotOf, isBlank}
 use Rattle.machine.specs.Laws.AgreementFacts.{occupied-lt, Points, Agreed}
 use Rattle.machine.specs.Moves.{plain}
 use Rattle.machine.specs.Naming.{namedByResident}
-use Rattle.machine.specs.Laws.PlainLaws.{plain-low, plain-high, reading, low, high}
+use Rattle.machine.specs.Laws.PlainLaws.{plain-low, plain-high}
 use Rattle.soundness.specs.Seen.{among}
 use Rattle.soundness.specs.SeenLaws.{is-among, among-is}
 use Rattle.soundness.specs.Pages.{pageWords}

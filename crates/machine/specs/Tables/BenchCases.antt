@@ -5,13 +5,13 @@ use mathlib.Core.List.{List, [], _∷_, _++_}
 use Prim.Native.Nat.{ℕ, _-_}
 use lib.Dec.{eqb}
 use lib.ListN.{replicate}
-use Rattle.page.specs.Word.{wordAt, putWord, isNumber, frameIn}
+use Rattle.page.specs.Word.{wordAt, putWord, nameOf, renamed, isNumber, frameIn, givesPage}
 use Rattle.page.specs.Page.{slot, putSlot, pageOf, putPage}
 use Rattle.machine.specs.declared.FrameRecord.{FrameRecord}
 use Rattle.machine.specs.declared.Handle.{Handle}
 use Rattle.machine.specs.Tests.{pick, _and_, _or_, _⇒_, every, some, firstBroken, verdict}
 use Rattle.machine.specs.Machine.{State, state, blank, frameIndex, pageNumber, occupied, foundFrom}
-use Rattle.machine.specs.Agreement.{isBlank, rootInPlace, pagesApart, handInRange, fieldsInRange, allInRange, emptyBlank, parentsName, pointsBack, swizzledPointBack, absent, numbersAbsent, givesPage, numbersOnce, reachesRoot, allReachRoot, agree}
+use Rattle.machine.specs.Agreement.{isBlank, rootInPlace, pagesApart, handInRange, fieldsInRange, allInRange, emptyBlank, parentsName, pointsBack, swizzledPointBack, absent, numbersAbsent, numbersOnce, reachesRoot, allReachRoot, agree}
 use Rattle.machine.specs.Moves.{plain, imageTo, imageOf, writtenOutBy, evicted, loaded}
 use Rattle.machine.specs.Sweep.{after, emptyFrom, childless, isOpen, kind, lookLeaves, lookTakes, sweepFrom}
 use Rattle.machine.specs.Naming.{namedByResident, repeated, wordLoadable, loadable}
@@ -104,5 +104,5 @@ allHold [] = true
 allHold (c ∷ cs) = sameNumbers (c .gives) (c .says) && allHold cs
 
 pub bench-cases : allHold table ≡ true
-unfolding table allHold sameNumbers rootCall fixCall wordCall writeCall missOut decide verdict firstBroken pick _and_ _or_ _⇒_ every some lengthsFit handleFits rangeFits agree rootInPlace pagesApart handInRange allInRange fieldsInRange emptyBlank isBlank parentsName pointsBack swizzledPointBack absent numbersAbsent givesPage numbersOnce reachesRoot allReachRoot occupied foundFrom slot wordAt putSlot putWord pageOf putPage plain imageTo writtenOutBy evicted loaded after emptyFrom childless isOpen kind lookLeaves lookTakes sweepFrom namedByResident repeated wordLoadable loadable
+unfolding table allHold sameNumbers rootCall fixCall wordCall writeCall missOut decide verdict firstBroken pick _and_ _or_ _⇒_ every some lengthsFit handleFits rangeFits agree rootInPlace pagesApart handInRange allInRange fieldsInRange emptyBlank isBlank parentsName pointsBack swizzledPointBack absent numbersAbsent givesPage numbersOnce reachesRoot allReachRoot occupied foundFrom nameOf renamed slot wordAt putSlot putWord pageOf putPage plain imageTo writtenOutBy evicted loaded after emptyFrom childless isOpen kind lookLeaves lookTakes sweepFrom namedByResident repeated wordLoadable loadable
 bench-cases = refl
