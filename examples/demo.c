@@ -133,15 +133,15 @@ int main(void)
 {
     struct pool_handle root = open_pool();
     link_page(root, 3, 7);
-    struct pool_handle field = fix_slot(root, 3);
-    write_text(field, "field 12");
-    link_page(field, 0, 9);
-    struct pool_handle tray = fix_slot(field, 0);
-    write_text(tray, "pH 6.4");
+    struct pool_handle parent = fix_slot(root, 3);
+    write_text(parent, "a parent");
+    link_page(parent, 0, 9);
+    struct pool_handle child = fix_slot(parent, 0);
+    write_text(child, "its child");
     print_word(root, 3);
     find_page(9);
     evict_page(9);
-    unfix_page(tray);
+    unfix_page(child);
     evict_page(9);
     find_page(9);
     peek_page(9);
@@ -151,14 +151,14 @@ int main(void)
         link_page(root, page, page);
         unfix_page(fix_slot(root, page));
     }
-    show_page(field);
-    done(pool_unlink(pool, frames, sizeof frames, store, sizeof store, field, 0));
-    printf("unlink slot 0 of page %d\n", field.page);
+    show_page(parent);
+    done(pool_unlink(pool, frames, sizeof frames, store, sizeof store, parent, 0));
+    printf("unlink slot 0 of page %d\n", parent.page);
     settle();
 
     root = open_pool();
-    field = fix_slot(root, 3);
-    show_page(field);
-    print_word(field, 0);
+    parent = fix_slot(root, 3);
+    show_page(parent);
+    print_word(parent, 0);
     return 0;
 }

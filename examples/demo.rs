@@ -1,73 +1,77 @@
 //! A pool of 4 frames over a store of 16 empty pages: links and fixes a few pages, writes, reads back, settles, and reads the
 //! store again through a new pool. Prints what it did, as demo.c does.
-use pagepool::{Handle, PageNumber, Pool, Refusal, PAGE_SIZE};
+use pagepool::{Handle, PageNumber, PagePool, Refusal, PAGE_SIZE};
 
-/// All that the pool works on, which the host owns.
-struct Host {
-    pool: Pool,
-    frames: Vec<u8>,
-    store: Vec<u8>,
-}
+/// The pool with its buffers. Each method makes a call and prints it.
+struct Demo(PagePool<[u8; 4 * PAGE_SIZE], [u8; 16 * PAGE_SIZE]>);
 
 /// A payload's text, up to the first byte of 0.
 fn text(payload: &[u8]) -> String {
-    let bytes = payload.iter().copied().take_while(|&byte| byte != 0).collect();
+    let bytes = payload
+        .iter()
+        .copied()
+        .take_while(|&byte| byte != 0)
+        .collect();
     String::from_utf8(bytes).expect("the text that was written")
 }
 
-impl Host {
-    /// Opens a pool over a store, and pins its root.
-    fn open(mut frames: Vec<u8>, store: Vec<u8>) -> Result<(Host, Handle), Refusal> {
-        let mut pool = pagepool::open(&mut frames, &store)?;
-        println!("open: {} pages, {} frames", pool.pages, pool.count);
-        let Handle { frame, page } = pagepool::root(&mut pool, &frames, &store)?.handle;
-        println!("root: page {page} in frame {frame}");
-        Ok((Host { pool, frames, store }, Handle { frame, page }))
+impl Demo {
+    /// Opens the pool, and pins its root.
+    fn open(&mut self) -> Result<Handle, Refusal> {
+        self.0.open()?;
+        println!(
+            "open: {} pages, {} frames",
+            self.0.records.pages, self.0.records.count
+        );
+        let root = self.0.root()?.handle;
+        println!("root: page {} in frame {}", root.page, root.frame);
+        Ok(root)
     }
 
     fn link(&mut self, parent: Handle, slot: usize, page: PageNumber) -> Result<(), Refusal> {
-        pagepool::link(&mut self.pool, &mut self.frames, &self.store, parent, slot, page)?;
+        self.0.link(parent, slot, page)?;
         println!("link page {page} to slot {slot} of page {}", parent.page);
         Ok(())
     }
 
     fn unlink(&mut self, parent: Handle, slot: usize) -> Result<(), Refusal> {
-        pagepool::unlink(&mut self.pool, &mut self.frames, &self.store, parent, slot)?;
+        self.0.unlink(parent, slot)?;
         println!("unlink slot {slot} of page {}", parent.page);
         Ok(())
     }
 
     fn fix(&mut self, parent: Handle, slot: usize) -> Result<Handle, Refusal> {
-        let fixed = pagepool::fix(&mut self.pool, &mut self.frames, &mut self.store, parent, slot)?;
+        let fixed = self.0.fix(parent, slot)?;
         let Handle { frame, page } = fixed.handle;
+        let looks = fixed.looks;
         println!(
-            "fix slot {slot} of page {}: page {page} in frame {frame}, {} looks",
-            parent.page, fixed.looks
+            "fix slot {slot} of page {}: page {page} in frame {frame}, {looks} looks",
+            parent.page
         );
         Ok(fixed.handle)
     }
 
     fn unfix(&mut self, handle: Handle) -> Result<(), Refusal> {
-        pagepool::unfix(&mut self.pool, &self.frames, &self.store, handle)?;
+        self.0.unfix(handle)?;
         println!("unfix page {}", handle.page);
         Ok(())
     }
 
     fn write(&mut self, handle: Handle, text: &str) -> Result<(), Refusal> {
-        pagepool::write(&mut self.pool, &mut self.frames, &self.store, handle, 0, text.as_bytes())?;
+        self.0.write(handle, 0, text.as_bytes())?;
         println!("write to page {}: {text}", handle.page);
         Ok(())
     }
 
     fn evict(&mut self, page: PageNumber) {
-        match pagepool::evict(&mut self.pool, &mut self.frames, &mut self.store, page) {
+        match self.0.evict(page) {
             Ok(()) => println!("evict page {page}"),
-            Err(refusal) => println!("evict page {page}: refused by rule {refusal}"),
+            Err(refusal) => println!("evict page {page}: refused by rule {}", refusal.number()),
         }
     }
 
     fn find(&self, page: PageNumber) -> Result<(), Refusal> {
-        match pagepool::find(&self.pool, &self.frames, &self.store, page)? {
+        match self.0.find(page)? {
             Some(frame) => println!("find page {page}: frame {frame}"),
             None => println!("find page {page}: absent"),
         }
@@ -75,60 +79,59 @@ impl Host {
     }
 
     fn show(&self, handle: Handle) -> Result<(), Refusal> {
-        let payload = pagepool::show(&self.pool, &self.frames, &self.store, handle)?;
-        println!("show page {}: {}", handle.page, text(payload));
+        println!("show page {}: {}", handle.page, text(self.0.show(handle)?));
         Ok(())
     }
 
     fn peek(&self, page: PageNumber) -> Result<(), Refusal> {
-        let payload = pagepool::peek(&self.pool, &self.frames, &self.store, page)?;
-        println!("peek page {page}: {}", text(payload));
+        println!("peek page {page}: {}", text(self.0.peek(page)?));
         Ok(())
     }
 
     fn word(&self, handle: Handle, slot: usize) -> Result<(), Refusal> {
-        match pagepool::word(&self.pool, &self.frames, &self.store, handle, slot)? {
-            0 => println!("word in slot {slot} of page {}: nothing", handle.page),
-            page => println!("word in slot {slot} of page {}: page {page}", handle.page),
+        match self.0.word(handle, slot)? {
+            Some(page) => println!("word in slot {slot} of page {}: page {page}", handle.page),
+            None => println!("word in slot {slot} of page {}: nothing", handle.page),
         }
         Ok(())
     }
 
     fn settle(&mut self) -> Result<(), Refusal> {
-        pagepool::settle(&mut self.pool, &self.frames, &mut self.store)?;
+        self.0.settle()?;
         println!("settle");
         Ok(())
     }
 }
 
 fn main() -> Result<(), Refusal> {
-    let (mut host, root) = Host::open(vec![0; 4 * PAGE_SIZE], vec![0; 16 * PAGE_SIZE])?;
-    host.link(root, 3, 7)?;
-    let field = host.fix(root, 3)?;
-    host.write(field, "field 12")?;
-    host.link(field, 0, 9)?;
-    let tray = host.fix(field, 0)?;
-    host.write(tray, "pH 6.4")?;
-    host.word(root, 3)?;
-    host.find(9)?;
-    host.evict(9);
-    host.unfix(tray)?;
-    host.evict(9);
-    host.find(9)?;
-    host.peek(9)?;
+    let mut demo = Demo(PagePool::new([0; 4 * PAGE_SIZE], [0; 16 * PAGE_SIZE]));
+    let root = demo.open()?;
+    demo.link(root, 3, PageNumber(7))?;
+    let parent = demo.fix(root, 3)?;
+    demo.write(parent, "a parent")?;
+    demo.link(parent, 0, PageNumber(9))?;
+    let child = demo.fix(parent, 0)?;
+    demo.write(child, "its child")?;
+    demo.word(root, 3)?;
+    demo.find(PageNumber(9))?;
+    demo.evict(PageNumber(9));
+    demo.unfix(child)?;
+    demo.evict(PageNumber(9));
+    demo.find(PageNumber(9))?;
+    demo.peek(PageNumber(9))?;
 
     // More pages than frames: the third of them has to be swept for.
     for page in 10..13 {
-        host.link(root, page.into(), page)?;
-        let handle = host.fix(root, page.into())?;
-        host.unfix(handle)?;
+        demo.link(root, page.into(), PageNumber(page))?;
+        let handle = demo.fix(root, page.into())?;
+        demo.unfix(handle)?;
     }
-    host.show(field)?;
-    host.unlink(field, 0)?;
-    host.settle()?;
+    demo.show(parent)?;
+    demo.unlink(parent, 0)?;
+    demo.settle()?;
 
-    let (mut host, root) = Host::open(host.frames, host.store)?;
-    let field = host.fix(root, 3)?;
-    host.show(field)?;
-    host.word(field, 0)
+    let root = demo.open()?;
+    let parent = demo.fix(root, 3)?;
+    demo.show(parent)?;
+    demo.word(parent, 0)
 }

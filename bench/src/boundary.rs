@@ -1,7 +1,7 @@
 //! The copies of the records at the boundary, alone: functions that pass and answer them as the exported calls do.
-use pool_bench::tree::State;
 use pagepool::raw::{Done, Found};
-use pagepool::Pool;
+use pagepool::{FrameIndex, Pool};
+use pool_bench::tree::State;
 use std::hint::black_box;
 
 extern "C" fn done(pool: Pool) -> Done {
@@ -9,7 +9,7 @@ extern "C" fn done(pool: Pool) -> Done {
 }
 
 extern "C" fn found(_: Pool) -> Found {
-    Found { refusal: 0, present: false, frame: 0 }
+    Found { refusal: 0, present: false, frame: FrameIndex(0) }
 }
 
 extern "C" fn opened() -> Done {

@@ -1,14 +1,14 @@
 //! The calls that are timed, each with the state that it is made on.
 use crate::boundary;
 use crate::timing::{repeat, Variants};
+use pagepool::{FrameIndex, Handle, PageNumber, Refusal, MAX_PINS, PAGE_SIZE};
 use pool_bench::baseline;
 use pool_bench::tree::{State, FAN_OUT};
-use pagepool::{Handle, PageNumber, Refusal, MAX_PINS, PAGE_SIZE};
 use std::hint::black_box;
 
 /// The pinned pages: the root, and the page in its slot 0.
-pub const ROOT: Handle = Handle { frame: 0, page: 0 };
-pub const CHILD: Handle = Handle { frame: 1, page: 1 };
+pub const ROOT: Handle = Handle { frame: FrameIndex(0), page: PageNumber(0) };
+pub const CHILD: Handle = Handle { frame: FrameIndex(1), page: PageNumber(1) };
 
 pub fn accept<T>(answer: Result<T, Refusal>) {
     assert!(black_box(answer).is_ok());
@@ -74,7 +74,7 @@ fn undo(before: &State, after: &State) -> impl Fn(&mut State) + Clone {
 /// The state with every resident page dirty.
 pub fn dirtied(state: &State) -> State {
     let mut state = state.clone();
-    state.pool.records.iter_mut().filter(|record| record.used).for_each(|record| record.dirty = true);
+    state.pool.records.iter_mut().filter(|record| record.is_used()).for_each(|record| record.dirty = 1);
     state
 }
 
@@ -113,7 +113,7 @@ pub fn find(state: &State) -> (State, Variants) {
 
 /// A page that isn't resident.
 pub fn peek(state: &State) -> (State, Variants) {
-    let page = state.pool.pages - 1;
+    let page = PageNumber(state.pool.pages - 1);
     repeated!(state.clone(), boundary::only_in, peek(page))
 }
 
@@ -145,7 +145,7 @@ pub fn settle(state: &State) -> (State, Variants) {
 
 /// The last page, which no word names.
 pub fn link(state: &State) -> (State, Variants) {
-    let page = state.pool.pages - 1;
+    let page = PageNumber(state.pool.pages - 1);
     undone!(state.clone(), link(CHILD, FAN_OUT, page))
 }
 

@@ -2,36 +2,63 @@
 //! the figures into docs/PERFORMANCE.md and the plot into docs/performance.svg.
 mod boundary;
 mod calls;
+mod compare;
 mod plot;
 mod report;
 mod rows;
 mod stack;
 mod timing;
 
+use rows::Figure;
 use std::path::Path;
+use std::process::ExitCode;
 use std::{env, fs, io};
 
-const USAGE: &str = "usage: bench/run [--write | CALL]";
+/// Passes over all rows, so that a busy moment of the machine falls on a few batches of each; fewer in a round of a comparison.
+const PASSES: u32 = 30;
+const PASSES_OF_A_ROUND: u32 = 5;
 
-fn main() -> io::Result<()> {
-    let mut words = env::args().skip(1);
-    match (words.next().as_deref(), words.next()) {
-        (None, None) => print!("{}", report::text(&rows::measured(""), &stack::measured())),
-        (Some("--write"), None) => write()?,
-        (Some(call), None) if !call.starts_with('-') => {
-            print!("{}", report::text(&rows::measured(call), &stack::measured()));
-        }
-        _ => {
-            eprintln!("{USAGE}");
-            std::process::exit(2);
-        }
+const USAGE: &str = "\
+usage: pool-bench [CALL]                   print the table, or the rows of one call
+       pool-bench --write                  also put it into docs/
+       pool-bench --figures CALL           print a round of a comparison
+       pool-bench --compare A B [CALL]     print the table of two programs
+";
+
+fn main() -> io::Result<ExitCode> {
+    let words: Vec<String> = env::args().skip(1).collect();
+    let words: Vec<&str> = words.iter().map(String::as_str).collect();
+    let call = match words[..] {
+        [] | ["--write"] | ["--compare", _, _] => "",
+        ["--figures", call] | ["--compare", _, _, call] => call,
+        [call] if !call.starts_with('-') => call,
+        _ => return Ok(refused(USAGE)),
+    };
+    if !rows::any(call) {
+        let calls = rows::calls().join(", ");
+        return Ok(refused(&format!("no row begins with '{call}'; the calls are {calls}\n")));
     }
-    Ok(())
+    match words[..] {
+        ["--write"] => write()?,
+        ["--figures", _] => print!("{}", compare::lines(&rows::measured(call, PASSES_OF_A_ROUND))),
+        ["--compare", a, b, ..] => print!("{}", compare::text([a, b], call)?),
+        _ => print!("{}", text(&rows::measured(call, PASSES))),
+    }
+    Ok(ExitCode::SUCCESS)
+}
+
+fn refused(why: &str) -> ExitCode {
+    eprint!("{why}");
+    ExitCode::from(2)
+}
+
+fn text(figures: &[Figure]) -> String {
+    report::text(figures, &stack::measured())
 }
 
 fn write() -> io::Result<()> {
-    let figures = rows::measured("");
-    let text = report::text(&figures, &stack::measured());
+    let figures = rows::measured("", PASSES);
+    let text = text(&figures);
     print!("{text}");
     let docs = Path::new(concat!(env!("CARGO_MANIFEST_DIR"), "/../docs"));
     fs::write(docs.join("performance.svg"), plot::svg(&figures))?;

@@ -71,7 +71,7 @@ impl Figure {
 
     /// The call's name, without what it meets.
     pub fn call(&self) -> &str {
-        self.label.split(',').next().unwrap_or(self.label)
+        call_of(self.label)
     }
 
     /// F or N, whichever the row is there to show.
@@ -83,16 +83,37 @@ impl Figure {
     }
 }
 
-/// Passes over all rows, so that a busy moment of the machine falls on a few batches of each.
-const PASSES: u32 = 30;
+fn call_of(label: &str) -> &str {
+    label.split(',').next().unwrap_or(label)
+}
 
-/// The rows whose label begins with a word.
-pub fn measured(word: &str) -> Vec<Figure> {
-    let rows = ROWS.iter().filter(|row| row.label.starts_with(word));
+/// The names of the calls that are timed.
+pub fn calls() -> Vec<&'static str> {
+    let mut calls = Vec::new();
+    for call in ROWS.iter().map(|row| call_of(row.label)) {
+        if !calls.contains(&call) {
+            calls.push(call);
+        }
+    }
+    calls
+}
+
+fn beginning_with(word: &str) -> impl Iterator<Item = &'static Row> + '_ {
+    ROWS.iter().filter(move |row| row.label.starts_with(word))
+}
+
+/// Whether a row begins with a word.
+pub fn any(word: &str) -> bool {
+    beginning_with(word).next().is_some()
+}
+
+/// The rows that begin with a word, timed in so many passes.
+pub fn measured(word: &str, passes: u32) -> Vec<Figure> {
+    let rows = beginning_with(word);
     let sized = rows.flat_map(|row| sizes(row.grows).map(|(count, pages)| (row, count, pages)));
     let mut races: Vec<(&Row, Race)> =
         sized.map(|(row, count, pages)| (row, row.race(&State::filled(count, pages)))).collect();
-    for pass in 0..PASSES {
+    for pass in 0..passes {
         deeper(pass, &mut || races.iter_mut().for_each(|(_, race)| race.pass()));
     }
     races.iter().map(|(row, race)| row.figure(race)).collect()

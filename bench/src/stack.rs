@@ -1,7 +1,7 @@
 //! The deepest stack of each exported call: a thread's stack is painted, and what the call leaves of the paint tells.
 use crate::calls::{accept, dirtied, CHILD, ROOT};
-use pool_bench::tree::{State, FAN_OUT};
 use pagepool::PageNumber;
+use pool_bench::tree::{State, FAN_OUT};
 use std::hint::black_box;
 use std::ptr;
 use std::thread::Builder;
@@ -22,9 +22,9 @@ type Call = fn(&mut State);
 
 const COUNT: usize = 64;
 const PAGES: usize = 4096;
-const LAST_PAGE: PageNumber = PAGES as PageNumber - 1;
+const LAST_PAGE: PageNumber = PageNumber(PAGES as u16 - 1);
 /// A page in the last frame, which has no swizzled word.
-const LAST_RESIDENT: PageNumber = COUNT as PageNumber;
+const LAST_RESIDENT: PageNumber = PageNumber(COUNT as u16);
 
 macro_rules! call {
     ($name:ident($($argument:expr),*)) => {

@@ -1,6 +1,6 @@
 //! Variants of a call, timed in turn.
-use pool_bench::tree::State;
 use pagepool::Pool;
+use pool_bench::tree::State;
 use std::hint::black_box;
 use std::time::{Duration, Instant};
 

@@ -55,7 +55,8 @@ impl State {
 
     /// Leaves a pin on the root and on page 1, and each page at usage 1.
     fn release_all_but_two(&mut self) {
-        for (frame, record) in self.pool.records.iter_mut().enumerate().filter(|(_, record)| record.used) {
+        let records = self.pool.records.iter_mut().enumerate();
+        for (frame, record) in records.filter(|(_, record)| record.is_used()) {
             record.pins = u16::from(frame < 2);
             record.usage = 1;
         }

@@ -1,8 +1,8 @@
 //! The baseline answers and leaves exactly what the linked library does, on random calls, refused ones too.
+use pagepool::{FrameIndex, Handle, PageNumber, Pool, Refusal, PAGE_SIZE, PAYLOAD_SIZE, SLOTS};
 use pool_bench::random::Random;
 use pool_bench::tree::{self, State};
 use pool_bench::{baseline, tree::FAN_OUT};
-use pagepool::{Handle, PageNumber, Pool, Refusal, PAGE_SIZE, PAYLOAD_SIZE, SLOTS};
 use std::fmt::Debug;
 
 /// Makes a call in both, each on its own state, and compares answers and states.
@@ -24,13 +24,9 @@ macro_rules! same_part {
 }
 
 /// The refusal that both gave.
-fn agreed<T: PartialEq + Debug>(
-    name: &str,
-    library: Result<T, Refusal>,
-    baseline: Result<T, Refusal>,
-) -> Refusal {
+fn agreed<T: PartialEq + Debug>(name: &str, library: Result<T, Refusal>, baseline: Result<T, Refusal>) -> u8 {
     assert_eq!(library, baseline, "{name}");
-    library.err().unwrap_or(0)
+    library.err().map_or(0, Refusal::number)
 }
 
 /// Whether a part lies in the frames, and where.
@@ -72,7 +68,7 @@ impl Trial {
         self.given[usize::from(refusal)] += 1;
     }
 
-    fn any_call(&mut self, a: &mut State, b: &mut State) -> Refusal {
+    fn any_call(&mut self, a: &mut State, b: &mut State) -> u8 {
         let (handle, slot, page) = (self.handle(a), self.slot(), self.page(a));
         match self.random.below(40) {
             0 => self.open(a, b),
@@ -92,7 +88,7 @@ impl Trial {
     }
 
     /// An open that goes on with its records, where they are given, one time in ten.
-    fn open(&mut self, a: &mut State, b: &mut State) -> Refusal {
+    fn open(&mut self, a: &mut State, b: &mut State) -> u8 {
         let before = (a.frames.clone(), a.pool);
         let library = pagepool::open(&mut a.frames, &a.store);
         let baseline = baseline::open(&mut b.frames, &b.store);
@@ -107,7 +103,7 @@ impl Trial {
         agreed("open", library, baseline)
     }
 
-    fn write(&mut self, a: &mut State, b: &mut State, handle: Handle) -> Refusal {
+    fn write(&mut self, a: &mut State, b: &mut State, handle: Handle) -> u8 {
         let offset = self.random.below(PAYLOAD_SIZE + 8);
         let bytes = vec![self.random.below(256) as u8; self.random.below(20)];
         same!(a, b, write(handle, offset, &bytes))
@@ -115,14 +111,15 @@ impl Trial {
 
     /// A handle of a pinned page most of the time, or any.
     fn handle(&mut self, state: &State) -> Handle {
-        let pinned: Vec<u8> = (0..64).filter(|frame| state.pool.record(*frame).pins > 0).collect();
+        let pinned: Vec<FrameIndex> =
+            (0..64).map(FrameIndex).filter(|frame| state.pool.record(*frame).pins > 0).collect();
         let frame = match pinned.len() {
-            0 => 0,
+            0 => FrameIndex(0),
             most => pinned[self.random.below(most)],
         };
         let page = state.pool.record(frame).page;
         match self.random.below(20) {
-            0 => Handle { frame: self.random.below(256) as u8, page },
+            0 => Handle { frame: FrameIndex(self.random.below(256) as u8), page },
             1 => Handle { frame, page: self.page(state) },
             _ => Handle { frame, page },
         }
@@ -136,10 +133,10 @@ impl Trial {
     fn page(&mut self, state: &State) -> PageNumber {
         let pages = usize::from(state.pool.pages);
         match self.random.below(20) {
-            0 => self.random.below(65_536) as PageNumber,
-            1..=3 => state.pool.pages.wrapping_sub(1),
-            4..=10 => state.pool.record(self.random.below(64) as u8).page,
-            _ => self.random.below(pages.max(1)) as PageNumber,
+            0 => PageNumber(self.random.below(65_536) as u16),
+            1..=3 => PageNumber(state.pool.pages.wrapping_sub(1)),
+            4..=10 => state.pool.records[self.random.below(64)].page,
+            _ => PageNumber(self.random.below(pages.max(1)) as u16),
         }
     }
 
@@ -162,7 +159,7 @@ impl Trial {
         match self.random.below(5) {
             0 => state.pool.count = self.random.below(70) as u16,
             1 => state.pool.pages = self.random.below(4200) as u16,
-            2 => state.pool.hand = self.random.below(256) as u8,
+            2 => state.pool.hand = FrameIndex(self.random.below(256) as u8),
             3 => state.frames.truncate(PAGE_SIZE * 3 - 1),
             _ => state.store.extend([0; PAGE_SIZE]),
         }
@@ -173,11 +170,11 @@ impl Trial {
         let (small, page) = (self.random.below(80) as u8, self.page(state));
         let record = &mut state.pool.records[frame];
         match self.random.below(7) {
-            0 => record.used = !record.used,
-            1 => record.dirty = !record.dirty,
+            0 => record.used ^= 1,
+            1 => record.dirty ^= 1,
             2 => record.usage = small % 5,
             3 => record.slot = small % 18,
-            4 => record.parent = small,
+            4 => record.parent = FrameIndex(small),
             5 => record.pins = u16::MAX,
             _ => record.page = page,
         }

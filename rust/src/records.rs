@@ -6,39 +6,103 @@ pub const PAGE_SIZE: usize = 256;
 pub const SLOTS: usize = 16;
 pub const PAYLOAD_START: usize = 64;
 pub const PAYLOAD_SIZE: usize = 192;
+/// The least F.
 pub const LEAST_FRAMES: usize = 2;
+/// The largest F.
 pub const MOST_FRAMES: usize = 64;
+/// The largest N.
 pub const MOST_PAGES: usize = 4096;
 /// Document 01: the largest heat.
 pub const MAX_USAGE: u8 = 3;
 pub const MAX_PINS: u16 = 65_535;
 
-/// The two kinds of count. They differ in width, so the compiler keeps them apart.
-pub type FrameIndex = u8;
-pub type PageNumber = u16;
+/// Which page of the store. The root is page 0.
+#[repr(transparent)]
+#[derive(Clone, Copy, Debug, Default, PartialEq, Eq, PartialOrd, Ord, Hash)]
+pub struct PageNumber(pub u16);
+
+/// Which frame. The root's is frame 0.
+#[repr(transparent)]
+#[derive(Clone, Copy, Debug, Default, PartialEq, Eq, PartialOrd, Ord, Hash)]
+pub struct FrameIndex(pub u8);
+
+impl From<PageNumber> for usize {
+    fn from(page: PageNumber) -> usize {
+        page.0.into()
+    }
+}
+
+impl From<FrameIndex> for usize {
+    fn from(frame: FrameIndex) -> usize {
+        frame.0.into()
+    }
+}
+
+impl From<PageNumber> for u32 {
+    fn from(page: PageNumber) -> u32 {
+        page.0.into()
+    }
+}
+
+impl From<FrameIndex> for u32 {
+    fn from(frame: FrameIndex) -> u32 {
+        frame.0.into()
+    }
+}
+
+impl fmt::Display for PageNumber {
+    fn fmt(&self, f: &mut fmt::Formatter) -> fmt::Result {
+        self.0.fmt(f)
+    }
+}
+
+impl fmt::Display for FrameIndex {
+    fn fmt(&self, f: &mut fmt::Formatter) -> fmt::Result {
+        self.0.fmt(f)
+    }
+}
 
 /// What is known of one frame. The all-zero record is the empty frame's.
 #[repr(C)]
 #[derive(Clone, Copy, Debug, Default, PartialEq, Eq)]
 pub struct FrameRecord {
-    pub used: bool,
-    pub dirty: bool,
-    /// Document 01: heat.
+    /// 1 where the frame holds a page, otherwise 0.
+    pub used: u8,
+    /// 1 where the page was changed since it was loaded or settled, otherwise 0.
+    pub dirty: u8,
+    /// The usage count of the clock sweep, 0 to 3. Document 01: heat.
     pub usage: u8,
-    /// Document 01: parent slot.
+    /// The slot of the parent's word that names the page. Document 01: parent slot.
     pub slot: u8,
-    /// Document 01: parent frame.
+    /// The parent's frame. Document 01: parent frame.
     pub parent: FrameIndex,
     pub pins: u16,
     pub page: PageNumber,
 }
 
 impl FrameRecord {
-    pub const EMPTY: FrameRecord =
-        FrameRecord { used: false, dirty: false, usage: 0, slot: 0, parent: 0, pins: 0, page: 0 };
+    pub const EMPTY: FrameRecord = FrameRecord {
+        used: 0,
+        dirty: 0,
+        usage: 0,
+        slot: 0,
+        parent: FrameIndex(0),
+        pins: 0,
+        page: PageNumber(0),
+    };
+
+    /// Whether the frame holds a page.
+    pub const fn is_used(&self) -> bool {
+        self.used == 1
+    }
+
+    /// Whether the page was changed since it was loaded or settled.
+    pub const fn is_dirty(&self) -> bool {
+        self.dirty == 1
+    }
 }
 
-/// The pool's records, with F, N and the clock hand.
+/// The pool's records: one for each of up to 64 frames, F, N and the clock hand.
 #[repr(C)]
 #[derive(Clone, Copy, PartialEq, Eq)]
 pub struct Pool {
@@ -51,15 +115,33 @@ pub struct Pool {
 }
 
 impl Pool {
-    pub const ZERO: Pool = Pool { records: [FrameRecord::EMPTY; MOST_FRAMES], count: 0, pages: 0, hand: 0 };
+    /// The records of no pool: every call but open is refused.
+    pub const ZERO: Pool =
+        Pool { records: [FrameRecord::EMPTY; MOST_FRAMES], count: 0, pages: 0, hand: FrameIndex(0) };
 
     /// The record of a frame.
+    ///
+    /// # Panics
+    ///
+    /// From frame 64 on.
     pub fn record(&self, frame: FrameIndex) -> &FrameRecord {
         &self.records[usize::from(frame)]
     }
 
+    /// The record of a frame, to be altered.
+    ///
+    /// # Panics
+    ///
+    /// From frame 64 on.
     pub fn record_mut(&mut self, frame: FrameIndex) -> &mut FrameRecord {
         &mut self.records[usize::from(frame)]
+    }
+}
+
+/// All zero.
+impl Default for Pool {
+    fn default() -> Pool {
+        Pool::ZERO
     }
 }
 
@@ -76,9 +158,9 @@ impl fmt::Debug for Pool {
     }
 }
 
-/// A pinned page: its frame and its number.
+/// A pinned page: its frame and its number. It is good until the page's pins are gone.
 #[repr(C)]
-#[derive(Clone, Copy, Debug, PartialEq, Eq)]
+#[derive(Clone, Copy, Debug, PartialEq, Eq, Hash)]
 pub struct Handle {
     pub frame: FrameIndex,
     pub page: PageNumber,

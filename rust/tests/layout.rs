@@ -1,21 +1,21 @@
 //! Reads back every field of the structs that the library fills with values of their own.
 use pagepool::raw;
-use pagepool::{FrameRecord, Handle, Pool, MOST_FRAMES};
+use pagepool::{FrameIndex, FrameRecord, Handle, PageNumber, Pool, MOST_FRAMES};
 
 fn expect_pool(pool: Pool) {
-    assert_eq!((pool.count, pool.pages, pool.hand), (3001, 3002, 200));
+    assert_eq!((pool.count, pool.pages, pool.hand), (3001, 3002, FrameIndex(200)));
     for i in 0..MOST_FRAMES as u8 {
         let wide = u16::from(i);
         let expected = FrameRecord {
-            used: i % 2 == 1,
-            dirty: i % 3 == 1,
+            used: u8::from(i % 2 == 1),
+            dirty: u8::from(i % 3 == 1),
             usage: i,
             slot: 64 + i,
-            parent: 128 + i,
+            parent: FrameIndex(128 + i),
             pins: 1000 + wide,
-            page: 2000 + wide,
+            page: PageNumber(2000 + wide),
         };
-        assert_eq!(*pool.record(i), expected, "record {i}");
+        assert_eq!(*pool.record(FrameIndex(i)), expected, "record {i}");
     }
 }
 
@@ -31,7 +31,7 @@ fn done() {
 fn fixed() {
     let fixed = unsafe { raw::pool_layout_fixed() };
     assert_eq!(fixed.refusal, 202);
-    assert_eq!(fixed.handle, Handle { frame: 203, page: 4001 });
+    assert_eq!(fixed.handle, Handle { frame: FrameIndex(203), page: PageNumber(4001) });
     assert_eq!(fixed.looks, 4002);
     expect_pool(fixed.pool);
 }
@@ -39,13 +39,13 @@ fn fixed() {
 #[test]
 fn named() {
     let named = unsafe { raw::pool_layout_named() };
-    assert_eq!((named.refusal, named.page), (204, 4003));
+    assert_eq!((named.refusal, named.page), (204, PageNumber(4003)));
 }
 
 #[test]
 fn found() {
     let found = unsafe { raw::pool_layout_found() };
-    assert_eq!((found.refusal, found.present, found.frame), (205, true, 206));
+    assert_eq!((found.refusal, found.present, found.frame), (205, true, FrameIndex(206)));
 }
 
 #[test]

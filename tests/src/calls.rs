@@ -1,6 +1,6 @@
 //! A call with its arguments as a value, and its answer.
 use crate::pool::{Fixed, Machine, Place, Refusal};
-use crate::records::{Handle, Pool, State};
+use crate::records::{Handle, PageNumber, Pool, State};
 
 #[derive(Clone, Debug, PartialEq, Eq)]
 pub enum Call {
@@ -81,14 +81,20 @@ impl Call {
             Call::Fix(handle, slot) => answer(machine.fix(state, *handle, *slot), Answer::Fixed),
             Call::Unfix(handle) => answer(machine.unfix(state, *handle), done),
             Call::Show(handle) => answer(machine.show(state, *handle), Answer::Place),
-            Call::Peek(page) => answer(machine.peek(state, *page), Answer::Place),
-            Call::Word(handle, slot) => answer(machine.word(state, *handle, *slot), Answer::Number),
+            Call::Peek(page) => answer(machine.peek(state, PageNumber(*page)), Answer::Place),
+            Call::Word(handle, slot) => {
+                answer(machine.word(state, *handle, *slot), |page| Answer::Number(page.0))
+            }
             Call::Write(handle, offset, bytes) => answer(machine.write(state, *handle, *offset, bytes), done),
-            Call::Link(handle, slot, page) => answer(machine.link(state, *handle, *slot, *page), done),
+            Call::Link(handle, slot, page) => {
+                answer(machine.link(state, *handle, *slot, PageNumber(*page)), done)
+            }
             Call::Unlink(handle, slot) => answer(machine.unlink(state, *handle, *slot), done),
-            Call::Evict(page) => answer(machine.evict(state, *page), done),
+            Call::Evict(page) => answer(machine.evict(state, PageNumber(*page)), done),
             Call::Settle => answer(machine.settle(state), done),
-            Call::Find(page) => answer(machine.find(state, *page), Answer::Frame),
+            Call::Find(page) => answer(machine.find(state, PageNumber(*page)), |frame| {
+                Answer::Frame(frame.map(|frame| frame.0))
+            }),
         }
     }
 }

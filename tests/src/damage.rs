@@ -4,7 +4,7 @@ mod records;
 mod shapes;
 
 use crate::random::Random;
-use crate::records::State;
+use crate::records::{FrameIndex, State};
 
 type Change = fn(&mut Random, &mut State);
 
@@ -57,6 +57,6 @@ fn apply(random: &mut Random, state: &mut State, changes: &[Change]) {
 }
 
 /// An occupied frame, if there is one.
-fn occupied(random: &mut Random, state: &State) -> Option<u8> {
+fn occupied(random: &mut Random, state: &State) -> Option<FrameIndex> {
     random.choose(state.occupied().map(|(frame, _)| frame))
 }

@@ -1,6 +1,6 @@
 //! The linked library `pagepool`, behind the same trait as the model.
 use crate::pool::{Buffer, Fixed, Machine, Place, Refusal};
-use crate::records::{Handle, Pool, State};
+use crate::records::{self, FrameIndex, Handle, PageNumber, Pool, State};
 use pagepool::raw;
 
 /// Lends a state to a function that may change it, or to one that only reads.
@@ -43,7 +43,7 @@ fn done(answer: raw::Done, state: &mut State) -> Result<(), Refusal> {
 fn fixed(answer: raw::Fixed, state: &mut State) -> Result<Fixed, Refusal> {
     state.pool = answer.pool;
     let (handle, looks) = (answer.handle, answer.looks);
-    let zero = (handle.frame, handle.page, looks) == (0, 0, 0);
+    let zero = (handle, looks) == (records::handle(0, 0), 0);
     unless_refused(answer.refusal, zero, Fixed { handle, looks })
 }
 
@@ -80,20 +80,20 @@ impl Machine for Library {
         place(lend!(state, pool_show, handle))
     }
 
-    fn peek(&self, state: &State, page: u16) -> Result<Place, Refusal> {
+    fn peek(&self, state: &State, page: PageNumber) -> Result<Place, Refusal> {
         place(lend!(state, pool_peek, page))
     }
 
-    fn word(&self, state: &State, handle: Handle, slot: usize) -> Result<u16, Refusal> {
+    fn word(&self, state: &State, handle: Handle, slot: usize) -> Result<PageNumber, Refusal> {
         let named = lend!(state, pool_word, handle, slot);
-        unless_refused(named.refusal, named.page == 0, named.page)
+        unless_refused(named.refusal, named.page == PageNumber(0), named.page)
     }
 
     fn write(&self, state: &mut State, handle: Handle, offset: usize, bytes: &[u8]) -> Result<(), Refusal> {
         done(lend!(mut state, pool_write, handle, offset, bytes.as_ptr(), bytes.len()), state)
     }
 
-    fn link(&self, state: &mut State, handle: Handle, slot: usize, page: u16) -> Result<(), Refusal> {
+    fn link(&self, state: &mut State, handle: Handle, slot: usize, page: PageNumber) -> Result<(), Refusal> {
         done(lend!(mut state, pool_link, handle, slot, page), state)
     }
 
@@ -101,7 +101,7 @@ impl Machine for Library {
         done(lend!(mut state, pool_unlink, handle, slot), state)
     }
 
-    fn evict(&self, state: &mut State, page: u16) -> Result<(), Refusal> {
+    fn evict(&self, state: &mut State, page: PageNumber) -> Result<(), Refusal> {
         done(lend!(mut state, pool_evict, page), state)
     }
 
@@ -109,9 +109,9 @@ impl Machine for Library {
         done(lend!(mut state, pool_settle), state)
     }
 
-    fn find(&self, state: &State, page: u16) -> Result<Option<u8>, Refusal> {
+    fn find(&self, state: &State, page: PageNumber) -> Result<Option<FrameIndex>, Refusal> {
         let found = lend!(state, pool_find, page);
-        let zero = !found.present && found.frame == 0;
+        let zero = !found.present && found.frame == FrameIndex(0);
         unless_refused(found.refusal, zero, found.present.then_some(found.frame))
     }
 }

@@ -5,8 +5,8 @@ mod rules;
 
 use crate::pool::{Buffer, Fixed, Machine, Place, Refusal};
 use crate::records::{
-    page_of, page_of_mut, put_word, word_in, FrameRecord, Handle, Pool, State, MAX_USAGE, PAGE_SIZE,
-    PAYLOAD_SIZE, PAYLOAD_START, SWIZZLE_BIT,
+    page_of, page_of_mut, put_word, word_in, FrameIndex, FrameRecord, Handle, PageNumber, Pool, State,
+    MAX_USAGE, PAGE_SIZE, PAYLOAD_SIZE, PAYLOAD_START, SWIZZLE_BIT,
 };
 use rules::rule;
 
@@ -30,22 +30,22 @@ fn read(word: u32) -> Reading {
     }
 }
 
-fn swizzled_to(frame: u8) -> u32 {
+fn swizzled_to(frame: FrameIndex) -> u32 {
     SWIZZLE_BIT + u32::from(frame)
 }
 
 /// The word in a slot of a frame.
-fn frame_word(frames: &[u8], frame: u8, slot: usize) -> u32 {
+fn frame_word(frames: &[u8], frame: FrameIndex, slot: usize) -> u32 {
     word_in(page_of(frames, usize::from(frame)), slot)
 }
 
 /// The frames that hold a page.
-fn occupied(pool: &Pool) -> impl Iterator<Item = u8> + Clone + '_ {
-    (0..pool.count as u8).filter(|frame| pool.record(*frame).used)
+fn occupied(pool: &Pool) -> impl Iterator<Item = FrameIndex> + Clone + '_ {
+    (0..pool.count as u8).map(FrameIndex).filter(|frame| pool.record(*frame).is_used())
 }
 
 /// The frame that holds a page.
-fn frame_of(pool: &Pool, page: u16) -> Option<u8> {
+fn frame_of(pool: &Pool, page: PageNumber) -> Option<FrameIndex> {
     occupied(pool).find(|frame| pool.record(*frame).page == page)
 }
 
@@ -62,7 +62,7 @@ fn payload_in(buffer: Buffer, index: usize) -> Place {
 }
 
 /// One pin and one usage more for the page in a frame.
-fn pin(state: &mut State, frame: u8) -> Result<Fixed, Refusal> {
+fn pin(state: &mut State, frame: FrameIndex) -> Result<Fixed, Refusal> {
     let record = state.pool.record_mut(frame);
     rule(13, record.pins < u16::MAX)?;
     record.pins += 1;
@@ -74,7 +74,7 @@ fn pin(state: &mut State, frame: u8) -> Result<Fixed, Refusal> {
 /// Puts a word into a slot of the handle's page, which is then dirty.
 fn put_link(state: &mut State, handle: Handle, slot: usize, word: u32) {
     put_word(page_of_mut(&mut state.frames, handle.frame.into()), slot, word);
-    state.pool.record_mut(handle.frame).dirty = true;
+    state.pool.record_mut(handle.frame).dirty = 1;
 }
 
 fn opened(frames: &mut [u8], store: &[u8]) -> Result<Pool, Refusal> {
@@ -84,7 +84,7 @@ fn opened(frames: &mut [u8], store: &[u8]) -> Result<Pool, Refusal> {
     let mut pool = Pool::ZERO;
     pool.count = (frames.len() / PAGE_SIZE) as u16;
     pool.pages = (store.len() / PAGE_SIZE) as u16;
-    pool.records[0] = FrameRecord { used: true, ..FrameRecord::EMPTY };
+    pool.records[0] = FrameRecord { used: 1, ..FrameRecord::EMPTY };
     Ok(pool)
 }
 
@@ -98,7 +98,7 @@ impl Machine for Model {
 
     fn root(&self, state: &mut State) -> Result<Fixed, Refusal> {
         rules::state(state)?;
-        pin(state, 0)
+        pin(state, FrameIndex(0))
     }
 
     fn fix(&self, state: &mut State, handle: Handle, slot: usize) -> Result<Fixed, Refusal> {
@@ -107,9 +107,9 @@ impl Machine for Model {
         rules::slot(slot)?;
         match read(frame_word(&state.frames, handle.frame, slot)) {
             Reading::Nothing => Err(7),
-            Reading::Frame(frame) => pin(state, frame as u8),
+            Reading::Frame(frame) => pin(state, FrameIndex(frame as u8)),
             Reading::Page(number) => {
-                let page = number as u16;
+                let page = PageNumber(number as u16);
                 rules::loadable(state, page)?;
                 let (frame, looks) = moves::make_room(state)?;
                 moves::load(state, page, frame, handle.frame, slot);
@@ -131,7 +131,7 @@ impl Machine for Model {
         Ok(payload_in(Buffer::Frames, handle.frame.into()))
     }
 
-    fn peek(&self, state: &State, page: u16) -> Result<Place, Refusal> {
+    fn peek(&self, state: &State, page: PageNumber) -> Result<Place, Refusal> {
         rules::state(state)?;
         rules::page(&state.pool, page)?;
         Ok(match frame_of(&state.pool, page) {
@@ -140,12 +140,12 @@ impl Machine for Model {
         })
     }
 
-    fn word(&self, state: &State, handle: Handle, slot: usize) -> Result<u16, Refusal> {
+    fn word(&self, state: &State, handle: Handle, slot: usize) -> Result<PageNumber, Refusal> {
         rules::state(state)?;
         rules::handle(&state.pool, handle)?;
         rules::slot(slot)?;
         let word = frame_word(&state.frames, handle.frame, slot);
-        Ok(unswizzled(&state.pool, word) as u16)
+        Ok(PageNumber(unswizzled(&state.pool, word) as u16))
     }
 
     fn write(&self, state: &mut State, handle: Handle, offset: usize, bytes: &[u8]) -> Result<(), Refusal> {
@@ -156,16 +156,16 @@ impl Machine for Model {
         page_of_mut(&mut state.frames, handle.frame.into())[start..start + bytes.len()]
             .copy_from_slice(bytes);
         if !bytes.is_empty() {
-            state.pool.record_mut(handle.frame).dirty = true;
+            state.pool.record_mut(handle.frame).dirty = 1;
         }
         Ok(())
     }
 
-    fn link(&self, state: &mut State, handle: Handle, slot: usize, page: u16) -> Result<(), Refusal> {
+    fn link(&self, state: &mut State, handle: Handle, slot: usize, page: PageNumber) -> Result<(), Refusal> {
         rules::state(state)?;
         rules::handle(&state.pool, handle)?;
         rules::slot(slot)?;
-        rule(6, page != 0)?;
+        rule(6, page != PageNumber(0))?;
         rules::page(&state.pool, page)?;
         rule(8, frame_word(&state.frames, handle.frame, slot) == 0)?;
         rules::unnamed(state, page)?;
@@ -179,13 +179,13 @@ impl Machine for Model {
         rules::slot(slot)?;
         let word = frame_word(&state.frames, handle.frame, slot);
         rule(7, word != 0)?;
-        let page = unswizzled(&state.pool, word) as u16;
+        let page = PageNumber(unswizzled(&state.pool, word) as u16);
         rule(10, frame_of(&state.pool, page).is_none())?;
         put_link(state, handle, slot, 0);
         Ok(())
     }
 
-    fn evict(&self, state: &mut State, page: u16) -> Result<(), Refusal> {
+    fn evict(&self, state: &mut State, page: PageNumber) -> Result<(), Refusal> {
         rules::state(state)?;
         rules::page(&state.pool, page)?;
         let frame = frame_of(&state.pool, page).ok_or(11)?;
@@ -196,14 +196,14 @@ impl Machine for Model {
 
     fn settle(&self, state: &mut State) -> Result<(), Refusal> {
         rules::state(state)?;
-        for frame in 0..state.pool.count as u8 {
+        for frame in (0..state.pool.count as u8).map(FrameIndex) {
             moves::write_out(state, frame);
-            state.pool.record_mut(frame).dirty = false;
+            state.pool.record_mut(frame).dirty = 0;
         }
         Ok(())
     }
 
-    fn find(&self, state: &State, page: u16) -> Result<Option<u8>, Refusal> {
+    fn find(&self, state: &State, page: PageNumber) -> Result<Option<FrameIndex>, Refusal> {
         rules::state(state)?;
         rules::page(&state.pool, page)?;
         Ok(frame_of(&state.pool, page))

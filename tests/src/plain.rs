@@ -6,7 +6,8 @@ use crate::calls::{Answer, Call};
 use crate::ensure;
 use crate::pool::{Machine, Place};
 use crate::records::{
-    page_of, page_of_mut, put_word, word_in, Handle, State, PAGE_SIZE, PAYLOAD_START, SLOTS,
+    page_of, page_of_mut, put_word, word_in, FrameIndex, Handle, PageNumber, State, PAGE_SIZE, PAYLOAD_START,
+    SLOTS,
 };
 use residency::Residency;
 
@@ -21,7 +22,7 @@ pub type Check = Result<(), String>;
 struct Balance {
     fixes: u64,
     unfixes: u64,
-    frame: u8,
+    frame: FrameIndex,
 }
 
 /// The plain map with no frames, and the balance of pins.
@@ -76,21 +77,21 @@ impl Plain {
         }
     }
 
-    fn page(&self, page: u16) -> &[u8] {
+    fn page(&self, page: PageNumber) -> &[u8] {
         page_of(&self.map, page.into())
     }
 
-    fn page_mut(&mut self, page: u16) -> &mut [u8] {
+    fn page_mut(&mut self, page: PageNumber) -> &mut [u8] {
         page_of_mut(&mut self.map, page.into())
     }
 
     /// The page that a slot of a page names, 0 for none.
-    fn named(&self, page: u16, slot: usize) -> u16 {
-        word_in(self.page(page), slot) as u16
+    fn named(&self, page: PageNumber, slot: usize) -> PageNumber {
+        PageNumber(word_in(self.page(page), slot) as u16)
     }
 
     /// "the accepted roots and fixes that answered its number outnumber the accepted unfixes of it"
-    fn pinned(&self, page: u16) -> bool {
+    fn pinned(&self, page: PageNumber) -> bool {
         let balance = self.balance[usize::from(page)];
         balance.fixes > balance.unfixes
     }
@@ -104,12 +105,14 @@ impl Plain {
             (Call::Show(handle), Answer::Place(place)) => {
                 self.check_payload(state, handle.page, place)?;
             }
-            (Call::Peek(page), Answer::Place(place)) => self.check_payload(state, *page, place)?,
+            (Call::Peek(page), Answer::Place(place)) => {
+                self.check_payload(state, PageNumber(*page), place)?
+            }
             (Call::Word(handle, slot), Answer::Number(page)) => {
-                ensure!(*page == self.named(handle.page, *slot), "word gives {page}");
+                ensure!(PageNumber(*page) == self.named(handle.page, *slot), "word gives {page}");
             }
             (Call::Root, Answer::Fixed(fixed)) => {
-                self.check_handle(machine, state, 0, fixed.handle)?;
+                self.check_handle(machine, state, PageNumber(0), fixed.handle)?;
             }
             (Call::Fix(handle, slot), Answer::Fixed(fixed)) => {
                 let page = self.named(handle.page, *slot);
@@ -123,13 +126,13 @@ impl Plain {
         Ok(())
     }
 
-    fn check_payload(&self, state: &State, page: u16, place: &Place) -> Check {
+    fn check_payload(&self, state: &State, page: PageNumber, place: &Place) -> Check {
         let payload = &self.page(page)[PAYLOAD_START..];
         ensure!(place.bytes(state) == Some(payload), "page {page} shown at {place:?}");
         Ok(())
     }
 
-    fn check_handle(&self, machine: &impl Machine, state: &State, page: u16, handle: Handle) -> Check {
+    fn check_handle(&self, machine: &impl Machine, state: &State, page: PageNumber, handle: Handle) -> Check {
         ensure!(handle.page == page, "{handle:?} for page {page}");
         let found = machine.find(state, page);
         ensure!(found == Ok(Some(handle.frame)), "{handle:?} found at {found:?}");
@@ -166,7 +169,7 @@ impl Plain {
             return false;
         }
         let page = self.named(handle.page, slot);
-        page != 0 && machine.find(state, page) == Ok(None)
+        page != PageNumber(0) && machine.find(state, page) == Ok(None)
     }
 
     /// "none is empty and every resident page but the root is pinned or has a resident child"
@@ -174,8 +177,9 @@ impl Plain {
         let has_child = |page| {
             (0..SLOTS)
                 .map(|slot| self.named(page, slot))
-                .any(|child| child != 0 && resident.frame(child).is_some())
+                .any(|child| child != PageNumber(0) && resident.frame(child).is_some())
         };
-        resident.is_full() && resident.pages().all(|page| page == 0 || self.pinned(page) || has_child(page))
+        resident.is_full()
+            && resident.pages().all(|page| page == PageNumber(0) || self.pinned(page) || has_child(page))
     }
 }

@@ -1,5 +1,5 @@
 //! The machine under test: document 01's thirteen calls, behind one trait.
-use crate::records::{Handle, Pool, State};
+use crate::records::{FrameIndex, Handle, PageNumber, Pool, State};
 
 /// The number of the first broken rule.
 pub type Refusal = u8;
@@ -43,15 +43,15 @@ pub trait Machine {
     fn fix(&self, state: &mut State, handle: Handle, slot: usize) -> Result<Fixed, Refusal>;
     fn unfix(&self, state: &mut State, handle: Handle) -> Result<(), Refusal>;
     fn show(&self, state: &State, handle: Handle) -> Result<Place, Refusal>;
-    fn peek(&self, state: &State, page: u16) -> Result<Place, Refusal>;
-    fn word(&self, state: &State, handle: Handle, slot: usize) -> Result<u16, Refusal>;
+    fn peek(&self, state: &State, page: PageNumber) -> Result<Place, Refusal>;
+    fn word(&self, state: &State, handle: Handle, slot: usize) -> Result<PageNumber, Refusal>;
     fn write(&self, state: &mut State, handle: Handle, offset: usize, bytes: &[u8]) -> Result<(), Refusal>;
-    fn link(&self, state: &mut State, handle: Handle, slot: usize, page: u16) -> Result<(), Refusal>;
+    fn link(&self, state: &mut State, handle: Handle, slot: usize, page: PageNumber) -> Result<(), Refusal>;
     fn unlink(&self, state: &mut State, handle: Handle, slot: usize) -> Result<(), Refusal>;
-    fn evict(&self, state: &mut State, page: u16) -> Result<(), Refusal>;
+    fn evict(&self, state: &mut State, page: PageNumber) -> Result<(), Refusal>;
     fn settle(&self, state: &mut State) -> Result<(), Refusal>;
     /// The frame, or none for 'absent'.
-    fn find(&self, state: &State, page: u16) -> Result<Option<u8>, Refusal>;
+    fn find(&self, state: &State, page: PageNumber) -> Result<Option<FrameIndex>, Refusal>;
 }
 
 #[cfg(feature = "host")]

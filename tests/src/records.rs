@@ -1,7 +1,7 @@
 //! The pool's records and the buffers beside them, laid out as at the C boundary.
 pub use pagepool::{
-    FrameRecord, Handle, Pool, LEAST_FRAMES, MAX_USAGE, MOST_FRAMES, MOST_PAGES, PAGE_SIZE, PAYLOAD_SIZE,
-    PAYLOAD_START, SLOTS,
+    FrameIndex, FrameRecord, Handle, PageNumber, Pool, LEAST_FRAMES, MAX_USAGE, MOST_FRAMES, MOST_PAGES,
+    PAGE_SIZE, PAYLOAD_SIZE, PAYLOAD_START, SLOTS,
 };
 
 pub const SWIZZLE_BIT: u32 = 1 << 31;
@@ -21,12 +21,15 @@ impl State {
     }
 
     /// Those of them that hold a page, with their records.
-    pub fn occupied(&self) -> impl Iterator<Item = (u8, &FrameRecord)> {
-        (0..).zip(&self.pool.records[..self.frame_count()]).filter(|(_, record)| record.used)
+    pub fn occupied(&self) -> impl Iterator<Item = (FrameIndex, &FrameRecord)> {
+        (0..)
+            .map(FrameIndex)
+            .zip(&self.pool.records[..self.frame_count()])
+            .filter(|(_, record)| record.is_used())
     }
 
     /// The words of a frame, by slot.
-    pub fn words(&self, frame: u8) -> impl Iterator<Item = u32> + '_ {
+    pub fn words(&self, frame: FrameIndex) -> impl Iterator<Item = u32> + '_ {
         let page = page_of(&self.frames, frame.into());
         (0..SLOTS).map(|slot| word_in(page, slot))
     }
@@ -51,6 +54,11 @@ fn first_difference(a: &[u8], b: &[u8]) -> Option<String> {
         Some(at) => format!("byte {at}: {} and {}", a[at], b[at]),
         None => format!("the end: {} and {} bytes", a.len(), b.len()),
     })
+}
+
+/// The handle of a page in a frame.
+pub const fn handle(frame: u8, page: u16) -> Handle {
+    Handle { frame: FrameIndex(frame), page: PageNumber(page) }
 }
 
 /// The 256 bytes of a page of the store, or of a frame.

@@ -2,7 +2,8 @@
 use crate::calls::Call;
 use crate::random::Random;
 use crate::records::{
-    word_in, FrameRecord, Handle, State, PAGE_SIZE, PAYLOAD_SIZE, PAYLOAD_START, SLOTS, SWIZZLE_BIT,
+    self, word_in, FrameIndex, FrameRecord, Handle, PageNumber, State, PAGE_SIZE, PAYLOAD_SIZE,
+    PAYLOAD_START, SLOTS, SWIZZLE_BIT,
 };
 
 /// How often each call is made, by `Call::index`.
@@ -95,20 +96,20 @@ fn handle(random: &mut Random, state: &State) -> Handle {
 
 fn unpinned_handle(random: &mut Random, state: &State) -> Handle {
     let handle = handle_where(random, state, |record| record.pins == 0);
-    handle.unwrap_or(Handle { frame: 0, page: 0 })
+    handle.unwrap_or(records::handle(0, 0))
 }
 
 /// A stale or malformed handle: another frame or page, or no pins.
 fn spoilt_handle(random: &mut Random, state: &State, good: Handle) -> Handle {
     let (count, pages) = (state.pool.count, state.pool.pages);
-    let frame = random.below(state.frame_count().max(1)) as u8;
+    let frame = FrameIndex(random.below(state.frame_count().max(1)) as u8);
     match random.below(6) {
         0 => unpinned_handle(random, state),
         1 => Handle { frame, ..good },
-        2 => Handle { frame: random.pick(&[count as u8, 63, 64, 128, 255]), ..good },
-        3 => Handle { page: random.pick(&[pages, pages ^ 1, 4096, 65535]), ..good },
-        4 => Handle { page: random.below(usize::from(pages).max(1)) as u16, ..good },
-        _ => Handle { frame, page: 0 },
+        2 => Handle { frame: FrameIndex(random.pick(&[count as u8, 63, 64, 128, 255])), ..good },
+        3 => Handle { page: PageNumber(random.pick(&[pages, pages ^ 1, 4096, 65535])), ..good },
+        4 => Handle { page: PageNumber(random.below(usize::from(pages).max(1)) as u16), ..good },
+        _ => Handle { frame, page: PageNumber(0) },
     }
 }
 
@@ -118,7 +119,7 @@ fn is_number(word: u32) -> bool {
 }
 
 /// The slots of a frame whose words pass a test.
-fn slots_where(state: &State, frame: u8, test: fn(u32) -> bool) -> impl Iterator<Item = usize> + '_ {
+fn slots_where(state: &State, frame: FrameIndex, test: fn(u32) -> bool) -> impl Iterator<Item = usize> + '_ {
     state.words(frame).enumerate().filter(move |(_, word)| test(*word)).map(|(slot, _)| slot)
 }
 
@@ -176,7 +177,7 @@ fn any_page(random: &mut Random, state: &State) -> u16 {
 /// A page number, as often as not of a resident page.
 fn page(random: &mut Random, state: &State) -> u16 {
     match handle_where(random, state, |_| true) {
-        Some(handle) if random.percent(50) => handle.page,
+        Some(handle) if random.percent(50) => handle.page.0,
         _ => any_page(random, state),
     }
 }
@@ -184,9 +185,9 @@ fn page(random: &mut Random, state: &State) -> u16 {
 /// A page that can be evicted, most of the time.
 fn evict_page(random: &mut Random, state: &State) -> u16 {
     let open = state.occupied().filter(|(frame, record)| {
-        *frame != 0 && record.pins == 0 && state.words(*frame).all(|word| word < SWIZZLE_BIT)
+        *frame != FrameIndex(0) && record.pins == 0 && state.words(*frame).all(|word| word < SWIZZLE_BIT)
     });
-    match random.choose(open.map(|(_, record)| record.page)) {
+    match random.choose(open.map(|(_, record)| record.page.0)) {
         Some(page) if random.percent(60) => page,
         _ => page(random, state),
     }
@@ -205,7 +206,7 @@ fn link_page(random: &mut Random, state: &State) -> u16 {
 
 /// The pages that were unlinked from a resident page since it was written out.
 fn unlinked(state: &State) -> Vec<u16> {
-    let stored = |page: u16| state.store.chunks_exact(PAGE_SIZE).nth(page.into());
+    let stored = |page: PageNumber| state.store.chunks_exact(PAGE_SIZE).nth(page.into());
     let mut pages = Vec::new();
     for (frame, record) in state.occupied() {
         if let Some(page) = stored(record.page) {
@@ -220,7 +221,7 @@ fn unlinked(state: &State) -> Vec<u16> {
 fn seems_named(state: &State, page: u16) -> bool {
     let mut stored = state.store.chunks_exact(PAGE_SIZE);
     stored.any(|other| (0..SLOTS).any(|slot| word_in(other, slot) == page.into()))
-        || state.occupied().any(|(_, record)| record.page == page)
+        || state.occupied().any(|(_, record)| record.page.0 == page)
 }
 
 /// A write at or about the edges of the payload, at times of the bytes that stand there.

@@ -3,7 +3,9 @@ use crate::calls::{Answer, Call};
 use crate::coverage::Coverage;
 use crate::lockstep::step;
 use crate::pool::UnderTest;
-use crate::records::{page_of, page_of_mut, put_word, word_in, FrameRecord, Handle, Pool, State, PAGE_SIZE};
+use crate::records::{
+    page_of, page_of_mut, put_word, word_in, FrameIndex, FrameRecord, Handle, Pool, State, PAGE_SIZE,
+};
 
 /// A word of a stored page: the page, the slot, and the page that it names.
 pub type Link = (usize, usize, u32);
@@ -62,7 +64,7 @@ impl Trial {
     }
 
     pub fn record(&mut self, frame: u8) -> &mut FrameRecord {
-        self.state.pool.record_mut(frame)
+        self.state.pool.record_mut(FrameIndex(frame))
     }
 
     pub fn frame_word(&self, frame: usize, slot: usize) -> u32 {

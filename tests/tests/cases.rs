@@ -3,7 +3,7 @@ use pool_tests::calls::{Answer, Call};
 use pool_tests::coverage::Coverage;
 use pool_tests::history::History;
 use pool_tests::pool::{Fixed, UnderTest};
-use pool_tests::records::{page_of, Handle, State};
+use pool_tests::records::{handle, page_of, FrameIndex, Handle, PageNumber, State};
 use pool_tests::trial::Trial;
 
 /// F 4 and N 16 with pages 5, 6 and 7 in frames 1, 2 and 3, under slots 1, 2 and 3 of the root; the root alone is pinned.
@@ -28,7 +28,7 @@ fn a_word_names_a_frame() {
     assert_eq!(word_bytes(&trial, 3), [0x03, 0x00, 0x00, 0x80]);
     assert_eq!(trial.call(Call::Find(7)), Answer::Frame(Some(3)));
     assert_eq!(trial.call(Call::Word(root, 3)), Answer::Number(7));
-    assert_eq!(trial.fix(root, 3), Handle { frame: 3, page: 7 });
+    assert_eq!(trial.fix(root, 3), handle(3, 7));
 }
 
 #[test]
@@ -38,7 +38,7 @@ fn a_word_names_a_page() {
     trial.accept(Call::Link(root, 3, 7));
     assert_eq!(word_bytes(&trial, 3), [0x07, 0x00, 0x00, 0x00]);
     assert_eq!(trial.call(Call::Word(root, 3)), Answer::Number(7));
-    assert_eq!(trial.fix(root, 3).page, 7);
+    assert_eq!(trial.fix(root, 3).page, PageNumber(7));
 }
 
 #[test]
@@ -46,7 +46,7 @@ fn an_image_names_pages() {
     let mut trial = Trial::open(4, 16, &[]);
     let root = trial.root();
     trial.accept(Call::Link(root, 0, 7));
-    assert_eq!(trial.fix(root, 0).frame, 1);
+    assert_eq!(trial.fix(root, 0).frame, FrameIndex(1));
     assert_eq!(trial.frame_word(0, 0), 0x8000_0001);
     trial.accept(Call::Settle);
     assert_eq!(trial.stored_word(0, 0), 0x0000_0007);
@@ -58,9 +58,9 @@ fn writes_at_the_end_of_the_payload() {
     let mut trial = Trial::open(2, 1, &[]);
     let root = trial.root();
     assert_eq!(trial.number(Call::Write(root, 192, vec![])), 0);
-    assert!(!trial.record(0).dirty);
+    assert!(!trial.record(0).is_dirty());
     assert_eq!(trial.number(Call::Write(root, 191, vec![9])), 0);
-    assert!(trial.record(0).dirty);
+    assert!(trial.record(0).is_dirty());
     assert_eq!(trial.state.frames[255], 9);
     assert_eq!(trial.number(Call::Write(root, 192, vec![9])), 5);
 }
@@ -95,7 +95,7 @@ fn pins_rise_to_65535_by_calls() -> Result<(), String> {
     let coverage = &mut Coverage::default();
     let State { frames, store, .. } = Trial::closed(2, 4, &[(0, 1, 3)]).state;
     let mut history = History::open(&UnderTest, frames, store, coverage)?;
-    for call in [Call::Root, Call::Fix(Handle { frame: 0, page: 0 }, 1)] {
+    for call in [Call::Root, Call::Fix(handle(0, 0), 1)] {
         for _ in 0..65_535 {
             assert!(history.call(&call, coverage)?.accepted());
         }
@@ -107,7 +107,7 @@ fn pins_rise_to_65535_by_calls() -> Result<(), String> {
 /// Fixes page 8 into the full pool, with frames 1 to 3 of these usages.
 fn sweep(hand: u8, usages: [u8; 3], pinned: &[u8]) -> (Trial, Fixed) {
     let (mut trial, root) = full_pool();
-    trial.state.pool.hand = hand;
+    trial.state.pool.hand = FrameIndex(hand);
     for (frame, usage) in (1..).zip(usages) {
         trial.record(frame).usage = usage;
     }
@@ -123,27 +123,27 @@ fn sweep(hand: u8, usages: [u8; 3], pinned: &[u8]) -> (Trial, Fixed) {
 /// The hand and the usages of frames 1 to 3 after a sweep; that of the frame taken is the loaded page's.
 fn left(trial: &Trial) -> (u8, [u8; 3]) {
     let pool = &trial.state.pool;
-    (pool.hand, [1, 2, 3].map(|frame| pool.record(frame).usage))
+    (pool.hand.0, [1, 2, 3].map(|frame| pool.records[frame].usage))
 }
 
 #[test]
 fn a_sweep_from_hand_0() {
     let (trial, fixed) = sweep(0, [1, 0, 2], &[]);
-    assert_eq!(fixed, Fixed { handle: Handle { frame: 2, page: 8 }, looks: 3 });
+    assert_eq!(fixed, Fixed { handle: handle(2, 8), looks: 3 });
     assert_eq!(left(&trial), (3, [0, 1, 2]));
 }
 
 #[test]
 fn a_sweep_from_hand_3() {
     let (trial, fixed) = sweep(3, [1, 0, 2], &[]);
-    assert_eq!(fixed, Fixed { handle: Handle { frame: 2, page: 8 }, looks: 4 });
+    assert_eq!(fixed, Fixed { handle: handle(2, 8), looks: 4 });
     assert_eq!(left(&trial), (3, [0, 1, 1]));
 }
 
 #[test]
 fn a_sweep_of_16_looks() {
     let (trial, fixed) = sweep(0, [0, 0, 3], &[1, 2]);
-    assert_eq!(fixed, Fixed { handle: Handle { frame: 3, page: 8 }, looks: 16 });
+    assert_eq!(fixed, Fixed { handle: handle(3, 8), looks: 16 });
     assert_eq!(left(&trial), (0, [0, 0, 1]));
 }
 
@@ -153,17 +153,17 @@ fn the_last_page_of_4096() {
     let root = trial.root();
     assert_eq!(trial.number(Call::Link(root, 0, 4095)), 0);
     assert_eq!(trial.number(Call::Link(root, 1, 4096)), 6);
-    assert_eq!(trial.fix(root, 0), Handle { frame: 1, page: 4095 });
+    assert_eq!(trial.fix(root, 0), handle(1, 4095));
 }
 
 #[test]
 fn the_calls_of_the_listing() {
     let mut trial = Trial::open(4, 16, &[]);
     let root = trial.root();
-    assert_eq!(root, Handle { frame: 0, page: 0 });
+    assert_eq!(root, handle(0, 0));
     assert_eq!(trial.number(Call::Link(root, 3, 7)), 0);
     let child = trial.fix(root, 3);
-    assert_eq!(child, Handle { frame: 1, page: 7 });
+    assert_eq!(child, handle(1, 7));
     assert_eq!(trial.number(Call::Evict(7)), 12);
     assert_eq!(trial.number(Call::Unfix(child)), 0);
     assert_eq!(trial.number(Call::Evict(7)), 0);

@@ -1,7 +1,9 @@
 //! Single consequences of document 01, each with the figures that show it.
 use pool_tests::calls::{Answer, Call};
 use pool_tests::pool::{Buffer, Fixed, Machine, Place, UnderTest};
-use pool_tests::records::{FrameRecord, Handle, Pool, PAGE_SIZE, SWIZZLE_BIT};
+use pool_tests::records::{
+    handle, FrameIndex, FrameRecord, Handle, PageNumber, Pool, PAGE_SIZE, SWIZZLE_BIT,
+};
 use pool_tests::trial::Trial;
 
 /// The store lags behind the map: a page that moved can stand in two stored words.
@@ -56,7 +58,7 @@ fn a_refused_open_gives_zero_records() {
 fn open_holds_the_root_alone() {
     let pool = Trial::open(3, 5, &[]).state.pool;
     let mut expected = Pool { count: 3, pages: 5, ..Pool::ZERO };
-    expected.records[0].used = true;
+    expected.records[0].used = 1;
     assert_eq!(pool, expected);
 }
 
@@ -75,7 +77,7 @@ fn lengths_come_before_agreement() {
     let by = [(-1, 0), (1, 0), (0, -1), (0, 1), (256, 0), (0, 256), (-256, 0), (0, -256)];
     for (frames, store) in by {
         let mut trial = Trial::open(4, 8, &[]);
-        trial.record(0).used = false;
+        trial.record(0).used = 0;
         assert_eq!(trial.number(Call::Settle), 2);
         trial.state.frames.resize((4 * PAGE_SIZE).strict_add_signed(frames), 0);
         trial.state.store.resize((8 * PAGE_SIZE).strict_add_signed(store), 0);
@@ -87,7 +89,7 @@ fn lengths_come_before_agreement() {
 fn counts_out_of_range_are_lengths_refused() {
     for (frames, pages) in [(0, 4), (1, 4), (65, 4), (4, 0), (4, 4097)] {
         let mut trial = Trial::closed(frames, pages, &[]);
-        trial.record(0).used = true;
+        trial.record(0).used = 1;
         (trial.state.pool.count, trial.state.pool.pages) = (frames as u16, pages as u16);
         assert_eq!(trial.number(Call::Root), 1, "F {frames} N {pages}");
     }
@@ -97,7 +99,7 @@ fn counts_out_of_range_are_lengths_refused() {
 #[test]
 fn the_first_broken_rule_answers() {
     let (mut trial, [root, five, _]) = two_children();
-    let stale = Handle { frame: 3, page: 7 };
+    let stale = handle(3, 7);
     for (call, number) in [
         (Call::Fix(stale, 16), 3),
         (Call::Word(stale, 16), 3),
@@ -114,7 +116,7 @@ fn the_first_broken_rule_answers() {
     ] {
         assert_eq!(trial.number(call.clone()), number, "{call:?}");
     }
-    trial.state.pool.hand = 4;
+    trial.state.pool.hand = FrameIndex(4);
     for call in [Call::Fix(stale, 16), Call::Show(stale), Call::Peek(16), Call::Evict(16)] {
         assert_eq!(trial.number(call.clone()), 2, "{call:?}");
     }
@@ -131,7 +133,7 @@ fn two_children() -> (Trial, [Handle; 3]) {
 /// Hangs a frame below a slot of another, by record and word.
 fn hang(trial: &mut Trial, frame: u8, parent: u8, slot: u8) {
     let record = trial.record(frame);
-    (record.parent, record.slot) = (parent, slot);
+    (record.parent, record.slot) = (FrameIndex(parent), slot);
     trial.put_frame_word(parent.into(), slot.into(), SWIZZLE_BIT + u32::from(frame));
 }
 
@@ -184,7 +186,7 @@ fn an_empty_frame_is_free() {
 fn a_handle_is_tested_with_its_page() {
     let (mut trial, [_, five, six]) = two_children();
     for (frame, page) in [(1, 6), (1, 16), (1, 65535), (3, 0), (4, 0), (64, 5), (255, 5)] {
-        assert_eq!(trial.number(Call::Show(Handle { frame, page })), 3, "frame {frame} page {page}");
+        assert_eq!(trial.number(Call::Show(handle(frame, page))), 3, "frame {frame} page {page}");
     }
     trial.accept(Call::Unfix(five));
     assert_eq!(trial.number(Call::Unfix(five)), 3);
@@ -197,7 +199,7 @@ fn a_stale_handle_is_good_again() {
     trial.accept(Call::Unfix(five));
     trial.accept(Call::Evict(5));
     assert_eq!(trial.number(Call::Show(five)), 3);
-    trial.state.pool.hand = 1;
+    trial.state.pool.hand = FrameIndex(1);
     assert_eq!(trial.fix(root, 1), five);
     trial.accept(Call::Show(five));
 }
@@ -226,9 +228,10 @@ fn payloads_lie_in_frames_or_store() {
 fn a_loaded_page_has_one_pin_and_one_usage() {
     let (mut trial, [root, ..]) = two_children();
     trial.fix(root, 3);
-    let loaded = FrameRecord { used: true, dirty: false, usage: 1, slot: 3, parent: 0, pins: 1, page: 7 };
+    let loaded =
+        FrameRecord { used: 1, usage: 1, slot: 3, pins: 1, page: PageNumber(7), ..FrameRecord::EMPTY };
     assert_eq!(*trial.record(3), loaded);
-    assert!(!trial.record(0).dirty);
+    assert!(!trial.record(0).is_dirty());
 }
 
 #[test]
@@ -247,9 +250,9 @@ fn settle_marks_clean() {
     let (mut trial, [_, five, six]) = two_children();
     trial.accept(Call::Write(five, 7, vec![1, 2, 3]));
     trial.accept(Call::Link(six, 0, 8));
-    assert_eq!([1, 2].map(|frame| trial.record(frame).dirty), [true, true]);
+    assert_eq!([1, 2].map(|frame| trial.record(frame).is_dirty()), [true, true]);
     trial.accept(Call::Settle);
-    assert_eq!([1, 2].map(|frame| trial.record(frame).dirty), [false, false]);
+    assert_eq!([1, 2].map(|frame| trial.record(frame).is_dirty()), [false, false]);
     let start = 5 * PAGE_SIZE + 64 + 7;
     assert_eq!(trial.state.store[start..start + 3], [1, 2, 3]);
     assert_eq!(trial.stored_word(6, 0), 8);
@@ -260,11 +263,11 @@ fn settle_marks_clean() {
 fn an_empty_frame_at_or_after_the_hand() {
     for (hand, frame) in [(0, 1), (1, 1), (2, 2), (3, 3)] {
         let mut trial = Trial::open(4, 16, &[(0, 1, 5)]);
-        trial.state.pool.hand = hand;
+        trial.state.pool.hand = FrameIndex(hand);
         let root = trial.root();
-        let fixed = Answer::Fixed(Fixed { handle: Handle { frame, page: 5 }, looks: 0 });
+        let fixed = Answer::Fixed(Fixed { handle: handle(frame, 5), looks: 0 });
         assert_eq!(trial.call(Call::Fix(root, 1)), fixed, "hand {hand}");
-        assert_eq!(trial.state.pool.hand, hand);
+        assert_eq!(trial.state.pool.hand, FrameIndex(hand));
     }
 }
 
@@ -273,7 +276,7 @@ fn no_room_leaves_usage_and_hand() {
     let mut trial = Trial::open(2, 8, &[(0, 0, 1), (0, 1, 2)]);
     let root = trial.root();
     trial.fix(root, 0);
-    trial.state.pool.hand = 1;
+    trial.state.pool.hand = FrameIndex(1);
     assert_eq!(trial.number(Call::Fix(root, 1)), 15);
 }
 
@@ -299,18 +302,18 @@ fn an_evicted_page_leaves_its_bytes() {
     assert_eq!(*trial.record(1), FrameRecord::EMPTY);
     assert_eq!(trial.state.frames[PAGE_SIZE + 64], 9);
     assert_eq!(trial.state.store[5 * PAGE_SIZE + 64], 9);
-    assert_eq!(trial.state.pool.hand, 0);
+    assert_eq!(trial.state.pool.hand, FrameIndex(0));
 }
 
 /// Neither loading nor evicting a page dirties its parent, and a clean page isn't written.
 #[test]
 fn a_clean_page_is_not_written() {
     let (mut trial, [_, five, _]) = two_children();
-    assert!(!trial.record(0).dirty);
+    assert!(!trial.record(0).is_dirty());
     trial.accept(Call::Unfix(five));
     trial.put_stored_word(5, 3, 9);
     trial.accept(Call::Evict(5));
-    assert!(!trial.record(0).dirty);
+    assert!(!trial.record(0).is_dirty());
     assert_eq!(trial.frame_word(0, 1), 5);
     assert_eq!(trial.stored_word(5, 3), 9);
 }
@@ -320,7 +323,7 @@ fn equal_bytes_are_dirty_and_none_are_not() {
     let (mut trial, [_, five, six]) = two_children();
     trial.accept(Call::Write(five, 0, vec![0; 192]));
     trial.accept(Call::Write(six, 0, vec![]));
-    assert!(trial.record(1).dirty && !trial.record(2).dirty);
+    assert!(trial.record(1).is_dirty() && !trial.record(2).is_dirty());
 }
 
 /// Rule 9 takes resident pages by their images: what the store alone still says of them doesn't count.

@@ -2,7 +2,7 @@
 //! of N or above than such records, every swizzled word points back and every other word is a number below N.
 use super::page::{swizzled_to, word, words, Page};
 use super::seen::Seen;
-use pagepool::{FrameRecord, Pool, MAX_USAGE, SLOTS};
+use pagepool::{FrameIndex, FrameRecord, PageNumber, Pool, MAX_USAGE, SLOTS};
 
 /// Whether records and frames agree. Adds the resident pages but the root, and the numbers in their words, to an empty table.
 pub fn agrees(pool: &Pool, frames: &[Page], seen: &mut Seen) -> bool {
@@ -17,13 +17,14 @@ pub fn agrees(pool: &Pool, frames: &[Page], seen: &mut Seen) -> bool {
 
 /// A number that is 0 for the all-zero record alone.
 fn weight(record: &FrameRecord) -> u64 {
-    let small = u32::from_le_bytes([record.used as u8, record.dirty as u8, record.usage, record.slot]);
+    let small = u32::from_le_bytes([record.used, record.dirty, record.usage, record.slot]);
     let large = u32::from(record.pins) | u32::from(record.page) << 16;
-    u64::from(small) + u64::from(large) + u64::from(record.parent)
+    u64::from(small) + u64::from(large) + u64::from(record.parent.0)
 }
 
 fn root_fits(root: &FrameRecord) -> bool {
-    root.used && root.page == 0 && root.parent == 0 && root.slot == 0 && root.usage <= MAX_USAGE
+    let parentless = root.parent == FrameIndex(0) && root.slot == 0;
+    root.is_used() && root.dirty <= 1 && root.page == PageNumber(0) && parentless && root.usage <= MAX_USAGE
 }
 
 /// Whether each record fits by itself and its parent's word names its frame, and no page or number stands twice.
@@ -32,7 +33,7 @@ fn frames_fit(records: &[FrameRecord], frames: &[Page], pages: u32, seen: &mut S
     tally.add_page(&frames[0], pages, seen);
     let mut others = 0;
     for (frame, record) in records.iter().enumerate().skip(1) {
-        if record.used {
+        if record.is_used() {
             if !in_range(record, frames.len(), pages) || !is_linked(record, frame, records, frames) {
                 return false;
             }
@@ -47,7 +48,8 @@ fn frames_fit(records: &[FrameRecord], frames: &[Page], pages: u32, seen: &mut S
 }
 
 fn in_range(record: &FrameRecord, count: usize, pages: u32) -> bool {
-    (record.usage <= MAX_USAGE)
+    (record.dirty <= 1)
+        & (record.usage <= MAX_USAGE)
         & (usize::from(record.slot) < SLOTS)
         & (usize::from(record.parent) < count)
         & (u32::from(record.page).wrapping_sub(1) < pages - 1)
@@ -56,7 +58,8 @@ fn in_range(record: &FrameRecord, count: usize, pages: u32) -> bool {
 /// Whether a frame's parent is occupied, and the parent's word is swizzled to the frame.
 fn is_linked(record: &FrameRecord, frame: usize, records: &[FrameRecord], frames: &[Page]) -> bool {
     let parent = usize::from(record.parent);
-    records[parent].used && word(&frames[parent], record.slot.into()) == swizzled_to(frame as u8)
+    records[parent].is_used()
+        && word(&frames[parent], record.slot.into()) == swizzled_to(FrameIndex(frame as u8))
 }
 
 /// How many words are N or above, and whether a page or a number below N stood twice.
@@ -96,7 +99,7 @@ fn add_numbers(page: &Page, pages: u32, seen: &mut Seen) -> bool {
 /// Whether following parents leads each occupied frame to frame 0. A walk stops at a frame that is known to.
 fn lead_to_root(records: &[FrameRecord]) -> bool {
     let mut known: u64 = 1;
-    for frame in (1..records.len()).filter(|frame| records[*frame].used) {
+    for frame in (1..records.len()).filter(|frame| records[*frame].is_used()) {
         let (mut walked, mut at) = (0, frame);
         while known >> at & 1 == 0 {
             if walked >> at & 1 == 1 {

@@ -22,14 +22,14 @@ pub fn open(frames: &mut [u8], store: &[u8]) -> Result<Pool, Refusal> {
     rule(16, naming::is_sound(pages_of(store)))?;
     frames[..PAGE_SIZE].copy_from_slice(&store[..PAGE_SIZE]);
     let mut pool = Pool { count: count as u16, pages: pages as u16, ..Pool::ZERO };
-    pool.records[0].used = true;
+    pool.records[0].used = 1;
     Ok(pool)
 }
 
 #[inline(never)]
 pub fn root(pool: &mut Pool, frames: &[u8], store: &[u8]) -> Result<Fixed, Refusal> {
     rules::state(pool, frames, store)?;
-    pin(pool, 0)
+    pin(pool, FrameIndex(0))
 }
 
 #[inline(never)]
@@ -47,10 +47,10 @@ pub fn fix(
     let word = page::word(&pages_of(frames)[usize::from(handle.frame)], slot);
     rule(7, word != 0)?;
     if word >= SWIZZLE_BIT {
-        return pin(pool, (word - SWIZZLE_BIT) as FrameIndex);
+        return pin(pool, FrameIndex((word - SWIZZLE_BIT) as u8));
     }
-    let page = word as PageNumber;
-    rule(14, naming::may_come_in(&pages_of(store)[usize::from(page)], pool.pages, &mut seen))?;
+    let page = PageNumber(word as u16);
+    rule(14, naming::may_come_in(&pages_of(store)[usize::from(page)], PageNumber(pool.pages), &mut seen))?;
     let (frame, looks) = moves::frame_for_load(pool, frames, store)?;
     moves::load(pool, frames, store, handle.frame, slot, frame, page);
     Ok(Fixed { handle: Handle { frame, page }, looks })
@@ -93,12 +93,13 @@ pub fn word(
     store: &[u8],
     handle: Handle,
     slot: usize,
-) -> Result<PageNumber, Refusal> {
+) -> Result<Option<PageNumber>, Refusal> {
     rules::state(pool, frames, store)?;
     rules::handle(pool, handle)?;
     rules::slot(slot)?;
     let word = page::word(&pages_of(frames)[usize::from(handle.frame)], slot);
-    Ok(moves::plain(&pool.records, word) as PageNumber)
+    let page = PageNumber(moves::plain(&pool.records, word) as u16);
+    Ok((page != PageNumber(0)).then_some(page))
 }
 
 #[inline(never)]
@@ -116,7 +117,7 @@ pub fn write(
     if !bytes.is_empty() {
         let start = PAGE_SIZE * usize::from(handle.frame) + PAYLOAD_START + offset;
         frames[start..start + bytes.len()].copy_from_slice(bytes);
-        pool.record_mut(handle.frame).dirty = true;
+        pool.record_mut(handle.frame).dirty = 1;
     }
     Ok(())
 }
@@ -134,7 +135,7 @@ pub fn link(
     rules::state_with(pool, frames, store, &mut seen)?;
     rules::handle(pool, handle)?;
     rules::slot(slot)?;
-    rule(6, page != 0 && page < pool.pages)?;
+    rule(6, page != PageNumber(0) && page.0 < pool.pages)?;
     rule(8, page::word(&pages_of(frames)[usize::from(handle.frame)], slot) == 0)?;
     rule(9, !seen.has(page) && !naming::is_stored(pool, pages_of(store), page))?;
     put_link(pool, frames, handle, slot, page.into());
@@ -163,9 +164,9 @@ pub fn unlink(
 pub fn evict(pool: &mut Pool, frames: &mut [u8], store: &mut [u8], page: PageNumber) -> Result<(), Refusal> {
     rules::state(pool, frames, store)?;
     rules::page(pool, page)?;
-    let frame = frame_of(pool, page).ok_or(11)?;
-    let pinned = pool.record(frame).pins > 0;
-    rule(12, frame != 0 && !pinned && !page::has_swizzled(&pages_of(frames)[usize::from(frame)]))?;
+    let frame = frame_of(pool, page).ok_or(Refusal::NotResident)?;
+    let closed = frame == FrameIndex(0) || pool.record(frame).pins > 0;
+    rule(12, !closed && !page::has_swizzled(&pages_of(frames)[usize::from(frame)]))?;
     moves::evict(pool, frames, store, frame);
     Ok(())
 }
@@ -196,8 +197,8 @@ fn records(pool: &Pool) -> &[FrameRecord] {
 
 /// The frame that holds a page.
 fn frame_of(pool: &Pool, page: PageNumber) -> Option<FrameIndex> {
-    let holds = |record: &FrameRecord| record.used & (record.page == page);
-    records(pool).iter().position(holds).map(|frame| frame as FrameIndex)
+    let holds = |record: &FrameRecord| record.is_used() & (record.page == page);
+    records(pool).iter().position(holds).map(|frame| FrameIndex(frame as u8))
 }
 
 /// One pin and one usage more for the page in a frame.
@@ -212,7 +213,7 @@ fn pin(pool: &mut Pool, frame: FrameIndex) -> Result<Fixed, Refusal> {
 /// Puts a word into a slot of the handle's page, which is then dirty.
 fn put_link(pool: &mut Pool, frames: &mut [u8], handle: Handle, slot: usize, word: u32) {
     page::put_word(&mut pages_of_mut(frames)[usize::from(handle.frame)], slot, word);
-    pool.record_mut(handle.frame).dirty = true;
+    pool.record_mut(handle.frame).dirty = 1;
 }
 
 fn payload(buffer: &[u8], index: usize) -> &[u8] {

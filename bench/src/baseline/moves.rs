@@ -16,7 +16,7 @@ pub fn plain(records: &[FrameRecord], word: u32) -> u32 {
 pub fn evict(pool: &mut Pool, frames: &mut [u8], store: &mut [u8], frame: FrameIndex) {
     let record = std::mem::replace(pool.record_mut(frame), FrameRecord::EMPTY);
     let frames = pages_of_mut(frames);
-    if record.dirty {
+    if record.is_dirty() {
         pages_of_mut(store)[usize::from(record.page)] = frames[usize::from(frame)];
     }
     put_word(&mut frames[usize::from(record.parent)], record.slot.into(), record.page.into());
@@ -36,7 +36,7 @@ pub fn load(
     frames[usize::from(frame)] = pages_of(store)[usize::from(page)];
     put_word(&mut frames[usize::from(parent)], slot, swizzled_to(frame));
     *pool.record_mut(frame) =
-        FrameRecord { used: true, dirty: false, usage: 1, slot: slot as u8, parent, pins: 1, page };
+        FrameRecord { used: 1, dirty: 0, usage: 1, slot: slot as u8, parent, pins: 1, page };
 }
 
 /// Writes the image of each dirty page to the store, and marks it clean.
@@ -44,8 +44,8 @@ pub fn settle(pool: &mut Pool, frames: &[Page], store: &mut [Page]) {
     let parents = parents(records(pool));
     for (frame, page) in frames.iter().enumerate() {
         let record = &mut pool.records[frame];
-        if record.dirty {
-            record.dirty = false;
+        if record.is_dirty() {
+            record.dirty = 0;
             let stored = &mut store[usize::from(record.page)];
             *stored = *page;
             if parents >> frame & 1 == 1 {
@@ -64,7 +64,7 @@ fn unswizzle(image: &mut Page, page: &Page, records: &[FrameRecord]) {
 
 /// The frames that are parents, as a mask: where records and frames agree, those with a swizzled word.
 fn parents(records: &[FrameRecord]) -> u64 {
-    records.iter().skip(1).fold(0, |mask, record| mask | u64::from(record.used) << record.parent)
+    records.iter().skip(1).fold(0, |mask, record| mask | u64::from(record.used) << record.parent.0)
 }
 
 /// An empty frame for a load, and the looks of the sweep that emptied it.
@@ -76,7 +76,7 @@ pub fn frame_for_load(
     if let Some(frame) = first_empty(pool) {
         return Ok((frame, 0));
     }
-    let (victim, looks) = sweep(pool).ok_or(15)?;
+    let (victim, looks) = sweep(pool).ok_or(Refusal::NoFrame)?;
     evict(pool, frames, store, victim);
     Ok((victim, looks))
 }
@@ -84,9 +84,9 @@ pub fn frame_for_load(
 /// The first empty frame at or after the hand, going round.
 fn first_empty(pool: &Pool) -> Option<FrameIndex> {
     let (before, after) = records(pool).split_at(pool.hand.into());
-    let empty = |records: &[FrameRecord]| records.iter().position(|record| !record.used);
+    let empty = |records: &[FrameRecord]| records.iter().position(|record| !record.is_used());
     let frame = empty(after).map(|at| at + before.len()).or_else(|| empty(before));
-    frame.map(|frame| frame as FrameIndex)
+    frame.map(|frame| FrameIndex(frame as u8))
 }
 
 /// The clock sweep, worked out and not walked: the open frame of least usage that comes first from the hand on is taken, after
@@ -103,8 +103,8 @@ fn sweep(pool: &mut Pool) -> Option<(FrameIndex, u16)> {
         let lost = rounds + u8::from(ahead(frame) < distance);
         record.usage -= if any >> frame & 1 == 1 { lost } else { 0 };
     }
-    pool.hand = if victim + 1 < count { victim as FrameIndex + 1 } else { 0 };
-    Some((victim as FrameIndex, u16::from(rounds) * pool.count + distance as u16 + 1))
+    pool.hand = FrameIndex(if victim + 1 < count { victim as u8 + 1 } else { 0 });
+    Some((FrameIndex(victim as u8), u16::from(rounds) * pool.count + distance as u16 + 1))
 }
 
 /// The first frame of a mask at or after the hand, going round. The mask isn't empty.
@@ -118,7 +118,7 @@ fn first_from(hand: usize, mask: u64) -> usize {
 fn open_frames(records: &[FrameRecord]) -> [u64; MAX_USAGE as usize + 1] {
     let (mut unpinned, mut low, mut high) = (0, 0, 0);
     for (frame, record) in records.iter().enumerate() {
-        unpinned |= u64::from(record.used & (record.pins == 0)) << frame;
+        unpinned |= u64::from(record.is_used() & (record.pins == 0)) << frame;
         low |= u64::from(record.usage & 1) << frame;
         high |= u64::from(record.usage >> 1) << frame;
     }

@@ -8,7 +8,7 @@ use pagepool::Pool;
 pub fn is_stored(pool: &Pool, store: &[Page], page: PageNumber) -> bool {
     store.iter().enumerate().any(|(other, stored)| {
         let hit = words(stored).iter().fold(false, |hit, word| hit | (*word == u32::from(page)));
-        hit && frame_of(pool, other as PageNumber).is_none()
+        hit && frame_of(pool, PageNumber(other as u16)).is_none()
     })
 }
 

@@ -5,11 +5,11 @@ use super::seen::Seen;
 use pagepool::{Handle, PageNumber, Pool, Refusal, LEAST_FRAMES, MOST_FRAMES, MOST_PAGES, PAGE_SIZE, SLOTS};
 
 /// Refuses by a number where a rule isn't kept.
-pub fn rule(number: Refusal, kept: bool) -> Result<(), Refusal> {
+pub fn rule(number: u8, kept: bool) -> Result<(), Refusal> {
     if kept {
         Ok(())
     } else {
-        Err(number)
+        Err(Refusal::try_from(number).expect("a rule's number"))
     }
 }
 
@@ -34,7 +34,7 @@ pub fn state_with(pool: &Pool, frames: &[u8], store: &[u8], seen: &mut Seen) -> 
 /// Rule 3.
 pub fn handle(pool: &Pool, handle: Handle) -> Result<(), Refusal> {
     let record = super::records(pool).get(usize::from(handle.frame));
-    rule(3, record.is_some_and(|record| record.used && record.page == handle.page && record.pins > 0))
+    rule(3, record.is_some_and(|record| record.is_used() && record.page == handle.page && record.pins > 0))
 }
 
 /// Rule 4.
@@ -44,5 +44,5 @@ pub fn slot(slot: usize) -> Result<(), Refusal> {
 
 /// Rule 6.
 pub fn page(pool: &Pool, page: PageNumber) -> Result<(), Refusal> {
-    rule(6, page < pool.pages)
+    rule(6, page.0 < pool.pages)
 }

@@ -6,12 +6,12 @@ use mathlib.Core.Bool.{true}
 use mathlib.Core.List.{List, [], _∷_, _++_}
 use Rattle.page.specs.Figures.{pageSize, slotCount, payloadStart}
 use Rattle.page.specs.Word.{isNumber, frameWord, numberWord, renamed}
-use Rattle.page.specs.Page.{slot, name, byte, bytesFrom, payloadOf}
+use Rattle.page.specs.Page.{slot, name, byte, payloadAt, payloadOf}
 use Rattle.page.specs.Octets.{Octets}
 use Rattle.machine.specs.declared.Handle.{Handle}
 use Rattle.machine.specs.Tests.{firstBroken}
 use Rattle.machine.specs.Machine.{State, pageNumber, recordAt, blank}
-use Rattle.machine.specs.Answers.{Answer, refused, done, handle, payload, number, frame, Buffer, inFrames, inStore}
+use Rattle.machine.specs.Answers.{Answer, refused, done, handle, number, frame, Shown, handedBack}
 use Rattle.machine.specs.Rules.{rule14}
 use Rattle.machine.specs.Calls.{openCall, rootCall, fixCall, showCall, peekCall, wordCall, settleCall, findCall, fixEntryRules}
 use Rattle.machine.specs.History.{Call, root, fix, Point, isPinned, accepted, row, next, start, run, AllBytes}
@@ -37,10 +37,9 @@ pub data LeadsToRoot (x : Point) : ℕ → Type 0 where
   atRoot : LeadsToRoot x 0
   toParent : {p : ℕ} (q k : ℕ) → Resident x q → Names x q k p → LeadsToRoot x q → LeadsToRoot x p
 
--- the bytes of the machine at a place
-abbrev pub bytesAt : State → Buffer → ℕ → ℕ → List ℕ
-bytesAt s inFrames a n = bytesFrom (s .frames) a n
-bytesAt s inStore a n = bytesFrom (s .store) a n
+-- what is handed back for an answer where the frames and the store are lent at these places, each a block and an offset in it
+abbrev pub handed : State → ℕ × ℕ → ℕ × ℕ → Answer → Shown
+handed s fs st a = handedBack (record { at = fs; bytes = s .frames }) (record { at = st; bytes = s .store }) a
 
 -- "No frame is empty and every resident page but the root is pinned or has a resident child."
 pub record NoRoom (x : Point) : Type 0 where
@@ -52,9 +51,12 @@ pub record LoadAsked (x : Point) (h : Handle) (k : ℕ) : Type 0 where
   pub absent : Resident x (name (x .map) (h .page .0) k) → ⊥
   pub unbroken : firstBroken (fixEntryRules (x .now) h k ++ (rule14 (x .now) (name (x .map) (h .page .0) k) ∷ [])) ≡ 0
 
--- a call's answer is the place of a payload, and the bytes there are page p's in the map
-abbrev pub GivesPayload : Point → Answer → ℕ → Type 0
-GivesPayload x a p = (b : Buffer) × (from n : ℕ) × (a ≡ payload b from n) × (bytesAt (x .now) b from n ≡ payloadOf (x .map) p)
+-- the part handed back for an answer is page p's payload in the map, wherever the buffers are lent: "from the frame if resident, otherwise from the store"
+pub record GivesPayload (x : Point) (a : Answer) (p : ℕ) (fs st : ℕ × ℕ) : Type 0 where
+  pub bytes : handed (x .now) fs st a .part .bytes ≡ payloadOf (x .map) p
+  pub ofFrame : (f : ℕ) → InFrame x p f → handed (x .now) fs st a .part .at ≡ (fs .0, payloadAt f + fs .1)
+  pub ofStore : (Resident x p → ⊥) → handed (x .now) fs st a .part .at ≡ (st .0, payloadAt p + st .1)
+  pub number : handed (x .now) fs st a .number ≡ 0
 
 -- a call's answer is a handle of page p, whose frame is then the handle's
 abbrev pub GivesHandle : Point → Call → ℕ → Type 0
@@ -62,8 +64,8 @@ GivesHandle x c p = (f looks : ℕ) × (row c .out (x .now) .answer ≡ handle f
 
 pub record Holds (x : Point) : Type 0 where
   -- "At each accepted call, show gives the map's payload of its handle's page, peek that of its page, word the map's word in its slot of its handle's page."
-  pub shown : (h : Handle) → accepted (showCall (x .now) h .answer) ≡ true → GivesPayload x (showCall (x .now) h .answer) (h .page .0)
-  pub peeked : (p : ℕ) → accepted (peekCall (x .now) (pageNumber p) .answer) ≡ true → GivesPayload x (peekCall (x .now) (pageNumber p) .answer) p
+  pub shown : (h : Handle) (fs st : ℕ × ℕ) → accepted (showCall (x .now) h .answer) ≡ true → GivesPayload x (showCall (x .now) h .answer) (h .page .0) fs st
+  pub peeked : (p : ℕ) (fs st : ℕ × ℕ) → accepted (peekCall (x .now) (pageNumber p) .answer) ≡ true → GivesPayload x (peekCall (x .now) (pageNumber p) .answer) p fs st
   pub worded : (h : Handle) (k : ℕ) → accepted (wordCall (x .now) h k .answer) ≡ true → wordCall (x .now) h k .answer ≡ number (name (x .map) (h .page .0) k)
   -- "Fix answers a handle of the page that this word names, root one of page 0."
   pub fixed : (h : Handle) (k : ℕ) → accepted (fixCall (x .now) h k .answer) ≡ true → GivesHandle x (fix h k) (name (x .map) (h .page .0) k)

@@ -8,3 +8,4 @@ pub mod SweepLaws
 pub mod MoveLaws
 pub mod Ready
 pub mod RuleLaws
+pub mod ByName

@@ -1,2 +1,3 @@
--- Cases computed from the definitions.
+-- Cases computed from the definitions: the starred ones, and sentences of document 01 by subject.
+pub mod Rows
 pub mod BenchCases

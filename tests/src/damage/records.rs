@@ -1,7 +1,7 @@
 //! Changes of the records.
 use super::occupied;
 use crate::random::Random;
-use crate::records::{FrameRecord, State, MAX_USAGE, MOST_FRAMES};
+use crate::records::{FrameIndex, FrameRecord, PageNumber, State, MAX_USAGE, MOST_FRAMES};
 
 /// A frame, most of the time one of the F.
 fn any_frame(random: &mut Random, state: &State) -> usize {
@@ -25,13 +25,13 @@ pub fn field(random: &mut Random, state: &mut State) {
     let (count, pages) = (state.pool.count, state.pool.pages);
     let record = any_record(random, state);
     match random.below(7) {
-        0 => record.used = !record.used,
-        1 => record.dirty = !record.dirty,
+        0 => record.used ^= 1,
+        1 => record.dirty ^= 1,
         2 => record.usage = figure_near(random, u16::from(MAX_USAGE) + 1) as u8,
         3 => record.slot = figure_near(random, 16) as u8,
-        4 => record.parent = figure_near(random, count) as u8,
+        4 => record.parent.0 = figure_near(random, count) as u8,
         5 => record.pins = figure_near(random, u16::MAX),
-        _ => record.page = figure_near(random, pages),
+        _ => record.page.0 = figure_near(random, pages),
     }
 }
 
@@ -40,13 +40,13 @@ pub fn bit(random: &mut Random, state: &mut State) {
     let (narrow, wide) = (1u8 << random.below(8), 1u16 << random.below(16));
     let record = any_record(random, state);
     match random.below(7) {
-        0 => record.used = !record.used,
-        1 => record.dirty = !record.dirty,
+        0 => record.used ^= 1,
+        1 => record.dirty ^= 1,
         2 => record.usage ^= narrow,
         3 => record.slot ^= narrow,
-        4 => record.parent ^= narrow,
+        4 => record.parent.0 ^= narrow,
         5 => record.pins ^= wide,
-        _ => record.page ^= wide,
+        _ => record.page.0 ^= wide,
     }
 }
 
@@ -64,13 +64,13 @@ pub fn whole(random: &mut Random, state: &mut State) {
 /// A record with fields in their ranges or one above.
 fn made_up(random: &mut Random, state: &State) -> FrameRecord {
     FrameRecord {
-        used: random.percent(70),
-        dirty: random.percent(50),
+        used: random.percent(70).into(),
+        dirty: random.percent(50).into(),
         usage: random.below(5) as u8,
         slot: random.below(17) as u8,
-        parent: random.below(usize::from(state.pool.count) + 1) as u8,
+        parent: FrameIndex(random.below(usize::from(state.pool.count) + 1) as u8),
         pins: random.below(3) as u16,
-        page: random.below(usize::from(state.pool.pages) + 1) as u16,
+        page: PageNumber(random.below(usize::from(state.pool.pages) + 1) as u16),
     }
 }
 
@@ -86,7 +86,7 @@ pub fn figure(random: &mut Random, state: &mut State) {
             let near = figure_near(random, pages);
             state.pool.pages = random.pick(&[near, 4095, 4096, 4097]);
         }
-        _ => state.pool.hand = figure_near(random, count) as u8,
+        _ => state.pool.hand.0 = figure_near(random, count) as u8,
     }
 }
 
@@ -100,8 +100,8 @@ pub fn counts(random: &mut Random, state: &mut State) {
     match random.below(4) {
         0 => record.usage = random.below(usize::from(MAX_USAGE) + 1) as u8,
         1 => record.pins = random.below(3) as u16,
-        2 => record.dirty = !record.dirty,
-        _ => state.pool.hand = random.below(count) as u8,
+        2 => record.dirty ^= 1,
+        _ => state.pool.hand.0 = random.below(count) as u8,
     }
 }
 

@@ -1,14 +1,14 @@
 //! Changes of records and words together, each broken in one respect alone.
 use super::occupied;
 use crate::random::Random;
-use crate::records::{page_of_mut, put_word, State, PAGE_SIZE, SLOTS, SWIZZLE_BIT};
+use crate::records::{page_of_mut, put_word, FrameIndex, State, PAGE_SIZE, SLOTS, SWIZZLE_BIT};
 
-fn put_frame_word(state: &mut State, frame: u8, slot: usize, word: u32) {
+fn put_frame_word(state: &mut State, frame: FrameIndex, slot: usize, word: u32) {
     put_word(page_of_mut(&mut state.frames, frame.into()), slot, word);
 }
 
 /// Takes a frame out of its parent and hangs it below another, by record and word.
-fn hang(state: &mut State, frame: u8, parent: u8, slot: usize) {
+fn hang(state: &mut State, frame: FrameIndex, parent: FrameIndex, slot: usize) {
     let old = *state.pool.record(frame);
     if usize::from(old.parent) < state.frame_count() && usize::from(old.slot) < SLOTS {
         put_frame_word(state, old.parent, old.slot.into(), 0);
@@ -19,18 +19,18 @@ fn hang(state: &mut State, frame: u8, parent: u8, slot: usize) {
 }
 
 /// An occupied frame that isn't the root's.
-fn child(random: &mut Random, state: &State) -> Option<u8> {
-    random.choose(state.occupied().map(|(frame, _)| frame).filter(|frame| *frame != 0))
+fn child(random: &mut Random, state: &State) -> Option<FrameIndex> {
+    random.choose(state.occupied().map(|(frame, _)| frame).filter(|frame| *frame != FrameIndex(0)))
 }
 
 /// A slot of a frame with a word of 0.
-fn free_slot(random: &mut Random, state: &State, frame: u8) -> Option<usize> {
+fn free_slot(random: &mut Random, state: &State, frame: FrameIndex) -> Option<usize> {
     let words = state.words(frame).enumerate();
     random.choose(words.filter(|(_, word)| *word == 0).map(|(slot, _)| slot))
 }
 
 /// A frame moved below another, with record and word in agreement.
-fn hang_somewhere(random: &mut Random, state: &mut State, frame: u8, parent: u8) {
+fn hang_somewhere(random: &mut Random, state: &mut State, frame: FrameIndex, parent: FrameIndex) {
     if let Some(slot) = free_slot(random, state, parent) {
         hang(state, frame, parent, slot);
     }
@@ -62,8 +62,8 @@ pub fn slot_in_payload(random: &mut Random, state: &mut State) {
 
 /// A frame below an empty one, whose bytes name it.
 pub fn below_empty(random: &mut Random, state: &mut State) {
-    let used = |frame: &u8| state.pool.record(*frame).used;
-    let empty = random.choose((0..state.frame_count() as u8).filter(|frame| !used(frame)));
+    let used = |frame: &FrameIndex| state.pool.record(*frame).is_used();
+    let empty = random.choose((0..state.frame_count() as u8).map(FrameIndex).filter(|frame| !used(frame)));
     if let (Some(frame), Some(parent)) = (child(random, state), empty) {
         let slot = random.below(SLOTS);
         hang(state, frame, parent, slot);
@@ -75,7 +75,7 @@ pub fn first_word(random: &mut Random, state: &mut State) {
     if state.frame_count() > 0 {
         let any = random.below(state.frame_count()) as u32;
         let frame = random.pick(&[0, any, any, state.pool.count.into(), 63, 64]);
-        put_frame_word(state, 0, 0, SWIZZLE_BIT + frame);
+        put_frame_word(state, FrameIndex(0), 0, SWIZZLE_BIT + frame);
     }
 }
 

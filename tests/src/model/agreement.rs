@@ -1,6 +1,6 @@
 //! Document 01, "When records and frames agree", sentence by sentence.
 use super::{frame_word, occupied, read, swizzled_to, Reading};
-use crate::records::{FrameRecord, Pool, MAX_USAGE, SLOTS};
+use crate::records::{FrameIndex, FrameRecord, PageNumber, Pool, MAX_USAGE, SLOTS};
 
 /// Records and frames agree. F and N are in their ranges, and the frames are F.
 pub fn agree(pool: &Pool, frames: &[u8]) -> bool {
@@ -18,18 +18,20 @@ pub fn agree(pool: &Pool, frames: &[u8]) -> bool {
 /// "The hand is below F. Every field is in its range."
 fn fields_in_range(pool: &Pool) -> bool {
     let in_range = |record: &FrameRecord| {
-        record.page < pool.pages
+        record.page.0 < pool.pages
+            && record.used <= 1
+            && record.dirty <= 1
             && record.usage <= MAX_USAGE
-            && u16::from(record.parent) < pool.count
+            && u16::from(record.parent.0) < pool.count
             && usize::from(record.slot) < SLOTS
     };
-    u16::from(pool.hand) < pool.count && pool.records.iter().all(in_range)
+    u16::from(pool.hand.0) < pool.count && pool.records.iter().all(in_range)
 }
 
 /// "Frame 0 holds page 0 and has no parent (its two parent fields are 0)."
 fn root_in_place(pool: &Pool) -> bool {
-    let root = pool.record(0);
-    root.used && root.page == 0 && root.parent == 0 && root.slot == 0
+    let root = pool.record(FrameIndex(0));
+    root.is_used() && root.page == PageNumber(0) && root.parent == FrameIndex(0) && root.slot == 0
 }
 
 /// "No page is in two frames."
@@ -40,7 +42,7 @@ fn pages_apart(pool: &Pool) -> bool {
 /// "An empty frame's record, and any record from F on, is all zero."
 fn empty_blank(pool: &Pool) -> bool {
     let is_empty = |(frame, record): (usize, &FrameRecord)| {
-        (frame < pool.count.into() && record.used) || *record == FrameRecord::EMPTY
+        (frame < pool.count.into() && record.is_used()) || *record == FrameRecord::EMPTY
     };
     pool.records.iter().enumerate().all(is_empty)
 }
@@ -48,15 +50,15 @@ fn empty_blank(pool: &Pool) -> bool {
 /// "Every other occupied frame's parent is occupied, and the parent's word at the parent slot is swizzled
 /// to it."
 fn parents_name(pool: &Pool, frames: &[u8]) -> bool {
-    occupied(pool).filter(|frame| *frame != 0).all(|frame| {
+    occupied(pool).filter(|frame| *frame != FrameIndex(0)).all(|frame| {
         let record = pool.record(frame);
         let word = frame_word(frames, record.parent, record.slot.into());
-        pool.record(record.parent).used && word == swizzled_to(frame)
+        pool.record(record.parent).is_used() && word == swizzled_to(frame)
     })
 }
 
 /// Each word of the occupied frames, with its frame and slot.
-fn words<'a>(pool: &'a Pool, frames: &'a [u8]) -> impl Iterator<Item = (u8, usize, Reading)> + 'a {
+fn words<'a>(pool: &'a Pool, frames: &'a [u8]) -> impl Iterator<Item = (FrameIndex, usize, Reading)> + 'a {
     occupied(pool).flat_map(move |frame| {
         (0..SLOTS).map(move |slot| (frame, slot, read(frame_word(frames, frame, slot))))
     })
@@ -69,7 +71,7 @@ fn swizzled_point_back(pool: &Pool, frames: &[u8]) -> bool {
         Reading::Frame(child) => occupied(pool).any(|other| {
             let record = pool.record(other);
             u32::from(other) == child
-                && other != 0
+                && other != FrameIndex(0)
                 && record.parent == frame
                 && usize::from(record.slot) == slot
         }),
@@ -108,8 +110,8 @@ fn all_reach_root(pool: &Pool) -> bool {
     occupied(pool).all(|frame| {
         let mut at = frame;
         for _ in 0..pool.count {
-            at = if at == 0 { 0 } else { pool.record(at).parent };
+            at = if at == FrameIndex(0) { at } else { pool.record(at).parent };
         }
-        at == 0
+        at == FrameIndex(0)
     })
 }

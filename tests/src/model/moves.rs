@@ -1,11 +1,13 @@
 //! Images, pages that leave a frame or come into one, and the sweep.
 use super::{frame_word, occupied, read, swizzled_to, unswizzled, Reading};
 use crate::pool::Refusal;
-use crate::records::{page_of, page_of_mut, put_word, word_in, FrameRecord, State, SLOTS};
+use crate::records::{
+    page_of, page_of_mut, put_word, word_in, FrameIndex, FrameRecord, PageNumber, State, SLOTS,
+};
 
 /// "The image of a resident page is its bytes with each swizzled word replaced by the number of the page
 /// in that frame."
-fn image(state: &State, frame: u8) -> Vec<u8> {
+fn image(state: &State, frame: FrameIndex) -> Vec<u8> {
     let mut page = page_of(&state.frames, frame.into()).to_vec();
     for slot in 0..SLOTS {
         let word = word_in(&page, slot);
@@ -15,21 +17,21 @@ fn image(state: &State, frame: u8) -> Vec<u8> {
 }
 
 /// Writes the image of the page in a frame to the store, if it is dirty.
-pub fn write_out(state: &mut State, frame: u8) {
+pub fn write_out(state: &mut State, frame: FrameIndex) {
     let record = *state.pool.record(frame);
-    if record.dirty {
+    if record.is_dirty() {
         let image = image(state, frame);
         page_of_mut(&mut state.store, record.page.into()).copy_from_slice(&image);
     }
 }
 
 /// The page in an occupied frame isn't the root, isn't pinned, and has no swizzled word.
-pub fn evictable(state: &State, frame: u8) -> bool {
+pub fn evictable(state: &State, frame: FrameIndex) -> bool {
     let swizzled = |slot| matches!(read(frame_word(&state.frames, frame, slot)), Reading::Frame(_));
-    frame != 0 && state.pool.record(frame).pins == 0 && !(0..SLOTS).any(swizzled)
+    frame != FrameIndex(0) && state.pool.record(frame).pins == 0 && !(0..SLOTS).any(swizzled)
 }
 
-pub fn evict(state: &mut State, frame: u8) {
+pub fn evict(state: &mut State, frame: FrameIndex) {
     write_out(state, frame);
     let record = *state.pool.record(frame);
     let parent = page_of_mut(&mut state.frames, record.parent.into());
@@ -38,15 +40,15 @@ pub fn evict(state: &mut State, frame: u8) {
 }
 
 /// Loads a page into an empty frame, for a slot of its parent's frame.
-pub fn load(state: &mut State, page: u16, frame: u8, parent: u8, slot: usize) {
+pub fn load(state: &mut State, page: PageNumber, frame: FrameIndex, parent: FrameIndex, slot: usize) {
     page_of_mut(&mut state.frames, frame.into()).copy_from_slice(page_of(&state.store, page.into()));
     put_word(page_of_mut(&mut state.frames, parent.into()), slot, swizzled_to(frame));
     *state.pool.record_mut(frame) =
-        FrameRecord { used: true, dirty: false, usage: 1, slot: slot as u8, parent, pins: 1, page };
+        FrameRecord { used: 1, dirty: 0, usage: 1, slot: slot as u8, parent, pins: 1, page };
 }
 
 /// An empty frame for a load, and the looks that it took; 15 where there is none.
-pub fn make_room(state: &mut State) -> Result<(u8, u16), Refusal> {
+pub fn make_room(state: &mut State) -> Result<(FrameIndex, u16), Refusal> {
     match first_empty(state) {
         Some(frame) => Ok((frame, 0)),
         None => sweep(state),
@@ -54,16 +56,17 @@ pub fn make_room(state: &mut State) -> Result<(u8, u16), Refusal> {
 }
 
 /// "the first empty one at or after the hand, going round"
-fn first_empty(state: &State) -> Option<u8> {
-    let (hand, count) = (state.pool.hand, state.pool.count as u8);
-    (hand..count).chain(0..hand).find(|frame| !occupied(&state.pool).any(|other| other == *frame))
+fn first_empty(state: &State) -> Option<FrameIndex> {
+    let (hand, count) = (state.pool.hand.0, state.pool.count as u8);
+    let mut from_hand = (hand..count).chain(0..hand).map(FrameIndex);
+    from_hand.find(|frame| !occupied(&state.pool).any(|other| other == *frame))
 }
 
-fn sweep(state: &mut State) -> Result<(u8, u16), Refusal> {
+fn sweep(state: &mut State) -> Result<(FrameIndex, u16), Refusal> {
     let mut pool = state.pool;
     for looks in 1..=4 * pool.count {
         let frame = pool.hand;
-        pool.hand = ((u16::from(pool.hand) + 1) % pool.count) as u8;
+        pool.hand = FrameIndex(((u16::from(frame.0) + 1) % pool.count) as u8);
         if !evictable(state, frame) {
             continue;
         }

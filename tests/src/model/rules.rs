@@ -3,8 +3,8 @@ use super::agreement::{agree, all_distinct};
 use super::{frame_of, occupied, read, unswizzled, Reading};
 use crate::pool::Refusal;
 use crate::records::{
-    page_of, word_in, Handle, Pool, State, LEAST_FRAMES, MOST_FRAMES, MOST_PAGES, PAGE_SIZE, PAYLOAD_SIZE,
-    SLOTS,
+    page_of, word_in, FrameIndex, Handle, PageNumber, Pool, State, LEAST_FRAMES, MOST_FRAMES, MOST_PAGES,
+    PAGE_SIZE, PAYLOAD_SIZE, SLOTS,
 };
 
 pub fn rule(number: Refusal, kept: bool) -> Result<(), Refusal> {
@@ -37,9 +37,9 @@ pub fn state(state: &State) -> Result<(), Refusal> {
 
 /// 3: "The handle's frame index isn't below F, that frame doesn't hold its page, or its pins are 0."
 pub fn handle(pool: &Pool, handle: Handle) -> Result<(), Refusal> {
-    rule(3, u16::from(handle.frame) < pool.count)?;
+    rule(3, u16::from(handle.frame.0) < pool.count)?;
     let record = pool.record(handle.frame);
-    rule(3, record.used && record.page == handle.page && record.pins != 0)
+    rule(3, record.is_used() && record.page == handle.page && record.pins != 0)
 }
 
 /// 4: "The slot is above 15."
@@ -53,14 +53,14 @@ pub fn range(offset: usize, length: usize) -> Result<(), Refusal> {
 }
 
 /// 6: "The page number isn't below N."
-pub fn page(pool: &Pool, page: u16) -> Result<(), Refusal> {
-    rule(6, page < pool.pages)
+pub fn page(pool: &Pool, page: PageNumber) -> Result<(), Refusal> {
+    rule(6, page.0 < pool.pages)
 }
 
 /// 9: "Link's page is already named by a word of any page, resident pages taken by their images and the
 /// others from the store."
-pub fn unnamed(state: &State, page: u16) -> Result<(), Refusal> {
-    let named = (0..state.pool.pages).any(|other| match frame_of(&state.pool, other) {
+pub fn unnamed(state: &State, page: PageNumber) -> Result<(), Refusal> {
+    let named = (0..state.pool.pages).map(PageNumber).any(|other| match frame_of(&state.pool, other) {
         Some(frame) => image_names(state, frame, page.into()),
         None => names(page_of(&state.store, other.into()), page.into()),
     });
@@ -73,14 +73,14 @@ fn names(page: &[u8], number: u32) -> bool {
 }
 
 /// The image of the page in a frame names a page.
-fn image_names(state: &State, frame: u8, number: u32) -> bool {
+fn image_names(state: &State, frame: FrameIndex, number: u32) -> bool {
     let page = page_of(&state.frames, frame.into());
     (0..SLOTS).any(|slot| unswizzled(&state.pool, word_in(page, slot)) == number)
 }
 
 /// 14: "The stored page to be loaded has a word with bit 31 set, not below N, repeated within it, or
 /// naming a page that a resident page already names."
-pub fn loadable(state: &State, page: u16) -> Result<(), Refusal> {
+pub fn loadable(state: &State, page: PageNumber) -> Result<(), Refusal> {
     let stored = page_of(&state.store, page.into());
     let mut numbers = Vec::new();
     for slot in 0..SLOTS {

@@ -4,7 +4,9 @@ use super::{Check, Plain};
 use crate::calls::{Answer, Call};
 use crate::ensure;
 use crate::pool::Machine;
-use crate::records::{page_of, put_word, word_in, FrameRecord, Handle, State, SLOTS, SWIZZLE_BIT};
+use crate::records::{
+    page_of, put_word, word_in, FrameRecord, Handle, PageNumber, State, SLOTS, SWIZZLE_BIT,
+};
 
 impl Plain {
     /// Everything that is said of a point of the list, and what the calls that change nothing would
@@ -32,7 +34,7 @@ impl Plain {
 
     /// "From the answer that pins it until it is pinned no more, its frame is the one in that answer."
     fn check_pinned(&self, resident: &Residency) -> Check {
-        for page in (0..self.pages() as u16).filter(|page| self.pinned(*page)) {
+        for page in (0..self.pages() as u16).map(PageNumber).filter(|page| self.pinned(*page)) {
             let kept = self.balance[usize::from(page)].frame;
             let frame = resident.frame(page);
             ensure!(frame == Some(kept), "page {page} pinned in {kept}, now {frame:?}");
@@ -43,20 +45,20 @@ impl Plain {
     /// "the root is resident. Every other resident page is named by exactly one word of the resident
     /// pages in the map", and parents lead to the root.
     fn check_tree(&self, resident: &Residency) -> Check {
-        ensure!(resident.frame(0).is_some(), "the root isn't resident");
+        ensure!(resident.frame(PageNumber(0)).is_some(), "the root isn't resident");
         for page in resident.pages() {
             let mut at = page;
             for _ in resident.pages() {
-                at = if at == 0 { 0 } else { self.parent(resident, at)? };
+                at = if at == PageNumber(0) { at } else { self.parent(resident, at)? };
             }
-            ensure!(at == 0, "page {page} isn't below the root");
+            ensure!(at == PageNumber(0), "page {page} isn't below the root");
         }
         Ok(())
     }
 
     /// The one resident page that names a page.
-    fn parent(&self, resident: &Residency, page: u16) -> Result<u16, String> {
-        let namers: Vec<u16> = resident
+    fn parent(&self, resident: &Residency, page: PageNumber) -> Result<PageNumber, String> {
+        let namers: Vec<PageNumber> = resident
             .pages()
             .flat_map(|other| (0..SLOTS).map(move |slot| (other, slot)))
             .filter(|(other, slot)| self.named(*other, *slot) == page)
@@ -77,10 +79,10 @@ impl Plain {
     }
 
     /// A page's bytes in the map, with the words that name resident pages swizzled.
-    fn swizzled(&self, resident: &Residency, page: u16) -> Vec<u8> {
+    fn swizzled(&self, resident: &Residency, page: PageNumber) -> Vec<u8> {
         let mut bytes = self.page(page).to_vec();
         for slot in 0..SLOTS {
-            let child = Some(self.named(page, slot)).filter(|child| *child != 0);
+            let child = Some(self.named(page, slot)).filter(|child| *child != PageNumber(0));
             if let Some(frame) = child.and_then(|child| resident.frame(child)) {
                 put_word(&mut bytes, slot, SWIZZLE_BIT + u32::from(frame));
             }
@@ -109,7 +111,7 @@ impl Plain {
 
     /// Every page can be peeked.
     fn check_peeks(&self, machine: &impl Machine, state: &State) -> Check {
-        for page in 0..self.pages() as u16 {
+        for page in (0..self.pages() as u16).map(PageNumber) {
             let place = machine.peek(state, page);
             let place = place.map_err(|number| format!("peek of {page} gives {number}"))?;
             self.check_payload(state, page, &place)?;

@@ -7,12 +7,13 @@ use native.Mathlib.Omega.{arith}
 use borrow.Author.Tests.{lt-ltb, le-ltb}
 use lib.ListN.{length, take, drop, getD, length-take, length-drop}
 use lib.Seq.{getD-take, getD-drop, ext-getD}
-use Rattle.page.specs.Figures.{pageSize, payloadStart}
-use Rattle.page.specs.Page.{name, byte, bytesFrom, payloadOf}
+use Rattle.page.specs.Figures.{pageSize, payloadStart, payloadSize}
+use Rattle.page.specs.Page.{name, byte, bytesFrom, payloadAt, payloadOf}
 use Rattle.machine.specs.declared.Handle.{Handle}
-use Rattle.machine.specs.Laws.TestLaws.{pick-yes, pick-no, pick-either}
+use Rattle.machine.specs.Laws.TestLaws.{pick-either}
+use Rattle.machine.specs.Tests.{pick}
 use Rattle.machine.specs.Machine.{pageNumber, found}
-use Rattle.machine.specs.Answers.{Answer, refused, number, frame, Out}
+use Rattle.machine.specs.Answers.{Answer, refused, payload, inFrames, inStore, number, frame, Out, cut}
 use Rattle.machine.specs.Calls.{showCall, payloadPlace, peekCall, wordCall, foundAnswer, fixCall}
 use Rattle.machine.specs.History.{Point, accepted}
 use Rattle.machine.specs.Demand3.{GivesPayload}
@@ -22,6 +23,7 @@ use Rattle.machine.specs.Theorem.Outcomes.{Usual, granted-of, no-refusal
 use Rattle.machine.specs.Theorem.Holders.{Holder, place, held, unheld, found-absent}
 use Rattle.machine.specs.Theorem.CallCases.{handle-case, word-case, peek-case}
 use Rattle.machine.specs.Theorem.FixCases.{pins, fills, sweeps, refuses, fix-case}
+use Rattle.machine.specs.Theorem.Residence.{resident, holder, not-resident}
 use Rattle.machine.specs.Theorem.PointHolds.{plain-word}
 
 -- two pages with equal payload bytes have one payload
@@ -49,27 +51,45 @@ module _ (x : Point) (I : Invariant x) where
   store-payload : (p : ℕ) → p < x .now .pool .pages → Absent (view (x .now)) p → payloadOf (x .now .store) p ≡ payloadOf (x .map) p
   store-payload p l a = payload-same (x .now .store) (x .map) p p _ _ (I .sized .store) l (I .mapLength) l (λ i lo hi. I .content .absentByte p i l a lo hi)
 
-  -- the bytes at the place that a call answers are the map's
-  pub show-gives : (h : Handle) → accepted (showCall (x .now) h .answer) ≡ true → GivesPayload x (showCall (x .now) h .answer) (h .page .0)
-  unfolding showCall
-  show-gives h t =
-      let r = granted-of _ _ _ _ (handle-case x I h _) t in
-      (_, _, _, ap answerOf (r .1), frame-payload (h .page .0) (h .frame .0) (record { at = r .0 .at; page = r .0 .page }))
+  -- the part at the place that a call answers: the payload of the frame that holds page p, or the stored page's
+  frame-part : (p f : ℕ) (fs st : ℕ × ℕ) → Holder (view (x .now)) p f → GivesPayload x (payload inFrames (payloadAt f) payloadSize) p fs st
+  unfolding cut
+  frame-part p f fs st h = record {
+    bytes = frame-payload p f h;
+    ofFrame = λ g i. let k : Holder (view (x .now)) p g = holder x I p g i in
+        ap (λ (j : ℕ). (fs .0, payloadAt j + fs .1)) (I .shape .apart f g (h .at) (k .at) (h .page ∙ sym (k .page)));
+    ofStore = λ n. absurd (n (resident x I p f h));
+    number = refl;
+  }
 
-  pub place-gives : (p : ℕ) → p < x .now .pool .pages → GivesPayload x (payloadPlace (x .now) p) p
-  unfolding payloadPlace
-  place-gives p l = elim (place (x .now) p) [
-    | held h ↦ (_, _, _, sym (pick-yes _ (lt-ltb _ _ (h .at .lt)) refl), frame-payload p (found (x .now .pool) p) h)
+  store-part : (p : ℕ) (fs st : ℕ × ℕ) → p < x .now .pool .pages → Absent (view (x .now)) p → GivesPayload x (payload inStore (payloadAt p) payloadSize) p fs st
+  unfolding cut
+  store-part p fs st l a = record {
+    bytes = store-payload p l a;
+    ofFrame = λ g i. absurd (not-resident x I p a (g, i));
+    ofStore = λ n. refl;
+    number = refl;
+  }
+
+  pub show-gives : (h : Handle) (fs st : ℕ × ℕ) → accepted (showCall (x .now) h .answer) ≡ true → GivesPayload x (showCall (x .now) h .answer) (h .page .0) fs st
+  unfolding showCall
+  show-gives h fs st t =
+      let r = granted-of _ _ _ _ (handle-case x I h _) t in
+      rw (r .1) (frame-part (h .page .0) (h .frame .0) fs st (record { at = r .0 .at; page = r .0 .page }))
+
+  place-gives : (p : ℕ) (fs st : ℕ × ℕ) → p < x .now .pool .pages → GivesPayload x (payloadPlace (x .now) p) p fs st
+  unfolding payloadPlace pick
+  place-gives p fs st l = elim (place (x .now) p) [
+    | held h ↦ rw (lt-ltb (found (x .now .pool) p) (x .now .pool .count) (h .at .lt)) (frame-part p (found (x .now .pool) p) fs st h)
     | unheld a ↦
         let e : found (x .now .pool) p ≡ x .now .pool .count = found-absent (x .now) p a in
-        (_, _, _, sym (pick-no _ (le-ltb (found (x .now .pool) p) (x .now .pool .count) (omega arith)) refl), store-payload p l a)
+        rw (le-ltb (found (x .now .pool) p) (x .now .pool .count) (omega arith)) (store-part p fs st l a)
   ]
 
-  pub peek-gives : (p : ℕ) → accepted (peekCall (x .now) (pageNumber p) .answer) ≡ true → GivesPayload x (peekCall (x .now) (pageNumber p) .answer) p
-  peek-gives p t =
+  pub peek-gives : (p : ℕ) (fs st : ℕ × ℕ) → accepted (peekCall (x .now) (pageNumber p) .answer) ≡ true → GivesPayload x (peekCall (x .now) (pageNumber p) .answer) p fs st
+  peek-gives p fs st t =
       let r = granted-of _ _ _ _ (peek-case x I (pageNumber p)) t in
-      let g = place-gives p (r .0) in
-      (g .0, g .1, g .2, ap answerOf (r .1) ∙ g .3, g .4)
+      rw (r .1) (place-gives p fs st (r .0))
 
   -- ---- words
   pub word-gives : (h : Handle) (k : ℕ) → accepted (wordCall (x .now) h k .answer) ≡ true → wordCall (x .now) h k .answer ≡ number (name (x .map) (h .page .0) k)

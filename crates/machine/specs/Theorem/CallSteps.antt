@@ -1,18 +1,19 @@
 -- A call that is granted or denied keeps the invariant: fix, open and those that change nothing; and the points after root and fix. Assumes nothing.
-use Prim.Native.Nat.{ℕ, _/_, _<_}
+use Prim.Native.Nat.{ℕ, _/_}
 use mathlib.Core.Path.{_≡_, refl}
 use mathlib.Core.Bool.{true}
 use lib.Dec.{ltb}
 use lib.ListN.{length}
 use Rattle.page.specs.declared.PageNumber.{PageNumber}
-use Rattle.page.specs.Figures.{pageSize}
+use Rattle.page.specs.Figures.{pageSize, payloadSize}
+use Rattle.page.specs.Page.{payloadAt}
 use Rattle.machine.specs.declared.Handle.{Handle}
 use Rattle.machine.specs.Tests.{pick}
 use Rattle.machine.specs.Laws.TestLaws.{pick-either}
 use Rattle.machine.specs.Machine.{state, zeroPool, found}
 use Rattle.machine.specs.Soundness.{sound}
 use Rattle.machine.specs.Sweep.{firstEmpty}
-use Rattle.machine.specs.Answers.{Answer, refused, done, frame, nowhere, Out, out}
+use Rattle.machine.specs.Answers.{Answer, refused, done, payload, inFrames, inStore, frame, nowhere, Out, out}
 use Rattle.machine.specs.Calls.{opened, showCall, fixCall, payloadPlace, foundAnswer}
 use Rattle.machine.specs.History.{root, fix, show, peek, find, Row, row, Point, continued, reopened, next}
 use Rattle.machine.specs.Theorem.View.{first-root}
@@ -22,7 +23,6 @@ use Rattle.machine.specs.Theorem.SweepStep.{swept-keeps}
 use Rattle.machine.specs.Theorem.Outcomes.{Cases, granted, denied}
 use Rattle.machine.specs.Theorem.InvariantReads.{lengths-fit-open}
 use Rattle.machine.specs.Theorem.CallCases.{root-case, handle-case}
-use Rattle.machine.specs.Theorem.AnswersHold.{place-gives}
 use Rattle.machine.specs.Theorem.FixCases.{pins, fills, sweeps, refuses, fix-case}
 
 module _ (x : Point) (I : Invariant x) where
@@ -40,9 +40,10 @@ module _ (x : Point) (I : Invariant x) where
   unfolding showCall pick
   show-keeps h = call-keeps (row (show h)) _ _ _ (handle-case x I h _) (λ H. I)
 
-  pub peek-keeps : (q : PageNumber) → q .0 < x .now .pool .pages → Invariant (continued (row (peek q)) (out (payloadPlace (x .now) (q .0)) (x .now)) x)
-  unfolding pick
-  peek-keeps q l = rw (place-gives x I (q .0) l .3) I
+  pub peek-keeps : (q : PageNumber) → Invariant (continued (row (peek q)) (out (payloadPlace (x .now) (q .0)) (x .now)) x)
+  unfolding pick payloadPlace
+  peek-keeps q = pick-either (λ (a : Answer). Invariant (continued (row (peek q)) (out a (x .now)) x)) (ltb (found (x .now .pool) (q .0)) (x .now .pool .count))
+      (payload inFrames (payloadAt (found (x .now .pool) (q .0))) payloadSize) (payload inStore (payloadAt (q .0)) payloadSize) I I
 
   pub find-keeps : (q : PageNumber) → Invariant (continued (row (find q)) (out (foundAnswer (x .now) (q .0)) (x .now)) x)
   unfolding pick foundAnswer

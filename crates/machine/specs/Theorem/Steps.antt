@@ -20,7 +20,7 @@ module _ (x : Point) (I : Invariant x) where
   step-keeps (fix h k) b = fix-next x I h k
   step-keeps (unfix h) b = call-keeps x I (row (unfix h)) _ _ _ (unfix-case x I h) (λ H. rw (H .page) at (unpin-keeps x I (h .frame .0) (H .at) (H .pinned)))
   step-keeps (show h) b = show-keeps x I h
-  step-keeps (peek q) b = call-keeps x I (row (peek q)) _ _ _ (peek-case x I q) (peek-keeps x I q)
+  step-keeps (peek q) b = call-keeps x I (row (peek q)) _ _ _ (peek-case x I q) (λ l. peek-keeps x I q)
   step-keeps (word h k) b = call-keeps x I (row (word h k)) _ _ _ (word-case x I h k) (λ A. I)
   step-keeps (write h offset d) b = call-keeps x I (row (write h offset d)) _ _ _ (write-case x I h offset d)
       (λ A. rw (A .handle .page) at (write-keeps x I (h .frame .0) (A .handle .at) offset d (A .fits) b))

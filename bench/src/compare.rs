@@ -1,0 +1,89 @@
+//! Two programs, each linked to an archive of its own, timed in turn. A busy moment of the machine falls on a round or two:
+//! the least times of all rounds and the middle one of the rounds' ratios both have to tell before a row counts as slower.
+use crate::rows::Figure;
+use std::io;
+use std::process::Command;
+
+/// Runs of each program.
+const ROUNDS: usize = 10;
+/// What a row may lose before it counts as slower.
+const MOST: f64 = 1.03;
+
+const HEAD: &str = "\
+| call | F | N | A, ns | B, ns | A to baseline | B to baseline | B to A | middle of the rounds |
+|---|--:|--:|--:|--:|--:|--:|--:|--:|
+";
+
+/// A row's times in one round of a program.
+struct Round {
+    row: String,
+    library: f64,
+    baseline: f64,
+}
+
+/// What a round of a comparison reads.
+pub fn lines(figures: &[Figure]) -> String {
+    let line = |figure: &Figure| {
+        let (row, times) = (format!("{} | {} | {}", figure.label, figure.count, figure.pages), figure.times);
+        format!("{row}\t{}\t{}\n", times.library, times.baseline)
+    };
+    figures.iter().map(line).collect()
+}
+
+/// The table of two programs.
+pub fn text(programs: [&str; 2], call: &str) -> io::Result<String> {
+    let mut rounds = [Vec::new(), Vec::new()];
+    for round in 0..ROUNDS {
+        for side in [round % 2, 1 - round % 2] {
+            rounds[side].push(run(programs[side], call)?);
+        }
+    }
+    Ok(table(&rounds))
+}
+
+fn run(program: &str, call: &str) -> io::Result<Vec<Round>> {
+    let output = Command::new(program).args(["--figures", call]).output()?;
+    if !output.status.success() {
+        return Err(io::Error::other(String::from_utf8_lossy(&output.stderr)));
+    }
+    String::from_utf8_lossy(&output.stdout).lines().map(read).collect()
+}
+
+fn read(line: &str) -> io::Result<Round> {
+    let mut fields = line.split('\t');
+    let mut field = || fields.next().ok_or_else(|| io::Error::other(format!("no row: {line}")));
+    let row = field()?.to_string();
+    let mut time = || field()?.parse().map_err(io::Error::other);
+    Ok(Round { row, library: time()?, baseline: time()? })
+}
+
+fn table(rounds: &[Vec<Vec<Round>>; 2]) -> String {
+    let (mut text, mut slower, rows) = (HEAD.to_string(), 0, rounds[0][0].len());
+    for row in 0..rows {
+        let [a, b] = [0, 1].map(|side| rounds[side].iter().map(|round| &round[row]).collect::<Vec<_>>());
+        let baseline = least(a.iter().chain(&b).map(|round| round.baseline));
+        let [least_a, least_b] = [&a, &b].map(|side| least(side.iter().map(|round| round.library)));
+        let (by_least, by_middle) = (least_b / least_a, middle_ratio(&b) / middle_ratio(&a));
+        let is_slower = by_least > MOST && by_middle > MOST;
+        slower += usize::from(is_slower);
+        text += &format!(
+            "| {} | {least_a:.1} | {least_b:.1} | {:.3} | {:.3} | {by_least:.3} | {by_middle:.3}{} |\n",
+            a[0].row,
+            least_a / baseline,
+            least_b / baseline,
+            if is_slower { ", slower" } else { "" }
+        );
+    }
+    text + &format!("\n{slower} of {rows} rows are slower in B by more than 3 %.\n")
+}
+
+fn least(times: impl Iterator<Item = f64>) -> f64 {
+    times.fold(f64::MAX, f64::min)
+}
+
+/// The middle one of the rounds' ratios to the baseline.
+fn middle_ratio(rounds: &[&Round]) -> f64 {
+    let mut ratios: Vec<f64> = rounds.iter().map(|round| round.library / round.baseline).collect();
+    ratios.sort_by(f64::total_cmp);
+    (ratios[(ratios.len() - 1) / 2] + ratios[ratios.len() / 2]) / 2.0
+}

@@ -1,0 +1,172 @@
+//! The thirteen calls, each on records, frames and store lent by the caller.
+use crate::raw;
+use crate::records::{FrameIndex, Handle, PageNumber, Pool};
+use crate::refusal::{unless_refused, Refusal};
+
+/// The answer of root and fix: the handle of the page that was pinned, and the looks of the sweep that made room for it, 0
+/// if none.
+#[derive(Clone, Copy, Debug, PartialEq, Eq)]
+pub struct Fixed {
+    pub handle: Handle,
+    pub looks: u16,
+}
+
+/// Calls an exported function with the records and the lent buffers, and then its own arguments.
+macro_rules! call {
+    ($name:ident($pool:expr, $frames:ident.$frames_ptr:ident, $store:ident.$store_ptr:ident $(, $argument:expr)*)) => {
+        // SAFETY: each pointer is that of a slice of the length beside it, lent for the call alone; the slices that can be
+        // written overlap no other.
+        unsafe {
+            raw::$name($pool, $frames.$frames_ptr(), $frames.len(), $store.$store_ptr(), $store.len() $(, $argument)*)
+        }
+    };
+}
+
+impl raw::Done {
+    fn answer(self, pool: &mut Pool) -> Result<(), Refusal> {
+        *pool = self.pool;
+        unless_refused(self.refusal, ())
+    }
+}
+
+impl raw::Fixed {
+    fn answer(self, pool: &mut Pool) -> Result<Fixed, Refusal> {
+        *pool = self.pool;
+        unless_refused(self.refusal, Fixed { handle: self.handle, looks: self.looks })
+    }
+}
+
+impl raw::Place {
+    /// The part of a buffer at this place.
+    fn part(self, buffer: &[u8]) -> Result<&[u8], Refusal> {
+        unless_refused(self.refusal, self.start..self.start + self.size).map(|range| &buffer[range])
+    }
+}
+
+/// Begins with a store: page 0 is copied to frame 0, not pinned, and every other frame is empty. What an earlier pool has not
+/// settled is forgotten. Refused: 1, 16.
+pub fn open(frames: &mut [u8], store: &[u8]) -> Result<Pool, Refusal> {
+    // SAFETY: as in `call`.
+    let done = unsafe { raw::pool_open(frames.as_mut_ptr(), frames.len(), store.as_ptr(), store.len()) };
+    unless_refused(done.refusal, done.pool)
+}
+
+/// Pins page 0. Refused: 1, 2, 13.
+pub fn root(pool: &mut Pool, frames: &[u8], store: &[u8]) -> Result<Fixed, Refusal> {
+    call!(pool_root(*pool, frames.as_ptr, store.as_ptr)).answer(pool)
+}
+
+/// Pins the page that a slot of the handle's page names, and loads it first if it isn't resident. Refused: 1, 2, 3, 4, 7; 13
+/// if it is resident, 14 and 15 if not.
+pub fn fix(
+    pool: &mut Pool,
+    frames: &mut [u8],
+    store: &mut [u8],
+    handle: Handle,
+    slot: usize,
+) -> Result<Fixed, Refusal> {
+    call!(pool_fix(*pool, frames.as_mut_ptr, store.as_mut_ptr, handle, slot)).answer(pool)
+}
+
+/// Takes one pin off the handle's page. Refused: 1, 2, 3.
+pub fn unfix(pool: &mut Pool, frames: &[u8], store: &[u8], handle: Handle) -> Result<(), Refusal> {
+    call!(pool_unfix(*pool, frames.as_ptr, store.as_ptr, handle)).answer(pool)
+}
+
+/// The payload of the handle's page, a part of the frames. Refused: 1, 2, 3.
+///
+/// Records and store can be changed while it is held:
+///
+/// ```
+/// # use pagepool::{PAGE_SIZE, PAYLOAD_SIZE};
+/// # let (mut frames, mut store) = ([0; 2 * PAGE_SIZE], [0; PAGE_SIZE]);
+/// # let mut pool = pagepool::open(&mut frames, &store)?;
+/// # let root = pagepool::root(&mut pool, &frames, &store)?.handle;
+/// let payload = pagepool::show(&pool, &frames, &store, root)?;
+/// pagepool::settle(&mut pool, &frames, &mut store)?;
+/// assert_eq!(payload, [0; PAYLOAD_SIZE]);
+/// # Ok::<(), pagepool::Refusal>(())
+/// ```
+pub fn show<'a>(pool: &Pool, frames: &'a [u8], store: &[u8], handle: Handle) -> Result<&'a [u8], Refusal> {
+    call!(pool_show(*pool, frames.as_ptr, store.as_ptr, handle)).part(frames)
+}
+
+/// The payload of a page, in the frames if it is resident, otherwise in the store. Refused: 1, 2, 6.
+pub fn peek<'a>(
+    pool: &Pool,
+    frames: &'a [u8],
+    store: &'a [u8],
+    page: PageNumber,
+) -> Result<&'a [u8], Refusal> {
+    let place = call!(pool_peek(*pool, frames.as_ptr, store.as_ptr, page));
+    place.part(if place.in_store { store } else { frames })
+}
+
+/// The page that a slot of the handle's page names, if it names one. Refused: 1, 2, 3, 4.
+pub fn word(
+    pool: &Pool,
+    frames: &[u8],
+    store: &[u8],
+    handle: Handle,
+    slot: usize,
+) -> Result<Option<PageNumber>, Refusal> {
+    let named = call!(pool_word(*pool, frames.as_ptr, store.as_ptr, handle, slot));
+    unless_refused(named.refusal, (named.page != PageNumber(0)).then_some(named.page))
+}
+
+/// Puts bytes at an offset of the payload of the handle's page, which is then dirty unless there are none. Refused: 1, 2, 3, 5.
+pub fn write(
+    pool: &mut Pool,
+    frames: &mut [u8],
+    store: &[u8],
+    handle: Handle,
+    offset: usize,
+    bytes: &[u8],
+) -> Result<(), Refusal> {
+    call!(pool_write(*pool, frames.as_mut_ptr, store.as_ptr, handle, offset, bytes.as_ptr(), bytes.len()))
+        .answer(pool)
+}
+
+/// Stores a page number in an empty slot of the handle's page, which is then dirty. Refused: 1, 2, 3, 4, 6, 8, 9.
+pub fn link(
+    pool: &mut Pool,
+    frames: &mut [u8],
+    store: &[u8],
+    handle: Handle,
+    slot: usize,
+    page: PageNumber,
+) -> Result<(), Refusal> {
+    call!(pool_link(*pool, frames.as_mut_ptr, store.as_ptr, handle, slot, page)).answer(pool)
+}
+
+/// Clears a slot of the handle's page, which is then dirty. Refused: 1, 2, 3, 4, 7, 10.
+pub fn unlink(
+    pool: &mut Pool,
+    frames: &mut [u8],
+    store: &[u8],
+    handle: Handle,
+    slot: usize,
+) -> Result<(), Refusal> {
+    call!(pool_unlink(*pool, frames.as_mut_ptr, store.as_ptr, handle, slot)).answer(pool)
+}
+
+/// Takes a page out of its frame, to the store if it is dirty. Refused: 1, 2, 6, 11, 12.
+pub fn evict(pool: &mut Pool, frames: &mut [u8], store: &mut [u8], page: PageNumber) -> Result<(), Refusal> {
+    call!(pool_evict(*pool, frames.as_mut_ptr, store.as_mut_ptr, page)).answer(pool)
+}
+
+/// Writes each dirty page to the store, and marks it clean. Refused: 1, 2.
+pub fn settle(pool: &mut Pool, frames: &[u8], store: &mut [u8]) -> Result<(), Refusal> {
+    call!(pool_settle(*pool, frames.as_ptr, store.as_mut_ptr)).answer(pool)
+}
+
+/// The frame that holds a page, none if it isn't resident. Refused: 1, 2, 6.
+pub fn find(
+    pool: &Pool,
+    frames: &[u8],
+    store: &[u8],
+    page: PageNumber,
+) -> Result<Option<FrameIndex>, Refusal> {
+    let found = call!(pool_find(*pool, frames.as_ptr, store.as_ptr, page));
+    unless_refused(found.refusal, found.present.then_some(found.frame))
+}

@@ -1,0 +1,118 @@
+//! A pool together with the buffers it works on.
+use crate::calls::{self, Fixed};
+use crate::records::{FrameIndex, Handle, PageNumber, Pool};
+use crate::refusal::Refusal;
+
+/// The records with the frames and the store that each call is lent, and the calls as methods. The buffers are what the host
+/// has: vectors, arrays, or slices of its own memory.
+///
+/// ```
+/// use pagepool::{PageNumber, PagePool, Refusal, PAGE_SIZE};
+///
+/// // 4 frames over a store of 16 empty pages.
+/// let mut pool = PagePool::new([0; 4 * PAGE_SIZE], vec![0; 16 * PAGE_SIZE]);
+/// pool.open()?;
+///
+/// // Page 7 goes below slot 3 of the root, and gets some bytes.
+/// let root = pool.root()?.handle;
+/// pool.link(root, 3, PageNumber(7))?;
+/// let seven = pool.fix(root, 3)?.handle;
+/// pool.write(seven, 0, b"seven")?;
+/// assert_eq!(&pool.show(seven)?[..5], b"seven");
+///
+/// // A pinned page stays where it is. A released one can go to the store, where peek still finds it.
+/// assert_eq!(pool.evict(PageNumber(7)), Err(Refusal::NotOpen));
+/// pool.unfix(seven)?;
+/// pool.evict(PageNumber(7))?;
+/// assert_eq!(pool.find(PageNumber(7))?, None);
+/// assert_eq!(&pool.peek(PageNumber(7))?[..5], b"seven");
+///
+/// // After a settle the store holds every change.
+/// pool.settle()?;
+/// assert_eq!(pool.store[3 * 4], 7);
+/// # Ok::<(), Refusal>(())
+/// ```
+#[derive(Clone, Debug, PartialEq, Eq)]
+pub struct PagePool<F, S> {
+    pub records: Pool,
+    pub frames: F,
+    pub store: S,
+}
+
+impl<F, S> PagePool<F, S>
+where
+    F: AsRef<[u8]> + AsMut<[u8]>,
+    S: AsRef<[u8]> + AsMut<[u8]>,
+{
+    /// The buffers of a pool that is still to be opened: until then every other call is refused by
+    /// [`WrongLength`](Refusal::WrongLength).
+    pub const fn new(frames: F, store: S) -> PagePool<F, S> {
+        PagePool { records: Pool::ZERO, frames, store }
+    }
+
+    /// Begins with the store as it is, as [`open`](calls::open) does. Refused, the records stay as they were.
+    pub fn open(&mut self) -> Result<(), Refusal> {
+        self.records = calls::open(self.frames.as_mut(), self.store.as_ref())?;
+        Ok(())
+    }
+
+    /// As [`root`](calls::root).
+    pub fn root(&mut self) -> Result<Fixed, Refusal> {
+        calls::root(&mut self.records, self.frames.as_ref(), self.store.as_ref())
+    }
+
+    /// As [`fix`](calls::fix).
+    pub fn fix(&mut self, handle: Handle, slot: usize) -> Result<Fixed, Refusal> {
+        calls::fix(&mut self.records, self.frames.as_mut(), self.store.as_mut(), handle, slot)
+    }
+
+    /// As [`unfix`](calls::unfix).
+    pub fn unfix(&mut self, handle: Handle) -> Result<(), Refusal> {
+        calls::unfix(&mut self.records, self.frames.as_ref(), self.store.as_ref(), handle)
+    }
+
+    /// As [`show`](calls::show), which borrows the frames alone and not the whole pool.
+    pub fn show(&self, handle: Handle) -> Result<&[u8], Refusal> {
+        calls::show(&self.records, self.frames.as_ref(), self.store.as_ref(), handle)
+    }
+
+    /// As [`peek`](calls::peek), which borrows frames and store and not the records.
+    pub fn peek(&self, page: PageNumber) -> Result<&[u8], Refusal> {
+        calls::peek(&self.records, self.frames.as_ref(), self.store.as_ref(), page)
+    }
+
+    /// As [`word`](calls::word).
+    pub fn word(&self, handle: Handle, slot: usize) -> Result<Option<PageNumber>, Refusal> {
+        calls::word(&self.records, self.frames.as_ref(), self.store.as_ref(), handle, slot)
+    }
+
+    /// As [`write`](calls::write).
+    pub fn write(&mut self, handle: Handle, offset: usize, bytes: &[u8]) -> Result<(), Refusal> {
+        calls::write(&mut self.records, self.frames.as_mut(), self.store.as_ref(), handle, offset, bytes)
+    }
+
+    /// As [`link`](calls::link).
+    pub fn link(&mut self, handle: Handle, slot: usize, page: PageNumber) -> Result<(), Refusal> {
+        calls::link(&mut self.records, self.frames.as_mut(), self.store.as_ref(), handle, slot, page)
+    }
+
+    /// As [`unlink`](calls::unlink).
+    pub fn unlink(&mut self, handle: Handle, slot: usize) -> Result<(), Refusal> {
+        calls::unlink(&mut self.records, self.frames.as_mut(), self.store.as_ref(), handle, slot)
+    }
+
+    /// As [`evict`](calls::evict).
+    pub fn evict(&mut self, page: PageNumber) -> Result<(), Refusal> {
+        calls::evict(&mut self.records, self.frames.as_mut(), self.store.as_mut(), page)
+    }
+
+    /// As [`settle`](calls::settle).
+    pub fn settle(&mut self) -> Result<(), Refusal> {
+        calls::settle(&mut self.records, self.frames.as_ref(), self.store.as_mut())
+    }
+
+    /// As [`find`](calls::find).
+    pub fn find(&self, page: PageNumber) -> Result<Option<FrameIndex>, Refusal> {
+        calls::find(&self.records, self.frames.as_ref(), self.store.as_ref(), page)
+    }
+}
