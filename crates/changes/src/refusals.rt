@@ -73,7 +73,7 @@ pub fn link_refusal(
     if n <= page.0 as usize {
         return 6;
     }
-    if guard::slot_word(frames, handle.frame, slot) != 0 {
+    if page::slot::slot_name(frames, handle.frame, slot) != 0 {
         return 8;
     }
     if naming::is_named(pages, seen, store, n, page) {
@@ -100,7 +100,7 @@ pub fn unlink_refusal(
     if refusal != 0 {
         return refusal;
     }
-    let w = guard::slot_word(frames, handle.frame, slot);
+    let w = page::slot::slot_name(frames, handle.frame, slot);
     if w == 0 {
         return 7;
     }

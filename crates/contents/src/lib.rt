@@ -111,7 +111,7 @@ pub fn word(pool: Pool, frames: &[u8], store: &[u8], handle: Handle, slot: usize
     if refusal != 0 {
         return WordAnswer::Refused(refusal);
     }
-    let w = guard::slot_word(frames, handle.frame, slot);
+    let w = page::slot::slot_name(frames, handle.frame, slot);
     WordAnswer::Names(page_named(&pages, w))
 }
 

@@ -55,7 +55,7 @@ pub fn fix(pool: Pool, frames: &mut [u8], store: &mut [u8], handle: Handle, slot
         return answer::refused(pool, refusal);
     }
     let parent = handle.frame;
-    let w = guard::slot_word(frames, parent, slot);
+    let w = page::slot::slot_name(frames, parent, slot);
     if w == 0 {
         return answer::refused(pool, 7);
     }

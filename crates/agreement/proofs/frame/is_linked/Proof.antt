@@ -22,15 +22,15 @@ mul-at-2 c = search needs
 add-at : tie.Need-add-at
 add-at c = search needs
 
-word-at-requires : tie.Need-word-at-requires
-word-at-requires c κs = search needs
+name-at-requires : tie.Need-name-at-requires
+name-at-requires c κs = search needs
 
 word-requires : tie.Need-word-requires
 word-requires c κs = search needs
 
 returns : tie.Need-returns
 returns c =
-    let e = rw (c .before .before .before .from-u8 .ensures, c .before .before .from-u82 .ensures) at (c .before .word-at .ensures) in
+    let e = rw (c .before .before .before .from-u8 .ensures, c .before .before .from-u82 .ensures) at (c .before .name-at .ensures) in
     let s = slot-from (c .before .before .before .before .before .before .args .frames .now) (c .before .before .before .before .before .before .args .rec .parent .0) (c .before .before .before .before .before .before .args .rec .slot) in
     decide-equal _ _ _
     (λ q. record { occupied = c .before .before .before .before .if1 .taken; word = s ∙ sym e ∙ q ∙ c .word .ensures })
@@ -48,7 +48,7 @@ is-linked-spec =
     from-u8-requires-2
     mul-at-2
     add-at
-    word-at-requires
+    name-at-requires
     word-requires
     returns
     returns-2)
