@@ -9,7 +9,7 @@ use native.Mathlib.Nat.{le-refl}
 use native.Mathlib.Decide.{ℕ-discrete, decLt}
 use borrow.Author.Tests.{le-leb, leb-true}
 use Rattle.page.specs.Figures.{slotCount, recordCount}
-use Rattle.page.specs.Word.{frameIn, frameWord, Number, Swizzled}
+use Rattle.page.specs.Word.{frameIn, frameWord, Number, Swizzled, high, low, reading}
 use Rattle.page.specs.Page.{name}
 use Rattle.machine.specs.declared.FrameRecord.{FrameRecord}
 use Rattle.machine.specs.declared.Pool.{Pool}
