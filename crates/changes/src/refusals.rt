@@ -100,11 +100,11 @@ pub fn unlink_refusal(
     if refusal != 0 {
         return refusal;
     }
-    let w = page::slot::slot_name(frames, handle.frame, slot);
-    if w == 0 {
+    let name = page::slot::slot_name(frames, handle.frame, slot);
+    if name == 0 {
         return 7;
     }
-    if !page::word::is_number(w) {
+    if !page::word::is_number(name) {
         return 10;
     }
     0

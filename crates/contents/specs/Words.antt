@@ -7,8 +7,8 @@ use native.Mathlib.Omega.{arith}
 use native.Mathlib.Decide.{ℕ-discrete}
 use lib.ListN.{length}
 use Rattle.page.specs.declared.PageNumber.{PageNumber}
-use Rattle.page.specs.Figures.{pageSize, slotCount, mostPages, mostFrames, swizzleBit}
-use Rattle.page.specs.Word.{frameIn, reading, low, high}
+use Rattle.page.specs.Figures.{pageSize, slotCount, mostPages, mostFrames}
+use Rattle.page.specs.Word.{frameIn, reading, low, high, Number, Swizzled}
 use Rattle.machine.specs.declared.Handle.{Handle}
 use Rattle.machine.specs.Tests.{firstBroken}
 use Rattle.machine.specs.Machine.{State, pageNumber, pageIn}
@@ -24,10 +24,10 @@ use Rattle.residents.specs.Handed.{Handed}
 
 -- a page number below the largest N, or swizzled to one of the largest F frames
 pub record Resolvable (w : ℕ) : Type 0 where
-  pub number : w < swizzleBit → w < mostPages
-  pub frame : swizzleBit ≤ w → frameIn w < mostFrames
+  pub number : Number w → w < mostPages
+  pub frame : Swizzled w → frameIn w < mostFrames
 
--- n is the refusal by rules 1 to 4, and w the word that the code read
+-- n is the refusal by rules 1 to 4, and w the name that the code read
 module _ (s : State) (h : Handle) (k : ℕ) {pages : List ℕ} {seen : List Bool} {n : ℕ} (e : (n ≡ firstBroken (wordRules s h k)) × (n ≡ 0 → Handed (s .pool) (s .frames) pages seen)) (z : n ≡ 0) where
   kept : SlotKept s h k
   kept = slot-kept s h k (sym (e .0) ∙ z)
