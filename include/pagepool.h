@@ -1,14 +1,33 @@
 /*
- * The page pool for C: link target/staticlib/libpagepool.a, which `rt staticlib pagepool` writes for x86-64.
+ * The page pool for C99 or later and for C++, on x86-64.
+ *
+ * `./install PREFIX` copies this header, the archive and a pkg-config file below PREFIX:
+ *     cc program.c $(PKG_CONFIG_PATH=PREFIX/lib/pkgconfig pkg-config --cflags --libs pagepool)
+ * In this tree, `./archive` writes target/staticlib/libpagepool.a; examples/demo.c is a program that links it.
  *
  * The host owns everything. It keeps the store (N pages of 256 bytes), the frames (F of 256 bytes) and the pool's records,
  * and hands all three to every call; a call keeps nothing. The records are passed by value: go on with those in the answer.
  *
- * An answer's `refusal` is 0 where the call was accepted, and otherwise the number of the first broken rule (enum
- * pool_refusal); the rest of the answer then says nothing, and records, frames and store are as they were.
+ * Answers. `refusal` is 0 where the call was accepted, and otherwise the number of the first broken rule (enum pool_refusal).
+ * An accepted answer's fields all count. A refused call has changed nothing: the records in its answer are those that it was
+ * handed, to go on with, and every other field is 0. Open alone takes no records: refused, it answers all-zero ones, and the
+ * host goes on with its old ones.
  *
- * Each call takes any lengths, records, handle, slot, offset and page number. What it asks of the pointers is what C asks:
- * none is null, each has its length's bytes behind it, and a buffer that is not const overlaps no other. Each bool is 0 or 1.
+ * Handles. A handle is a frame and the page in it. It is good from the answer of root or fix that gave it until each of the
+ * page's pins was taken off by an unfix: as long as the page is pinned it stays in that frame, whatever else is called but
+ * open. A stale handle is refused by 3 and never reaches another page; it is good again where its page is pinned in that frame
+ * again.
+ *
+ * Payloads. Show and peek answer a place in the host's own buffers, to be read there until the next call that takes that
+ * buffer without const. A part of frames or store must not be handed to write as its bytes. To copy a payload to another
+ * page, copy it to a buffer of one's own, and hand that to write:
+ *     uint8_t copy[POOL_PAYLOAD_SIZE];
+ *     memcpy(copy, pool_payload(place, frames, store), sizeof copy);
+ *
+ * Arguments. A call takes any lengths, records, handle, slot, offset and page number, and refuses what it can't use. Of the
+ * pointers it asks what C asks: each has its length's bytes behind it, and a buffer that is not const overlaps no other.
+ * NULL with a length of 0 is fine throughout: frames or store of no bytes are refused by 1, and a write of no bytes changes
+ * nothing. NULL with any other length is not.
  */
 #ifndef PAGEPOOL_H
 #define PAGEPOOL_H
@@ -20,6 +39,16 @@
 #ifdef __cplusplus
 extern "C" {
 #endif
+
+/*
+ * ---- version
+ *
+ * Raised by each change of a signature or a struct: MINOR where programs that were written and compiled for the version before
+ * go on working with the new archive, otherwise MAJOR.
+ */
+#define PAGEPOOL_VERSION_MAJOR 1
+#define PAGEPOOL_VERSION_MINOR 0
+#define PAGEPOOL_VERSION (1000 * PAGEPOOL_VERSION_MAJOR + PAGEPOOL_VERSION_MINOR)
 
 /* ---- figures */
 
@@ -78,10 +107,14 @@ enum pool_refusal {
 typedef uint8_t pool_frame_index;
 typedef uint16_t pool_page_number;
 
-/* What is known of one frame. The all-zero record is the empty frame's. */
+/*
+ * What is known of one frame. The all-zero record is the empty frame's. A field out of its range, such as a `used` or a
+ * `dirty` above 1, is refused by 2.
+ */
 struct pool_record {
-    bool used;
-    bool dirty;
+    /* 1 where the frame holds a page, and 1 where that was changed since it was loaded or settled; otherwise 0. */
+    uint8_t used;
+    uint8_t dirty;
     /* The usage count of the clock sweep, 0 to 3. */
     uint8_t usage;
     /* The slot of the parent's word that names the page, and the parent's frame. */
@@ -94,6 +127,7 @@ struct pool_record {
 /* The pool's records: one for each of up to 64 frames, F, N and the clock hand. */
 struct pool {
     struct pool_record records[POOL_MOST_FRAMES];
+    /* F and N. */
     uint16_t count;
     uint16_t pages;
     pool_frame_index hand;
@@ -126,14 +160,14 @@ struct pool_named {
     pool_page_number page;
 };
 
-/* Whether a page is resident, and its frame. */
+/* Whether a page is resident, and its frame, 0 where it isn't. */
 struct pool_found {
     uint8_t refusal;
     bool present;
     pool_frame_index frame;
 };
 
-/* Where a payload lies: in the store or in the frames, from `start` on. */
+/* Where a payload lies: in the store or in the frames, from `start` on. Beside a refusal, no bytes at the frames' start. */
 struct pool_place {
     uint8_t refusal;
     bool in_store;
@@ -141,7 +175,7 @@ struct pool_place {
     size_t size;
 };
 
-/* The payload there, in the host's own buffer: `place.size` bytes, to be read until the next call that changes a buffer. */
+/* The payload there, in the host's own buffer: `place.size` bytes. */
 static inline const uint8_t *pool_payload(struct pool_place place, const uint8_t *frames, const uint8_t *store)
 {
     return (place.in_store ? store : frames) + place.start;
@@ -150,8 +184,9 @@ static inline const uint8_t *pool_payload(struct pool_place place, const uint8_t
 /* ---- the calls */
 
 /*
- * Begins with a store: page 0 is copied to frame 0, not pinned, and every other frame is empty. F and N are the sizes over
- * 256. Gives the records. Refused: 1, 16, with all-zero records; the host goes on with its old ones.
+ * Begins with a store as it is: page 0 is copied to frame 0, not pinned, and every other frame is empty. F and N are the sizes
+ * over 256. Gives the records. Whatever earlier records of this store had not settled is forgotten, and their handles are
+ * stale: settle first. Refused: 1, 16.
  */
 struct pool_done pool_open(uint8_t *frames, size_t frames_size, const uint8_t *store, size_t store_size);
 
@@ -163,6 +198,10 @@ struct pool_fixed pool_root(struct pool pool, const uint8_t *frames, size_t fram
  * Pins the page that a slot of the handle's page names, and gives its handle. A page that isn't resident is loaded first,
  * into an empty frame or one that a sweep takes, whose page is evicted. Refused: 1, 2, 3, 4, 7; 13 if it is resident, 14 and
  * 15 if not.
+ *
+ * After 15 every frame holds the root, a pinned page or a page with a resident child. Unfix a page that has none until its
+ * pins are gone, and fix again; before that, evict would be refused for every page too. A host that keeps so many pages
+ * pinned at once needs more frames: settle, and open with a larger F.
  */
 struct pool_fixed pool_fix(struct pool pool, uint8_t *frames, size_t frames_size, uint8_t *store, size_t store_size,
                            struct pool_handle handle, size_t slot);
@@ -206,7 +245,67 @@ struct pool_done pool_settle(struct pool pool, const uint8_t *frames, size_t fra
 struct pool_found pool_find(struct pool pool, const uint8_t *frames, size_t frames_size, const uint8_t *store,
                             size_t store_size, pool_page_number page);
 
-/* ---- the layout of these structs: every field with a value of its own, as tests/host/layout.c reads them */
+/* ---- the layout of these structs, as the archive has it */
+
+#if defined(__cplusplus) && __cplusplus >= 201103L
+#define POOL_ASSERT(name, condition) static_assert(condition, #name)
+#elif !defined(__cplusplus) && defined(__STDC_VERSION__) && __STDC_VERSION__ >= 201112L
+#define POOL_ASSERT(name, condition) _Static_assert(condition, #name)
+#else
+#define POOL_ASSERT(name, condition) typedef char pool_assert_##name[(condition) ? 1 : -1]
+#endif
+#define POOL_SIZE(kind, size) POOL_ASSERT(size_of_##kind, sizeof(struct kind) == (size))
+#define POOL_OFFSET(kind, field, at) POOL_ASSERT(kind##_##field, offsetof(struct kind, field) == (at))
+
+POOL_SIZE(pool_record, 10);
+POOL_OFFSET(pool_record, used, 0);
+POOL_OFFSET(pool_record, dirty, 1);
+POOL_OFFSET(pool_record, usage, 2);
+POOL_OFFSET(pool_record, slot, 3);
+POOL_OFFSET(pool_record, parent, 4);
+POOL_OFFSET(pool_record, pins, 6);
+POOL_OFFSET(pool_record, page, 8);
+
+POOL_SIZE(pool, 646);
+POOL_OFFSET(pool, records, 0);
+POOL_OFFSET(pool, count, 640);
+POOL_OFFSET(pool, pages, 642);
+POOL_OFFSET(pool, hand, 644);
+
+POOL_SIZE(pool_handle, 4);
+POOL_OFFSET(pool_handle, frame, 0);
+POOL_OFFSET(pool_handle, page, 2);
+
+POOL_SIZE(pool_done, 648);
+POOL_OFFSET(pool_done, pool, 0);
+POOL_OFFSET(pool_done, refusal, 646);
+
+POOL_SIZE(pool_fixed, 654);
+POOL_OFFSET(pool_fixed, pool, 0);
+POOL_OFFSET(pool_fixed, refusal, 646);
+POOL_OFFSET(pool_fixed, handle, 648);
+POOL_OFFSET(pool_fixed, looks, 652);
+
+POOL_SIZE(pool_named, 4);
+POOL_OFFSET(pool_named, refusal, 0);
+POOL_OFFSET(pool_named, page, 2);
+
+POOL_SIZE(pool_found, 3);
+POOL_OFFSET(pool_found, refusal, 0);
+POOL_OFFSET(pool_found, present, 1);
+POOL_OFFSET(pool_found, frame, 2);
+
+POOL_SIZE(pool_place, 24);
+POOL_OFFSET(pool_place, refusal, 0);
+POOL_OFFSET(pool_place, in_store, 1);
+POOL_OFFSET(pool_place, start, 8);
+POOL_OFFSET(pool_place, size, 16);
+
+#undef POOL_OFFSET
+#undef POOL_SIZE
+#undef POOL_ASSERT
+
+/* Structs with a value of its own in every field, by which tests/host/layout.c compares these declarations with the archive. */
 
 struct pool_done pool_layout_done(void);
 struct pool_fixed pool_layout_fixed(void);

@@ -1,11 +1,47 @@
-//! Links the archive that `rt staticlib pagepool` wrote. POOL_ARCHIVES is its folder.
+//! Links the archive: that of this tree, target/staticlib/libpagepool.a, or the one in the folder POOL_ARCHIVES.
+//!
+//! Fails where it is missing, or where this tree's own is older than a source. An archive elsewhere is its user's own business.
 use std::env;
+use std::path::{Path, PathBuf};
+use std::process::{exit, Command};
+
+/// The tree that this package is part of.
+const TREE: &str = concat!(env!("CARGO_MANIFEST_DIR"), "/..");
 
 fn main() {
-    let folder = env::var("POOL_ARCHIVES")
-        .unwrap_or_else(|_| concat!(env!("CARGO_MANIFEST_DIR"), "/../target/staticlib").to_string());
-    println!("cargo:rerun-if-env-changed=POOL_ARCHIVES");
-    println!("cargo:rerun-if-changed={folder}/libhost.a");
-    println!("cargo:rustc-link-search=native={folder}");
-    println!("cargo:rustc-link-lib=static=pagepool");
+    let own = Path::new(TREE).join("target/staticlib");
+    let folder = env::var_os("POOL_ARCHIVES").map_or_else(|| own.clone(), PathBuf::from);
+    println!("cargo::rerun-if-env-changed=POOL_ARCHIVES");
+    println!("cargo::rerun-if-changed={}", folder.join("libpagepool.a").display());
+    if is_same(&folder, &own) {
+        check_own();
+    } else if !folder.join("libpagepool.a").is_file() {
+        fail(&format!("POOL_ARCHIVES has no libpagepool.a: {}", folder.display()));
+    }
+    println!("cargo::rustc-link-search=native={}", folder.display());
+    println!("cargo::rustc-link-lib=static=pagepool");
+}
+
+/// Whether two paths lead to the same place, if only once that is there.
+fn is_same(a: &Path, b: &Path) -> bool {
+    a == b || matches!((a.canonicalize(), b.canonicalize()), (Ok(a), Ok(b)) if a == b)
+}
+
+/// Asks the tree's script, again after each edit of a source.
+fn check_own() {
+    for source in ["archive", "crates", "crates.txt"] {
+        println!("cargo::rerun-if-changed={TREE}/{source}");
+    }
+    match Command::new(format!("{TREE}/archive")).arg("--check").output() {
+        Ok(check) if check.status.success() => (),
+        Ok(check) => fail(&String::from_utf8_lossy(&check.stderr)),
+        Err(error) => {
+            fail(&format!("{TREE}/archive: {error}; POOL_ARCHIVES names the folder of an archive elsewhere"))
+        }
+    }
+}
+
+fn fail(fault: &str) -> ! {
+    println!("cargo::error={}", fault.trim_end());
+    exit(1);
 }

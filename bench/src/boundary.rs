@@ -1,7 +1,7 @@
 //! The copies of the records at the boundary, alone: functions that pass and answer them as the exported calls do.
 use pagepool::raw::{Done, Found};
 use pagepool::{FrameIndex, Pool};
-use pool_bench::tree::State;
+use pool_bench::shapes::State;
 use std::hint::black_box;
 
 extern "C" fn done(pool: Pool) -> Done {

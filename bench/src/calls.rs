@@ -1,14 +1,10 @@
 //! The calls that are timed, each with the state that it is made on.
 use crate::boundary;
 use crate::timing::{repeat, Variants};
-use pagepool::{FrameIndex, Handle, PageNumber, Refusal, MAX_PINS, PAGE_SIZE};
+use pagepool::{Refusal, MAX_PINS, PAGE_SIZE};
 use pool_bench::baseline;
-use pool_bench::tree::{State, FAN_OUT};
+use pool_bench::shapes::{State, EMPTY_SLOT, ROOT};
 use std::hint::black_box;
-
-/// The pinned pages: the root, and the page in its slot 0.
-pub const ROOT: Handle = Handle { frame: FrameIndex(0), page: PageNumber(0) };
-pub const CHILD: Handle = Handle { frame: FrameIndex(1), page: PageNumber(1) };
 
 pub fn accept<T>(answer: Result<T, Refusal>) {
     assert!(black_box(answer).is_ok());
@@ -78,28 +74,25 @@ pub fn dirtied(state: &State) -> State {
     state
 }
 
-/// The page in the last frame.
-fn last_resident(state: &State) -> PageNumber {
-    state.pool.records[usize::from(state.pool.count) - 1].page
-}
-
+/// A page that is resident.
 pub fn fix_hit(state: &State) -> (State, Variants) {
     repeated!(state.clone(), boundary::in_and_out, fix(ROOT, 1))
 }
 
+/// A page that isn't resident. Where the frames are full every open one has usage 1, so that the sweep goes round once.
+pub fn fix_clean(state: &State) -> (State, Variants) {
+    let (page, slot) = state.absent();
+    undone!(state.clone(), fix(page, slot))
+}
+
+pub fn fix_dirty(state: &State) -> (State, Variants) {
+    fix_clean(&dirtied(state))
+}
+
 pub fn unfix(state: &State) -> (State, Variants) {
-    let mut state = state.clone();
-    state.pool.record_mut(CHILD.frame).pins = MAX_PINS;
-    repeated!(state, boundary::in_and_out, unfix(CHILD))
-}
-
-/// A page with 15 words comes in, and every open frame has usage 1, so that the sweep goes round once.
-pub fn fix_over_clean(state: &State) -> (State, Variants) {
-    undone!(state.clone(), fix(CHILD, 0))
-}
-
-pub fn fix_over_dirty(state: &State) -> (State, Variants) {
-    undone!(dirtied(state), fix(CHILD, 0))
+    let (mut state, page) = (state.clone(), state.pinned());
+    state.pool.record_mut(page.frame).pins = MAX_PINS;
+    repeated!(state, boundary::in_and_out, unfix(page))
 }
 
 pub fn root(state: &State) -> (State, Variants) {
@@ -107,46 +100,47 @@ pub fn root(state: &State) -> (State, Variants) {
 }
 
 pub fn find(state: &State) -> (State, Variants) {
-    let page = last_resident(state);
+    let page = state.last_resident();
     repeated!(state.clone(), boundary::only_in, find(page))
 }
 
 /// A page that isn't resident.
 pub fn peek(state: &State) -> (State, Variants) {
-    let page = PageNumber(state.pool.pages - 1);
+    let page = state.unnamed();
     repeated!(state.clone(), boundary::only_in, peek(page))
 }
 
 pub fn show(state: &State) -> (State, Variants) {
-    repeated!(state.clone(), boundary::only_in, show(CHILD))
+    let page = state.pinned();
+    repeated!(state.clone(), boundary::only_in, show(page))
 }
 
-/// A swizzled word.
 pub fn word(state: &State) -> (State, Variants) {
     repeated!(state.clone(), boundary::only_in, word(ROOT, 1))
 }
 
 pub fn write(state: &State) -> (State, Variants) {
-    repeated!(state.clone(), boundary::in_and_out, write(CHILD, 0, &[7; 8]))
+    let page = state.pinned();
+    repeated!(state.clone(), boundary::in_and_out, write(page, 0, &[7; 8]))
+}
+
+pub fn link(state: &State) -> (State, Variants) {
+    let (page, named) = (state.pinned(), state.unnamed());
+    undone!(state.clone(), link(page, EMPTY_SLOT, named))
 }
 
 pub fn unlink(state: &State) -> (State, Variants) {
-    undone!(state.clone(), unlink(CHILD, 0))
+    let (page, slot) = state.absent();
+    undone!(state.clone(), unlink(page, slot))
 }
 
-pub fn evict(state: &State) -> (State, Variants) {
-    let page = last_resident(state);
+pub fn evict_dirty(state: &State) -> (State, Variants) {
+    let page = state.last_resident();
     undone!(dirtied(state), evict(page))
 }
 
-pub fn settle(state: &State) -> (State, Variants) {
+pub fn settle_dirty(state: &State) -> (State, Variants) {
     undone!(dirtied(state), settle())
-}
-
-/// The last page, which no word names.
-pub fn link(state: &State) -> (State, Variants) {
-    let page = PageNumber(state.pool.pages - 1);
-    undone!(state.clone(), link(CHILD, FAN_OUT, page))
 }
 
 pub fn open(state: &State) -> (State, Variants) {

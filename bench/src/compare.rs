@@ -10,8 +10,8 @@ const ROUNDS: usize = 10;
 const MOST: f64 = 1.03;
 
 const HEAD: &str = "\
-| call | F | N | A, ns | B, ns | A to baseline | B to baseline | B to A | middle of the rounds |
-|---|--:|--:|--:|--:|--:|--:|--:|--:|
+| call | shape | F | N | A, ns | B, ns | A to baseline | B to baseline | B to A | middle of the rounds |
+|---|---|--:|--:|--:|--:|--:|--:|--:|--:|
 ";
 
 /// A row's times in one round of a program.
@@ -24,8 +24,8 @@ struct Round {
 /// What a round of a comparison reads.
 pub fn lines(figures: &[Figure]) -> String {
     let line = |figure: &Figure| {
-        let (row, times) = (format!("{} | {} | {}", figure.label, figure.count, figure.pages), figure.times);
-        format!("{row}\t{}\t{}\n", times.library, times.baseline)
+        let Figure { label, shape, count, pages, times, .. } = figure;
+        format!("{label} | {} | {count} | {pages}\t{}\t{}\n", shape.name(), times.library, times.baseline)
     };
     figures.iter().map(line).collect()
 }

@@ -15,7 +15,7 @@ use std::process::ExitCode;
 use std::{env, fs, io};
 
 /// Passes over all rows, so that a busy moment of the machine falls on a few batches of each; fewer in a round of a comparison.
-const PASSES: u32 = 30;
+const PASSES: u32 = 12;
 const PASSES_OF_A_ROUND: u32 = 5;
 
 const USAGE: &str = "\

@@ -13,8 +13,8 @@ const BEGIN: &str = "<!-- figures: bench/run --write -->\n";
 const END: &str = "<!-- end of figures -->\n";
 
 const HEAD: &str = "\
-| call | F | N | library, ns | baseline, ns | ratio | records' copy, ns | ratio without it | stack, bytes | goal |
-|---|--:|--:|--:|--:|--:|--:|--:|--:|---|
+| call | shape | F | N | library, ns | baseline, ns | ratio | records' copy, ns | ratio without it | stack, bytes | goal |
+|---|---|--:|--:|--:|--:|--:|--:|--:|--:|---|
 ";
 
 pub fn text(figures: &[Figure], depths: &[Depth]) -> String {
@@ -39,8 +39,9 @@ pub fn filled(page: &str, text: &str) -> String {
 fn line(figure: &Figure, stack: usize, goal: &str) -> String {
     let times = figure.times;
     format!(
-        "| {} | {} | {} | {} | {} | {:.2} | {} | {:.2} | {stack} | {goal} |\n",
+        "| {} | {} | {} | {} | {} | {} | {:.2} | {} | {:.2} | {stack} | {goal} |\n",
         figure.label,
+        figure.shape.name(),
         figure.count,
         figure.pages,
         nanoseconds(times.library),

@@ -1,14 +1,15 @@
 //! The rows of the table, and their figures.
 use crate::calls::{
-    evict, find, fix_hit, fix_over_clean, fix_over_dirty, link, open, peek, root, settle, show, unfix,
+    evict_dirty, find, fix_clean, fix_dirty, fix_hit, link, open, peek, root, settle_dirty, show, unfix,
     unlink, word, write,
 };
 use crate::timing::{deeper, Race, Times, Variants};
-use pool_bench::tree::State;
+use pool_bench::shapes::{Shape, State};
 
 /// A measured row.
 pub struct Figure {
     pub label: &'static str,
+    pub shape: Shape,
     pub grows: Grows,
     pub count: usize,
     pub pages: usize,
@@ -22,41 +23,76 @@ pub enum Grows {
     Pages,
 }
 
-/// A call with its arguments, and how to make its variants for a filled pool.
-struct Row {
-    label: &'static str,
+/// A call with what it meets, and how to make its variants for a state.
+type Call = (&'static str, fn(&State) -> (State, Variants));
+
+/// Calls that are made on states of a shape, for each pair of F and N.
+struct Block {
+    shape: Shape,
     grows: Grows,
-    make: fn(&State) -> (State, Variants),
+    sizes: &'static [(usize, usize)],
+    calls: &'static [Call],
 }
 
-/// N where F grows, and F where N grows.
-const PAGES: usize = 256;
-const FRAMES: usize = 16;
+const BY_FRAMES: &[(usize, usize)] = &[(4, 256), (16, 256), (64, 256)];
+const BY_PAGES: &[(usize, usize)] = &[(16, 16), (16, 256), (16, 4096)];
+const SMALL: &[(usize, usize)] = &[(4, 16), (16, 16)];
 
-const fn by_frames(label: &'static str, make: fn(&State) -> (State, Variants)) -> Row {
-    Row { label, grows: Grows::Frames, make }
+const WITH_FULL_FRAMES: &[Call] = &[
+    ("fix, hit", fix_hit),
+    ("unfix", unfix),
+    ("fix, sweep, clean victim", fix_clean),
+    ("fix, sweep, dirty victim", fix_dirty),
+    ("root", root),
+    ("find", find),
+    ("peek", peek),
+    ("show", show),
+    ("word", word),
+    ("write, 8 bytes", write),
+    ("unlink", unlink),
+    ("evict, dirty", evict_dirty),
+    ("settle, all dirty", settle_dirty),
+];
+
+const ON_THE_ROOT: &[Call] = &[
+    ("root", root),
+    ("fix, empty frame", fix_clean),
+    ("unfix", unfix),
+    ("find", find),
+    ("peek", peek),
+    ("show", show),
+    ("word", word),
+    ("write, 8 bytes", write),
+    ("link", link),
+    ("unlink", unlink),
+    ("settle, all dirty", settle_dirty),
+];
+
+const OF_EVERY_USER: &[Call] = &[
+    ("root", root),
+    ("fix, hit", fix_hit),
+    ("unfix", unfix),
+    ("find", find),
+    ("show", show),
+    ("word", word),
+    ("write, 8 bytes", write),
+];
+
+const fn by_frames(shape: Shape, calls: &'static [Call]) -> Block {
+    Block { shape, grows: Grows::Frames, sizes: BY_FRAMES, calls }
 }
 
-const fn by_pages(label: &'static str, make: fn(&State) -> (State, Variants)) -> Row {
-    Row { label, grows: Grows::Pages, make }
+const fn by_pages(shape: Shape, calls: &'static [Call]) -> Block {
+    Block { shape, grows: Grows::Pages, sizes: BY_PAGES, calls }
 }
 
-static ROWS: [Row; 15] = [
-    by_frames("fix, hit", fix_hit),
-    by_frames("unfix", unfix),
-    by_frames("fix, sweep, clean victim", fix_over_clean),
-    by_frames("fix, sweep, dirty victim", fix_over_dirty),
-    by_frames("root", root),
-    by_frames("find", find),
-    by_frames("peek", peek),
-    by_frames("show", show),
-    by_frames("word", word),
-    by_frames("write, 8 bytes", write),
-    by_frames("unlink", unlink),
-    by_frames("evict, dirty", evict),
-    by_frames("settle, all dirty", settle),
-    by_pages("link", link),
-    by_pages("open", open),
+static BLOCKS: [Block; 6] = [
+    by_frames(Shape::Full, WITH_FULL_FRAMES),
+    by_pages(Shape::Full, &[("link", link), ("open", open)]),
+    by_frames(Shape::Leaves, WITH_FULL_FRAMES),
+    by_frames(Shape::Opened, ON_THE_ROOT),
+    Block { shape: Shape::Few, grows: Grows::Frames, sizes: SMALL, calls: OF_EVERY_USER },
+    by_pages(Shape::Chain, &[("open", open)]),
 ];
 
 impl Figure {
@@ -90,7 +126,7 @@ fn call_of(label: &str) -> &str {
 /// The names of the calls that are timed.
 pub fn calls() -> Vec<&'static str> {
     let mut calls = Vec::new();
-    for call in ROWS.iter().map(|row| call_of(row.label)) {
+    for call in BLOCKS.iter().flat_map(|block| block.calls).map(|(label, _)| call_of(label)) {
         if !calls.contains(&call) {
             calls.push(call);
         }
@@ -98,42 +134,51 @@ pub fn calls() -> Vec<&'static str> {
     calls
 }
 
-fn beginning_with(word: &str) -> impl Iterator<Item = &'static Row> + '_ {
-    ROWS.iter().filter(move |row| row.label.starts_with(word))
-}
-
 /// Whether a row begins with a word.
 pub fn any(word: &str) -> bool {
-    beginning_with(word).next().is_some()
+    BLOCKS.iter().flat_map(|block| block.calls).any(|(label, _)| label.starts_with(word))
 }
 
 /// The rows that begin with a word, timed in so many passes.
 pub fn measured(word: &str, passes: u32) -> Vec<Figure> {
-    let rows = beginning_with(word);
-    let sized = rows.flat_map(|row| sizes(row.grows).map(|(count, pages)| (row, count, pages)));
-    let mut races: Vec<(&Row, Race)> =
-        sized.map(|(row, count, pages)| (row, row.race(&State::filled(count, pages)))).collect();
+    let mut rows: Vec<Row> = BLOCKS.iter().flat_map(|block| block.rows(word)).collect();
     for pass in 0..passes {
-        deeper(pass, &mut || races.iter_mut().for_each(|(_, race)| race.pass()));
+        deeper(pass, &mut || rows.iter_mut().for_each(|row| row.race.pass()));
     }
-    races.iter().map(|(row, race)| row.figure(race)).collect()
+    rows.iter().map(Row::figure).collect()
+}
+
+/// A row being timed.
+struct Row {
+    block: &'static Block,
+    label: &'static str,
+    race: Race,
+}
+
+impl Block {
+    /// The rows that begin with a word: the sizes of a call one after the other.
+    fn rows(&'static self, word: &str) -> Vec<Row> {
+        let calls = self.calls.iter().filter(|(label, _)| label.starts_with(word));
+        let sized =
+            calls.flat_map(|call| self.sizes.iter().map(move |(count, pages)| (call, *count, *pages)));
+        sized
+            .map(|((label, make), count, pages)| {
+                let (state, variants) = make(&self.shape.state(count, pages));
+                Row { block: self, label, race: Race::new(state, variants) }
+            })
+            .collect()
+    }
 }
 
 impl Row {
-    fn race(&self, state: &State) -> Race {
-        let (state, variants) = (self.make)(state);
-        Race::new(state, variants)
-    }
-
-    fn figure(&self, race: &Race) -> Figure {
-        let (count, pages) = (race.pool().count.into(), race.pool().pages.into());
-        Figure { label: self.label, grows: self.grows, count, pages, times: race.times() }
-    }
-}
-
-fn sizes(grows: Grows) -> [(usize, usize); 3] {
-    match grows {
-        Grows::Frames => [4, 16, 64].map(|count| (count, PAGES)),
-        Grows::Pages => [16, 256, 4096].map(|pages| (FRAMES, pages)),
+    fn figure(&self) -> Figure {
+        Figure {
+            label: self.label,
+            shape: self.block.shape,
+            grows: self.block.grows,
+            count: self.race.pool().count.into(),
+            pages: self.race.pool().pages.into(),
+            times: self.race.times(),
+        }
     }
 }

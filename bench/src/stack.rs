@@ -1,7 +1,7 @@
 //! The deepest stack of each exported call: a thread's stack is painted, and what the call leaves of the paint tells.
-use crate::calls::{accept, dirtied, CHILD, ROOT};
-use pagepool::PageNumber;
-use pool_bench::tree::{State, FAN_OUT};
+use crate::calls::{accept, dirtied};
+use pagepool::{FrameIndex, Handle, PageNumber};
+use pool_bench::shapes::{Shape, State, EMPTY_SLOT, ROOT};
 use std::hint::black_box;
 use std::ptr;
 use std::thread::Builder;
@@ -22,6 +22,7 @@ type Call = fn(&mut State);
 
 const COUNT: usize = 64;
 const PAGES: usize = 4096;
+const CHILD: Handle = Handle { frame: FrameIndex(1), page: PageNumber(1) };
 const LAST_PAGE: PageNumber = PageNumber(PAGES as u16 - 1);
 /// A page in the last frame, which has no swizzled word.
 const LAST_RESIDENT: PageNumber = PageNumber(COUNT as u16);
@@ -42,7 +43,7 @@ const CALLS: [(&str, Call); 13] = [
     call!(peek(LAST_PAGE)),
     call!(word(ROOT, 0)),
     call!(write(CHILD, 0, &[7; 8])),
-    call!(link(CHILD, FAN_OUT, LAST_PAGE)),
+    call!(link(CHILD, EMPTY_SLOT, LAST_PAGE)),
     call!(unlink(CHILD, 0)),
     call!(evict(LAST_RESIDENT)),
     call!(settle()),
@@ -51,7 +52,7 @@ const CALLS: [(&str, Call); 13] = [
 
 /// At F = 64 and N = 4,096, every page dirty.
 pub fn measured() -> Vec<Depth> {
-    let state = dirtied(&State::filled(COUNT, PAGES));
+    let state = dirtied(&Shape::Full.state(COUNT, PAGES));
     CALLS.map(|(call, run)| Depth { call, bytes: depth_of(run, &state) }).into()
 }
 

@@ -1,6 +1,6 @@
 //! Variants of a call, timed in turn.
 use pagepool::Pool;
-use pool_bench::tree::State;
+use pool_bench::shapes::State;
 use std::hint::black_box;
 use std::time::{Duration, Instant};
 

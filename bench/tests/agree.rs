@@ -1,8 +1,8 @@
 //! The baseline answers and leaves exactly what the linked library does, on random calls, refused ones too.
-use pagepool::{FrameIndex, Handle, PageNumber, Pool, Refusal, PAGE_SIZE, PAYLOAD_SIZE, SLOTS};
+use pagepool::{FrameIndex, Handle, PageNumber, Refusal, PAGE_SIZE, PAYLOAD_SIZE, SLOTS};
+use pool_bench::baseline;
 use pool_bench::random::Random;
-use pool_bench::tree::{self, State};
-use pool_bench::{baseline, tree::FAN_OUT};
+use pool_bench::shapes::{Shape, State};
 use std::fmt::Debug;
 
 /// Makes a call in both, each on its own state, and compares answers and states.
@@ -47,9 +47,9 @@ impl Trial {
         Trial { random: Random::new(seed), given: [0; 17] }
     }
 
-    /// So many calls on a pool over a tree of pages, some of them on a damaged state that is then dropped.
-    fn run(&mut self, count: usize, pages: usize, calls: usize) {
-        let mut library = opened(count, tree::store(pages));
+    /// So many calls on a pool just opened, some of them on a damaged state that is then dropped.
+    fn run(&mut self, shape: Shape, count: usize, pages: usize, calls: usize) {
+        let mut library = State::opened(count, shape.store(count, pages));
         let mut baseline = library.clone();
         for _ in 0..calls {
             if self.random.percent(20) {
@@ -192,18 +192,12 @@ impl Trial {
     }
 }
 
-fn opened(count: usize, store: Vec<u8>) -> State {
-    let mut frames = vec![0; PAGE_SIZE * count];
-    let pool: Pool = baseline::open(&mut frames, &store).expect("the store is sound");
-    State { pool, frames, store }
-}
-
 #[test]
 fn small_pools() {
     let mut trial = Trial::new(1);
     for turn in 0..60 {
-        let (count, pages) = (2 + turn % 7, 2 + FAN_OUT * (turn % 4));
-        trial.run(count, pages, 1000);
+        let (count, pages) = (2 + turn % 7, 2 + 15 * (turn % 4));
+        trial.run(Shape::ALL[turn % 5], count, pages, 1000);
     }
     println!("{:?}", trial.given);
     let never: Vec<usize> = (1..17).filter(|refusal| trial.given[*refusal] == 0).collect();
@@ -213,9 +207,9 @@ fn small_pools() {
 #[test]
 fn large_pools() {
     let mut trial = Trial::new(2);
-    for count in [16, 64] {
-        for pages in [256, 4096] {
-            trial.run(count, pages, 5000);
+    for shape in [Shape::Full, Shape::Leaves, Shape::Chain] {
+        for (count, pages) in [(16, 256), (64, 256), (16, 4096), (64, 4096)] {
+            trial.run(shape, count, pages, 2000);
         }
     }
     println!("{:?}", trial.given);

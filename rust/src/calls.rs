@@ -3,11 +3,12 @@ use crate::raw;
 use crate::records::{FrameIndex, Handle, PageNumber, Pool};
 use crate::refusal::{unless_refused, Refusal};
 
-/// The answer of root and fix: the handle of the page that was pinned, and the looks of the sweep that made room for it, 0
-/// if none.
+/// The answer of root and fix.
 #[derive(Clone, Copy, Debug, PartialEq, Eq)]
 pub struct Fixed {
+    /// The handle of the page that was pinned.
     pub handle: Handle,
+    /// The looks of the sweep that made room for it, 0 if none.
     pub looks: u16,
 }
 
@@ -48,7 +49,7 @@ impl raw::Place {
 pub fn open(frames: &mut [u8], store: &[u8]) -> Result<Pool, Refusal> {
     // SAFETY: as in `call`.
     let done = unsafe { raw::pool_open(frames.as_mut_ptr(), frames.len(), store.as_ptr(), store.len()) };
-    unless_refused(done.refusal, done.pool)
+    unless_refused(done.refusal, ()).map(|()| done.pool)
 }
 
 /// Pins page 0. Refused: 1, 2, 13.

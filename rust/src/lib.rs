@@ -3,6 +3,8 @@
 //! The host owns the store, the frames and the pool's records, and lends all three to each call. [`PagePool`] holds the three
 //! together and has the calls as methods, with an example; the functions here take them apart. A call that is refused gives
 //! the first broken rule, a [`Refusal`], and changes nothing. What each call does says `include/pagepool.h`.
+#![warn(missing_docs)]
+
 mod calls;
 mod page_pool;
 mod records;

@@ -34,36 +34,27 @@ use crate::refusal::Refusal;
 /// ```
 #[derive(Clone, Debug, PartialEq, Eq)]
 pub struct PagePool<F, S> {
+    /// The pool's records.
     pub records: Pool,
+    /// F frames of 256 bytes.
     pub frames: F,
+    /// N pages of 256 bytes.
     pub store: S,
 }
 
-impl<F, S> PagePool<F, S>
-where
-    F: AsRef<[u8]> + AsMut<[u8]>,
-    S: AsRef<[u8]> + AsMut<[u8]>,
-{
+impl<F, S> PagePool<F, S> {
     /// The buffers of a pool that is still to be opened: until then every other call is refused by
     /// [`WrongLength`](Refusal::WrongLength).
     pub const fn new(frames: F, store: S) -> PagePool<F, S> {
         PagePool { records: Pool::ZERO, frames, store }
     }
+}
 
-    /// Begins with the store as it is, as [`open`](calls::open) does. Refused, the records stay as they were.
-    pub fn open(&mut self) -> Result<(), Refusal> {
-        self.records = calls::open(self.frames.as_mut(), self.store.as_ref())?;
-        Ok(())
-    }
-
+/// The calls that leave frames and store alone.
+impl<F: AsRef<[u8]>, S: AsRef<[u8]>> PagePool<F, S> {
     /// As [`root`](calls::root).
     pub fn root(&mut self) -> Result<Fixed, Refusal> {
         calls::root(&mut self.records, self.frames.as_ref(), self.store.as_ref())
-    }
-
-    /// As [`fix`](calls::fix).
-    pub fn fix(&mut self, handle: Handle, slot: usize) -> Result<Fixed, Refusal> {
-        calls::fix(&mut self.records, self.frames.as_mut(), self.store.as_mut(), handle, slot)
     }
 
     /// As [`unfix`](calls::unfix).
@@ -84,6 +75,29 @@ where
     /// As [`word`](calls::word).
     pub fn word(&self, handle: Handle, slot: usize) -> Result<Option<PageNumber>, Refusal> {
         calls::word(&self.records, self.frames.as_ref(), self.store.as_ref(), handle, slot)
+    }
+
+    /// As [`find`](calls::find).
+    pub fn find(&self, page: PageNumber) -> Result<Option<FrameIndex>, Refusal> {
+        calls::find(&self.records, self.frames.as_ref(), self.store.as_ref(), page)
+    }
+}
+
+/// The calls that change frames or store.
+impl<F, S> PagePool<F, S>
+where
+    F: AsRef<[u8]> + AsMut<[u8]>,
+    S: AsRef<[u8]> + AsMut<[u8]>,
+{
+    /// Begins with the store as it is, as [`open`](calls::open) does. Refused, the records stay as they were.
+    pub fn open(&mut self) -> Result<(), Refusal> {
+        self.records = calls::open(self.frames.as_mut(), self.store.as_ref())?;
+        Ok(())
+    }
+
+    /// As [`fix`](calls::fix).
+    pub fn fix(&mut self, handle: Handle, slot: usize) -> Result<Fixed, Refusal> {
+        calls::fix(&mut self.records, self.frames.as_mut(), self.store.as_mut(), handle, slot)
     }
 
     /// As [`write`](calls::write).
@@ -109,10 +123,5 @@ where
     /// As [`settle`](calls::settle).
     pub fn settle(&mut self) -> Result<(), Refusal> {
         calls::settle(&mut self.records, self.frames.as_ref(), self.store.as_mut())
-    }
-
-    /// As [`find`](calls::find).
-    pub fn find(&self, page: PageNumber) -> Result<Option<FrameIndex>, Refusal> {
-        calls::find(&self.records, self.frames.as_ref(), self.store.as_ref(), page)
     }
 }

@@ -1,4 +1,6 @@
 //! The exported functions and the structs that they answer, as `include/pagepool.h` declares and explains them.
+#![allow(missing_docs)]
+
 use crate::records::{FrameIndex, Handle, PageNumber, Pool};
 
 #[repr(C)]

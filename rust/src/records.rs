@@ -1,10 +1,13 @@
 //! The pool's records, laid out as at the C boundary, and the figures of a page and of a frame.
 use std::fmt;
 
+/// The bytes of a page, and of a frame: 16 words of 4 bytes, then 192 payload bytes.
 pub const PAGE_SIZE: usize = 256;
-/// A page is 16 words of 4 bytes, then 192 payload bytes.
+/// The words of a page.
 pub const SLOTS: usize = 16;
+/// Where the payload begins in a page.
 pub const PAYLOAD_START: usize = 64;
+/// The payload bytes of a page.
 pub const PAYLOAD_SIZE: usize = 192;
 /// The least F.
 pub const LEAST_FRAMES: usize = 2;
@@ -12,8 +15,9 @@ pub const LEAST_FRAMES: usize = 2;
 pub const MOST_FRAMES: usize = 64;
 /// The largest N.
 pub const MOST_PAGES: usize = 4096;
-/// Document 01: the largest heat.
+/// The largest usage count. Document 01: the largest heat.
 pub const MAX_USAGE: u8 = 3;
+/// The most pins of a page.
 pub const MAX_PINS: u16 = 65_535;
 
 /// Which page of the store. The root is page 0.
@@ -76,11 +80,14 @@ pub struct FrameRecord {
     pub slot: u8,
     /// The parent's frame. Document 01: parent frame.
     pub parent: FrameIndex,
+    /// The pins of the page.
     pub pins: u16,
+    /// The page in the frame.
     pub page: PageNumber,
 }
 
 impl FrameRecord {
+    /// An empty frame's record, all zero.
     pub const EMPTY: FrameRecord = FrameRecord {
         used: 0,
         dirty: 0,
@@ -106,11 +113,13 @@ impl FrameRecord {
 #[repr(C)]
 #[derive(Clone, Copy, PartialEq, Eq)]
 pub struct Pool {
+    /// By frame; from F on, all zero.
     pub records: [FrameRecord; MOST_FRAMES],
     /// F.
     pub count: u16,
     /// N.
     pub pages: u16,
+    /// Where the next sweep begins.
     pub hand: FrameIndex,
 }
 
@@ -162,6 +171,8 @@ impl fmt::Debug for Pool {
 #[repr(C)]
 #[derive(Clone, Copy, Debug, PartialEq, Eq, Hash)]
 pub struct Handle {
+    /// The frame that holds the page.
     pub frame: FrameIndex,
+    /// The page.
     pub page: PageNumber,
 }

@@ -1,4 +1,4 @@
-//! Reads back every field of the structs that the library fills with values of their own.
+//! Reads back every field of the structs that the library fills with values of their own, and compares versions.
 use pagepool::raw;
 use pagepool::{FrameIndex, FrameRecord, Handle, PageNumber, Pool, MOST_FRAMES};
 
@@ -53,4 +53,16 @@ fn place() {
     let place = unsafe { raw::pool_layout_place() };
     assert_eq!((place.refusal, place.in_store), (207, true));
     assert_eq!((place.start, place.size), (5001, 5002));
+}
+
+/// The package's version is the header's.
+#[test]
+fn version() {
+    let header = include_str!("../../include/pagepool.h");
+    for (name, figure) in
+        [("MAJOR", env!("CARGO_PKG_VERSION_MAJOR")), ("MINOR", env!("CARGO_PKG_VERSION_MINOR"))]
+    {
+        let line = format!("\n#define PAGEPOOL_VERSION_{name} {figure}\n");
+        assert!(header.contains(&line), "no {}", line.trim());
+    }
 }

@@ -1,4 +1,4 @@
-//! One call on the machine under test and on the model, from the same state.
+//! One call on the machine under test, through the package's wrappers and on the model, from the same state.
 use crate::calls::{Answer, Call};
 use crate::coverage::Coverage;
 use crate::ensure;
@@ -6,7 +6,24 @@ use crate::model::Model;
 use crate::pool::Machine;
 use crate::records::State;
 
-/// Both must answer and leave the same, and a refused call must leave all as found.
+/// Makes a call, which must answer what is wanted and leave what is expected.
+fn compare(
+    machine: &impl Machine,
+    state: &mut State,
+    call: &Call,
+    wanted: &Answer,
+    expected: &State,
+) -> Result<Answer, String> {
+    let before = state.pool;
+    let answer = call.make(machine, state);
+    ensure!(answer == *wanted, "{call:?} answers {answer:?}, not {wanted:?}, on {before:?}");
+    if let Some(difference) = state.difference(expected) {
+        return Err(format!("{call:?}, {answer:?}, leaves other {difference}"));
+    }
+    Ok(answer)
+}
+
+/// All must answer and leave the same, and a refused call must leave all as found.
 pub fn step(
     machine: &impl Machine,
     state: &mut State,
@@ -16,11 +33,10 @@ pub fn step(
     let before = state.clone();
     let mut expected = state.clone();
     let wanted = call.make(&Model, &mut expected);
-    let answer = call.make(machine, state);
-    ensure!(answer == wanted, "{call:?} answers {answer:?}, not {wanted:?}, on {:?}", before.pool);
-    if let Some(difference) = state.difference(&expected) {
-        return Err(format!("{call:?}, {answer:?}, leaves other {difference}"));
-    }
+    #[cfg(feature = "host")]
+    compare(&crate::package::Package, &mut before.clone(), call, &wanted, &expected)
+        .map_err(|fault| format!("wrapped {fault}"))?;
+    let answer = compare(machine, state, call, &wanted, &expected)?;
     if !answer.accepted() && *state != before {
         return Err(format!("{call:?}, {answer:?}, changes something"));
     }

@@ -2,9 +2,19 @@
 use crate::record::{decode, encode, Call, Handle, Record, DATA_MOST, SIZE};
 use std::fmt::Write;
 
-/// What each kind of line looks like, for a line that is none of them.
-pub const FORMS: &str = "root | fix SLOT of FRAME PAGE | unfix FRAME PAGE | write OFFSET HEX of FRAME PAGE | \
-link PAGE SLOT of FRAME PAGE | unlink SLOT of FRAME PAGE | evict PAGE | settle | find PAGE | record 32-HEX-DIGITS";
+/// What each kind of line looks like.
+pub const FORMS: [&str; 10] = [
+    "root",
+    "fix SLOT of FRAME PAGE",
+    "unfix FRAME PAGE",
+    "write OFFSET HEX of FRAME PAGE",
+    "link PAGE SLOT of FRAME PAGE",
+    "unlink SLOT of FRAME PAGE",
+    "evict PAGE",
+    "settle",
+    "find PAGE",
+    "record 32-HEX-DIGITS",
+];
 
 /// The record of a line; none for an empty line or a comment (`#`). The error says what was expected.
 pub fn parse(line: &str) -> Result<Option<Record>, String> {
@@ -15,22 +25,24 @@ pub fn parse(line: &str) -> Result<Option<Record>, String> {
         ["record", hex] => return raw(hex).map(Some),
         ["root"] => Call::Root,
         ["settle"] => Call::Settle,
-        ["fix", slot, "of", frame, page] => Call::Fix { slot: byte("a slot", slot)?, handle: handle(frame, page)? },
+        ["fix", slot, "of", frame, page] => {
+            Call::Fix { slot: byte("a slot", slot)?, handle: handle(frame, page)? }
+        }
         ["unfix", frame, page] => Call::Unfix { handle: handle(frame, page)? },
-        ["write", offset, hex, "of", frame, page] => Call::Write {
-            offset: byte("an offset", offset)?,
-            data: data(hex)?,
-            handle: handle(frame, page)?,
-        },
+        ["write", offset, hex, "of", frame, page] => {
+            Call::Write { offset: byte("an offset", offset)?, data: data(hex)?, handle: handle(frame, page)? }
+        }
         ["link", child, slot, "of", frame, page] => Call::Link {
             page: number("a page", child)?,
             slot: byte("a slot", slot)?,
             handle: handle(frame, page)?,
         },
-        ["unlink", slot, "of", frame, page] => Call::Unlink { slot: byte("a slot", slot)?, handle: handle(frame, page)? },
+        ["unlink", slot, "of", frame, page] => {
+            Call::Unlink { slot: byte("a slot", slot)?, handle: handle(frame, page)? }
+        }
         ["evict", page] => Call::Evict { page: number("a page", page)? },
         ["find", page] => Call::Find { page: number("a page", page)? },
-        _ => return Err(format!("expected {FORMS}")),
+        [first, ..] => return Err(expected(first)),
     };
     Ok(Some(encode(&call)))
 }
@@ -54,11 +66,17 @@ pub fn format(bytes: &Record) -> String {
     }
 }
 
+/// The form of a line that starts with a word.
+fn expected(first: &str) -> String {
+    let form = FORMS.iter().find(|form| form.split(' ').next() == Some(first));
+    form.map_or_else(|| format!("expected a call, found '{first}'"), |form| format!("expected {form}"))
+}
+
 fn of(handle: Handle) -> String {
     format!("{} {}", handle.frame, handle.page)
 }
 
-fn hex(bytes: &[u8]) -> String {
+pub(crate) fn hex(bytes: &[u8]) -> String {
     bytes.iter().fold(String::new(), |mut text, byte| {
         let _ = write!(text, "{byte:02x}");
         text
@@ -82,14 +100,15 @@ fn bytes_of(word: &str) -> Option<Vec<u8>> {
     if word == "-" {
         return Some(Vec::new());
     }
-    if word.len() % 2 != 0 || !word.is_ascii() {
+    if !word.len().is_multiple_of(2) || !word.is_ascii() {
         return None;
     }
     (0..word.len()).step_by(2).map(|at| u8::from_str_radix(&word[at..at + 2], 16).ok()).collect()
 }
 
 fn data(word: &str) -> Result<Vec<u8>, String> {
-    let expected = || format!("expected up to {DATA_MOST} bytes in hexadecimal, or - for none, found '{word}'");
+    let expected =
+        || format!("expected up to {DATA_MOST} bytes in hexadecimal, or - for none, found '{word}'");
     bytes_of(word).filter(|bytes| bytes.len() <= DATA_MOST).ok_or_else(expected)
 }
 

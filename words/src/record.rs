@@ -75,21 +75,17 @@ pub fn encode(call: &Call) -> Record {
     bytes
 }
 
-/// The call of a record, where [`encode`] makes just this record of it; none for a record that
-/// rule 17 refuses or that has a byte set which its call doesn't use.
-pub fn decode(bytes: &Record) -> Option<Call> {
+/// The call that a record makes, whatever stands in the bytes that it doesn't use; none for one that rule 17 refuses.
+pub fn call_of(bytes: &Record) -> Option<Call> {
     let handle = Handle { frame: bytes[1], page: page_at(bytes, 2) };
     let page = page_at(bytes, 2);
     let slot = bytes[4];
-    let call = match bytes[0] {
+    let data = bytes.get(DATA_START..DATA_START + usize::from(bytes[6]))?;
+    Some(match bytes[0] {
         1 => Call::Root,
         2 => Call::Fix { slot, handle },
         3 => Call::Unfix { handle },
-        4 => {
-            let length = usize::from(bytes[6]);
-            let data = bytes.get(DATA_START..DATA_START + length)?.to_vec();
-            Call::Write { offset: bytes[5], data, handle }
-        }
+        4 => Call::Write { offset: bytes[5], data: data.to_vec(), handle },
         5 => {
             let handle = Handle { frame: bytes[1], page: page_at(bytes, DATA_START) };
             Call::Link { page, slot, handle }
@@ -99,8 +95,18 @@ pub fn decode(bytes: &Record) -> Option<Call> {
         8 => Call::Settle,
         9 => Call::Find { page },
         _ => return None,
-    };
-    (encode(&call) == *bytes).then_some(call)
+    })
+}
+
+/// The call of a record, where [`encode`] makes just this record of it; none for a record that
+/// rule 17 refuses or that has a byte set which its call doesn't use.
+pub fn decode(bytes: &Record) -> Option<Call> {
+    call_of(bytes).filter(|call| encode(call) == *bytes)
+}
+
+/// The records of some bytes. "A part record at the end is dropped."
+pub fn records_of(bytes: &[u8]) -> Vec<Record> {
+    bytes.chunks_exact(SIZE).map(|record| record.try_into().expect("a chunk of a record's size")).collect()
 }
 
 fn put_handle(bytes: &mut Record, handle: Handle) {

@@ -1,7 +1,8 @@
 //! Lines to records and back, and the meanings of refusals.
 use words::line::{format, parse};
 use words::record::{Record, SIZE};
-use words::refusal::{explain, meaning, RULES};
+use words::refusal::{explain, meaning};
+use words::rules::Table;
 
 fn record(line: &str) -> Record {
     parse(line).expect(line).expect("a call")
@@ -43,7 +44,7 @@ fn any_record_comes_back() {
             seed ^= seed >> 7;
             seed ^= seed << 17;
             // most bytes small, so that calls, slots and lengths are often good ones
-            *byte = if seed % 3 == 0 { (seed >> 32) as u8 } else { (seed >> 32) as u8 % 12 };
+            *byte = if seed.is_multiple_of(3) { (seed >> 32) as u8 } else { (seed >> 32) as u8 % 12 };
         }
         if round % 2 == 0 {
             bytes[10..].fill(0);
@@ -55,8 +56,10 @@ fn any_record_comes_back() {
 #[test]
 fn a_bad_line_says_what_was_expected() {
     for (line, expected) in [
-        ("fix", "expected root | fix SLOT of FRAME PAGE"),
-        ("fix 3 0 0", "expected root | fix SLOT of FRAME PAGE"),
+        ("pin 3", "expected a call, found 'pin'"),
+        ("fix", "expected fix SLOT of FRAME PAGE"),
+        ("fix 3 0 0", "expected fix SLOT of FRAME PAGE"),
+        ("root 0", "expected root"),
         ("fix 256 of 0 0", "expected a slot from 0 to 255, found '256'"),
         ("unfix 0 65536", "expected a page from 0 to 65535, found '65536'"),
         ("evict seven", "expected a page from 0 to 65535, found 'seven'"),
@@ -73,10 +76,12 @@ fn a_bad_line_says_what_was_expected() {
 
 #[test]
 fn refusals_are_explained() {
-    assert_eq!(explain("7 12 0 0").unwrap(), format!("7 12 0 0  # 12: {}", RULES[11]));
-    assert_eq!(explain("2 0 1 7").unwrap(), "2 0 1 7");
-    assert!(explain("7 18 0 0").is_err());
-    assert!(explain("7 12 0").is_err());
-    assert_eq!(meaning(4), Some("The slot is above 15."));
-    assert_eq!(meaning(18), None);
+    let table = Table::standing();
+    let twelve = meaning(&table, "12").unwrap();
+    assert_eq!(explain(&table, "7 12 0 0").unwrap(), format!("7 12 0 0  # 12: {twelve}"));
+    assert_eq!(explain(&table, "2 0 1 7").unwrap(), "2 0 1 7");
+    assert!(explain(&table, "7 255 0 0").is_err());
+    assert!(explain(&table, "7 12 0").is_err());
+    assert_eq!(meaning(&table, "4"), Ok("The slot is above 15."));
+    assert!(meaning(&table, "255").is_err());
 }

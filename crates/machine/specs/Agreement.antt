@@ -9,7 +9,7 @@ use Rattle.page.specs.Page.{name}
 use Rattle.machine.specs.declared.FrameRecord.{FrameRecord}
 use Rattle.machine.specs.declared.Pool.{Pool}
 use Rattle.machine.specs.Tests.{_and_, _or_, _⇒_, every}
-use Rattle.machine.specs.Machine.{recordAt, pageIn, occupied}
+use Rattle.machine.specs.Machine.{isRoot, recordAt, pageIn, occupied}
 
 abbrev pub parentOf : Pool → ℕ → ℕ
 parentOf p f = recordAt (p .records) f .parent .0
@@ -49,11 +49,11 @@ emptyBlank p = every recordCount (λ f. not (occupied p f) ⇒ isBlank (recordAt
 -- "Every other occupied frame's parent is occupied, and the parent's word at the parent slot is swizzled to it."
 unfoldable pub parentsName : Pool → List ℕ → Bool
 parentsName p fs =
-    every (p .count) (λ f. (occupied p f and not (eqb f 0)) ⇒ (occupied p (parentOf p f) and eqb (name fs (parentOf p f) (parentSlotOf p f)) (frameWord f)))
+    every (p .count) (λ f. (occupied p f and not (isRoot f)) ⇒ (occupied p (parentOf p f) and eqb (name fs (parentOf p f) (parentSlotOf p f)) (frameWord f)))
 
 -- frame g is occupied, not the root's, and its record points back to slot k of frame f
 unfoldable pub pointsBack : Pool → ℕ → ℕ → ℕ → Bool
-pointsBack p g f k = occupied p g and not (eqb g 0) and eqb (parentOf p g) f and eqb (parentSlotOf p g) k
+pointsBack p g f k = occupied p g and not (isRoot g) and eqb (parentOf p g) f and eqb (parentSlotOf p g) k
 
 -- "Every swizzled word of an occupied frame names an occupied frame, never the root's, whose record points back to that word."
 unfoldable pub swizzledPointBack : Pool → List ℕ → Bool
@@ -77,8 +77,8 @@ numbersOnce p fs =
 
 -- frame 0 is reached from f in at most n steps to the parent
 unfoldable pub reachesRoot : Pool → ℕ → ℕ → Bool
-reachesRoot p zero f = eqb f 0
-reachesRoot p (suc n) f = eqb f 0 or reachesRoot p n (parentOf p f)
+reachesRoot p zero f = isRoot f
+reachesRoot p (suc n) f = isRoot f or reachesRoot p n (parentOf p f)
 
 -- "Following parents from any occupied frame reaches frame 0." F steps are enough (specs/Laws/Parents).
 unfoldable pub allReachRoot : Pool → Bool

@@ -24,6 +24,20 @@ decide s rules accepted = verdict (firstBroken rules) (λ n. out (refused n) s) 
 abbrev pub changeRecord : State → ℕ → (FrameRecord → FrameRecord) → State
 changeRecord s f change = withPool s (withRecord (s .pool) f (change (recordAt (s .pool .records) f)))
 
+-- ---- the rules that calls share: those of every call but open; with a handle, and a slot of its page; with a page number
+
+abbrev pub poolRules : State → List Rule
+poolRules s = rule1 s ∷ rule2 s ∷ []
+
+abbrev pub handleRules : State → Handle → List Rule
+handleRules s h = poolRules s ++ (rule3 s h ∷ [])
+
+abbrev pub wordRules : State → Handle → ℕ → List Rule
+wordRules s h k = handleRules s h ++ (rule4 k ∷ [])
+
+abbrev pub pageRules : State → PageNumber → List Rule
+pageRules s q = poolRules s ++ (rule6 s (q .0) ∷ [])
+
 -- ---- open: "copies page 0 to frame 0 with pins 0, heat 0, clean; all other frames are empty, their bytes kept; the hand is 0"
 
 abbrev pub openRules : List ℕ → List ℕ → List Rule
@@ -43,7 +57,7 @@ abbrev pub pinnedOut : State → ℕ → Out
 pinnedOut s f = out (handle f (pageIn (s .pool .records) f) 0) (changeRecord s f pinned)
 
 abbrev pub rootRules : State → List Rule
-rootRules s = rule1 s ∷ rule2 s ∷ rule13 s 0 ∷ []
+rootRules s = poolRules s ++ (rule13 s 0 ∷ [])
 
 unfoldable pub rootCall : State → Out
 rootCall s = decide s (rootRules s) (pinnedOut s 0)
@@ -66,7 +80,7 @@ missOut s f k q =
 
 -- the rules that are tested whether or not the page is resident
 abbrev pub fixEntryRules : State → Handle → ℕ → List Rule
-fixEntryRules s h k = rule1 s ∷ rule2 s ∷ rule3 s h ∷ rule4 k ∷ rule7 (wordOf s h k) ∷ []
+fixEntryRules s h k = wordRules s h k ++ (rule7 (wordOf s h k) ∷ [])
 
 -- the rules of a page, named by the word w, that isn't resident; and of one that is
 abbrev pub fixRules : State → Handle → ℕ → List Rule
@@ -81,9 +95,6 @@ fixCall s h k =
 
 -- ---- unfix: "takes one pin off"
 
-abbrev pub handleRules : State → Handle → List Rule
-handleRules s h = rule1 s ∷ rule2 s ∷ rule3 s h ∷ []
-
 unfoldable pub unfixCall : State → Handle → Out
 unfixCall s h = decide s (handleRules s h) (out done (changeRecord s (h .frame .0) unpinned))
 
@@ -93,9 +104,6 @@ unfoldable pub showCall : State → Handle → Out
 showCall s h = decide s (handleRules s h) (out (payload inFrames (payloadAt (h .frame .0)) payloadSize) s)
 
 -- ---- peek: "by page number, hands back the payload from the frame if resident, otherwise from the store"
-
-abbrev pub pageRules : State → PageNumber → List Rule
-pageRules s q = rule1 s ∷ rule2 s ∷ rule6 s (q .0) ∷ []
 
 unfoldable pub payloadPlace : State → ℕ → Answer
 payloadPlace s q =
@@ -107,16 +115,13 @@ peekCall s q = decide s (pageRules s q) (out (payloadPlace s (q .0)) s)
 
 -- ---- word: "gives the page number in a slot, swizzled or not"
 
-abbrev pub wordRules : State → Handle → ℕ → List Rule
-wordRules s h k = rule1 s ∷ rule2 s ∷ rule3 s h ∷ rule4 k ∷ []
-
 unfoldable pub wordCall : State → Handle → ℕ → Out
 wordCall s h k = decide s (wordRules s h k) (out (number (plain (pageIn (s .pool .records)) (wordOf s h k))) s)
 
 -- ---- write: "puts given bytes at a payload offset. Dirty, unless the length is 0."
 
 abbrev pub writeRules : State → Handle → ℕ → ℕ → List Rule
-writeRules s h offset n = rule1 s ∷ rule2 s ∷ rule3 s h ∷ rule5 offset n ∷ []
+writeRules s h offset n = handleRules s h ++ (rule5 offset n ∷ [])
 
 abbrev pub dirtiedBy : ℕ → FrameRecord → FrameRecord
 dirtiedBy n r = pick (eqb n 0) r (dirtied r)
@@ -131,7 +136,7 @@ writeCall s h offset bytes = decide s (writeRules s h offset (length bytes)) (ou
 -- ---- link: "stores an unswizzled page number in an empty slot"; unlink: "clears one. Both set dirty."
 
 abbrev pub linkRules : State → Handle → ℕ → PageNumber → List Rule
-linkRules s h k q = rule1 s ∷ rule2 s ∷ rule3 s h ∷ rule4 k ∷ rule6-link s (q .0) ∷ rule8 (wordOf s h k) ∷ rule9 s (q .0) ∷ []
+linkRules s h k q = wordRules s h k ++ (rule6-link s (q .0) ∷ rule8 (wordOf s h k) ∷ rule9 s (q .0) ∷ [])
 
 -- the word w in slot k of frame f, whose page is then dirty
 abbrev pub relinked : State → ℕ → ℕ → ℕ → State
@@ -141,7 +146,7 @@ unfoldable pub linkCall : State → Handle → ℕ → PageNumber → Out
 linkCall s h k q = decide s (linkRules s h k q) (out done (relinked s (h .frame .0) k (numberWord (q .0))))
 
 abbrev pub unlinkRules : State → Handle → ℕ → List Rule
-unlinkRules s h k = rule1 s ∷ rule2 s ∷ rule3 s h ∷ rule4 k ∷ rule7 (wordOf s h k) ∷ rule10 (wordOf s h k) ∷ []
+unlinkRules s h k = wordRules s h k ++ (rule7 (wordOf s h k) ∷ rule10 (wordOf s h k) ∷ [])
 
 unfoldable pub unlinkCall : State → Handle → ℕ → Out
 unlinkCall s h k = decide s (unlinkRules s h k) (out done (relinked s (h .frame .0) k 0))
@@ -149,15 +154,12 @@ unlinkCall s h k = decide s (unlinkRules s h k) (out done (relinked s (h .frame 
 -- ---- evict, by page number
 
 abbrev pub evictRules : State → PageNumber → List Rule
-evictRules s q = rule1 s ∷ rule2 s ∷ rule6 s (q .0) ∷ rule11 s (q .0) ∷ rule12 s (q .0) ∷ []
+evictRules s q = pageRules s q ++ (rule11 s (q .0) ∷ rule12 s (q .0) ∷ [])
 
 unfoldable pub evictCall : State → PageNumber → Out
 evictCall s q = decide s (evictRules s q) (out done (evicted s (found (s .pool) (q .0))))
 
 -- ---- settle
-
-abbrev pub poolRules : State → List Rule
-poolRules s = rule1 s ∷ rule2 s ∷ []
 
 unfoldable pub settleCall : State → Out
 settleCall s = decide s (poolRules s) (out done (settled s))

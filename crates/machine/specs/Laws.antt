@@ -8,4 +8,5 @@ pub mod SweepLaws
 pub mod MoveLaws
 pub mod Ready
 pub mod RuleLaws
+pub mod ResidentWords
 pub mod ByName

@@ -30,6 +30,10 @@ pageNumber p = record { 0 = p }
 abbrev pub frameIndex : ℕ → FrameIndex
 frameIndex f = record { 0 = f }
 
+-- the root's frame: "Frame 0 holds page 0"
+abbrev pub isRoot : ℕ → Bool
+isRoot f = eqb f 0
+
 -- ---- records
 
 -- the all-zero record, an empty frame's
@@ -81,9 +85,6 @@ withRecords p rs = record { records = rs; count = p .count; pages = p .pages; ha
 
 abbrev pub withRecord : Pool → ℕ → FrameRecord → Pool
 withRecord p f r = withRecords p (set (p .records) f r)
-
-abbrev pub withHand : Pool → ℕ → Pool
-withHand p h = record { records = p .records; count = p .count; pages = p .pages; hand = frameIndex h }
 
 -- the all-zero records
 unfoldable pub zeroPool : Pool

@@ -10,8 +10,10 @@ use Rattle.page.specs.Page.{name}
 use Rattle.page.specs.declared.FrameIndex.{FrameIndex}
 use Rattle.machine.specs.declared.FrameRecord.{FrameRecord}
 use Rattle.machine.specs.declared.Pool.{Pool}
+use Rattle.machine.specs.declared.Standing.{Standing}
+use Rattle.machine.specs.declared.Standing.the-variants.{Root, Pinned, Parent, Evictable}
 use Rattle.machine.specs.Tests.{pick, _and_, every}
-use Rattle.machine.specs.Machine.{recordAt, frameIndex, cooled, warmed}
+use Rattle.machine.specs.Machine.{recordAt, frameIndex, isRoot, cooled, warmed}
 
 -- what a sweep ends with: whether a frame was taken and which, the looks, and the records and the hand after it
 pub record Swept : Type 0 where
@@ -38,11 +40,20 @@ firstEmpty p = emptyFrom (p .records) (p .count) (p .count) (p .hand .0)
 unfoldable pub childless : List ℕ → ℕ → Bool
 childless fs f = every slotCount (λ k. isNumber (name fs f k))
 
--- is an occupied frame with record r open to eviction: "The root, a pinned page and a page with a swizzled word are passed over." Any other is.
-unfoldable pub isOpen : FrameRecord → List ℕ → ℕ → Bool
-isOpen r fs f = pick (eqb f 0) false (pick (eqb (r .pins) 0) (childless fs f) false)
+-- where the page in frame f, with record r, stands: "The root, a pinned page and a page with a swizzled word are passed over." Any other is open to eviction.
+unfoldable pub standing : FrameRecord → List ℕ → ℕ → Standing
+standing r fs f = pick (isRoot f) Root (pick (eqb (r .pins) 0) (pick (childless fs f) Evictable Parent) Pinned)
 
--- the classes of a sweep: a frame that a look leaves as it is, one that it warms (none as yet), and one that is open to eviction
+abbrev pub evictable : Standing → Bool
+evictable Root = false
+evictable Pinned = false
+evictable Parent = false
+evictable Evictable = true
+
+abbrev pub isOpen : FrameRecord → List ℕ → ℕ → Bool
+isOpen r fs f = evictable (standing r fs f)
+
+-- the classes of a look: it leaves the frame as it is, it warms it (none as yet), or the frame is open to eviction
 pub data Class : Type 0 where
   rest : Class
   warm : Class
@@ -57,9 +68,15 @@ yields yield = true
 abbrev pub Kind : Type 0
 Kind = FrameRecord → ℕ → Class
 
--- those of document 01: open to eviction or passed over
-unfoldable pub kind : List ℕ → Kind
-kind fs r f = pick (isOpen r fs f) yield rest
+-- document 01's: by where the page stands
+abbrev pub classOf : Standing → Class
+classOf Root = rest
+classOf Pinned = rest
+classOf Parent = rest
+classOf Evictable = yield
+
+abbrev pub kind : List ℕ → Kind
+kind fs r f = classOf (standing r fs f)
 
 -- what a look leaves of the record: "Any other with heat above 0 loses 1."
 unfoldable pub lookLeaves : FrameRecord → Class → FrameRecord

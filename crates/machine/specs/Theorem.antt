@@ -34,3 +34,4 @@ pub mod HandlesHold
 pub mod Steps
 pub mod NeverRefused
 pub mod Demand3Holds
+pub mod PinsBalance

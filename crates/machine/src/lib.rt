@@ -62,6 +62,14 @@ pub enum FindAnswer {
     Refused(u8),
 }
 
+// Why a page stays in its frame, told apart: it is the root, it is pinned, a word of it is swizzled. The first of these that holds; a page of which none does is open to eviction.
+pub enum Standing {
+    Root,
+    Pinned,
+    Parent,
+    Evictable,
+}
+
 // Where a payload lies, as numbers: in the store or in the frames, from `start` on, `size` bytes. Beside a refusal these say nothing.
 #[repr(C)]
 pub struct Place {

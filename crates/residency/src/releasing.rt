@@ -48,7 +48,7 @@ pub fn evict(pool: Pool, frames: &mut [u8], store: &mut [u8], page: PageNumber) 
     }
     let rec = next.records[f];
     let frame = FrameIndex(f as u8);
-    if !scan::is_open(rec, frames, frame) {
+    if !scan::standing::is_open(rec, frames, frame) {
         return Done { pool, refusal: 12 };
     }
     moves::take_out(rec, frames, store, frame);

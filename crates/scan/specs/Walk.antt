@@ -12,11 +12,12 @@ use lib.ListN.{length, getD, set, length-set, List·getD-eq-default}
 use lib.Seq.{getD-set-same, getD-set-other, set-getD, ext-getD}
 use Rattle.page.specs.Figures.{mostFrames, maxUsage}
 use Rattle.machine.specs.declared.FrameRecord.{FrameRecord}
+use Rattle.machine.specs.declared.Standing.{Standing}
 use Rattle.machine.specs.declared.Pool.{Pool}
 use Rattle.machine.specs.Tests.{pick}
 use Rattle.machine.specs.Laws.TestLaws.{and-yes, and-no, pick-no}
 use Rattle.machine.specs.Machine.{blank, frameIndex, recordAt}
-use Rattle.machine.specs.Sweep.{Class, rest, warm, yield, Kind, kind, Swept, after, isOpen, lookLeaves, lookTakes, mostLooks, sweepFrom, sweep}
+use Rattle.machine.specs.Sweep.{Class, rest, warm, yield, Kind, classOf, kind, standing, Swept, after, lookLeaves, lookTakes, mostLooks, sweepFrom, sweep}
 use Rattle.machine.specs.Laws.SweepLaws.{after-in, Cooler, Settled, looked, looked-cooler, kind-settled, cooled-from}
 use Rattle.scan.specs.declared.Walk.{Walk}
 
@@ -106,14 +107,8 @@ cools-same rs ts qs vs n a b = ext-getD blank ts qs (a .size ∙ sym (b .size)) 
 
 -- ---- what the code sees
 
-module _ (r : FrameRecord) (fs : List ℕ) (f u : ℕ) where
-  pub sight-open : isOpen r fs f ≡ true → u ≡ sight (kind fs r f) u
-  unfolding kind sight pick
-  sight-open o = rw o
-
-  pub sight-shut : isOpen r fs f ≡ false → 8 + u ≡ sight (kind fs r f) u
-  unfolding kind sight pick
-  sight-shut o = rw o
+pub sight-by : (r : FrameRecord) (fs : List ℕ) (f u : ℕ) {a : Standing} → a ≡ standing r fs f → sight (classOf a) u ≡ sight (kind fs r f) u
+sight-by r fs f u e = ap (λ (a : Standing). sight (classOf a) u) e
 
 -- ---- what a look at a number does
 

@@ -1,7 +1,9 @@
 // Finding a frame: the one that holds a page, the first empty one, and the one that a clock sweep takes.
 pub mod look;
+pub mod standing;
 
 use machine::FrameRecord;
+use machine::Standing;
 use page::FrameIndex;
 use page::PageNumber;
 ghost use mathlib.Core.Path.{_≡_};
@@ -10,7 +12,7 @@ ghost use Prim.Native.Nat.{_+_, _*_, _≤_, _<_};
 ghost use lib.ListN.{length};
 ghost use Rattle.page.specs.Figures.{pageSize, mostFrames, maxUsage};
 ghost use Rattle.machine.specs.Machine.{frameIndex};
-ghost use Rattle.machine.specs.Sweep.{after, isOpen, kind};
+ghost use Rattle.machine.specs.Sweep.{after, kind};
 ghost use Rattle.scan.specs.ByTable.{foundBy, emptyBy};
 ghost use Rattle.scan.specs.Walk.{sight as classAndUsage, lookedAt, cooledTo, Walked};
 
@@ -80,29 +82,18 @@ pub fn first_empty(pages: &[u16; FrameIndex::MOST], count: u16, hand: FrameIndex
     count as usize
 }
 
-// Is the frame open to eviction: not the root's, not pinned, with no swizzled word.
-pub fn is_open(rec: FrameRecord, frames: &[u8], frame: FrameIndex) -> bool
-    requires { ⌜ pageSize * frame .0 + pageSize ≤ length (now frames) ⌝ }
-    ensures { λ r. ⌜ r ≡ isOpen rec (now (frames .entry)) (frame .0) ⌝ }
-{
-    if frame.0 == 0 {
-        return false;
-    }
-    if rec.pins == 0 {
-        return look::childless(frames, frame);
-    }
-    false
-}
-
 // What a sweep sees of a frame.
 pub fn sight(rec: FrameRecord, frames: &[u8], frame: FrameIndex) -> u8
     requires { ⌜ (pageSize * frame .0 + pageSize ≤ length (now frames)) × (rec .usage ≤ maxUsage) ⌝ }
     ensures { λ r. ⌜ r ≡ classAndUsage (kind (now (frames .entry)) rec (frame .0)) (rec .usage) ⌝ }
 {
-    if is_open(rec, frames, frame) {
-        return rec.usage;
+    let reason = standing::of(rec, frames, frame);
+    match reason {
+        Standing::Root => REST + rec.usage,
+        Standing::Pinned => REST + rec.usage,
+        Standing::Parent => REST + rec.usage,
+        Standing::Evictable => rec.usage,
     }
-    REST + rec.usage
 }
 
 // What a look that takes nothing leaves of what it saw.

@@ -14,11 +14,13 @@ use lib.Seq.{getD-set-other}
 use Rattle.page.specs.Figures.{maxUsage}
 use Rattle.machine.specs.declared.FrameRecord.{FrameRecord}
 use Rattle.machine.specs.declared.Pool.{Pool}
+use Rattle.machine.specs.declared.Standing.{Standing}
+use Rattle.machine.specs.declared.Standing.the-variants.{Root, Pinned, Parent, Evictable}
 use Rattle.machine.specs.Tests.{pick, _and_, _or_, some}
 use Rattle.machine.specs.Laws.TestLaws.{clash, case, on, off, is-off, same, and-left, both, or-none, or-off, true-some, some-true, pick-either}
-use Rattle.machine.specs.Machine.{State, withPool, blank, cooled, recordAt}
+use Rattle.machine.specs.Machine.{State, withPool, isRoot, blank, cooled, recordAt}
 use Rattle.machine.specs.Laws.AgreementFacts.{InRange}
-use Rattle.machine.specs.Sweep.{Class, rest, warm, yield, yields, Kind, kind, Swept, after, emptyFrom, firstEmpty, childless, isOpen, lookLeaves, lookTakes, sweepFrom, mostLooks, sweep, withSwept}
+use Rattle.machine.specs.Sweep.{Class, rest, warm, yield, yields, Kind, classOf, kind, Swept, after, emptyFrom, firstEmpty, childless, standing, evictable, isOpen, lookLeaves, lookTakes, sweepFrom, mostLooks, sweep, withSwept}
 use Rattle.machine.specs.Rules.{rule15}
 use Rattle.machine.specs.Laws.Ready.{Ready}
 
@@ -70,12 +72,22 @@ away-left F h d hF e = elim (decLt (h + 1) F) [
 
 -- ---- one look
 
--- a frame open to eviction has no swizzled word
+-- a frame is open to eviction where it is not the root's, not pinned, and has no swizzled word
+pub open-where : (r : FrameRecord) (fs : List ℕ) (f : ℕ) → isOpen r fs f ≡ pick (isRoot f) false (pick (eqb (r .pins) 0) (childless fs f) false)
+unfolding standing pick
+open-where r fs f = by-tests (isRoot f) (eqb (r .pins) 0) (childless fs f)
+  where
+    by-tests : (root free leaf : Bool) → evictable (pick root Root (pick free (pick leaf Evictable Parent) Pinned)) ≡ pick root false (pick free leaf false)
+    by-tests true free leaf = refl
+    by-tests false true true = refl
+    by-tests false true false = refl
+    by-tests false false leaf = refl
+
 pub open-childless : (r : FrameRecord) (fs : List ℕ) (f : ℕ) → isOpen r fs f ≡ true → childless fs f ≡ true
-unfolding isOpen
 open-childless r fs f =
     let P : Bool → Type 0 = λ b. b ≡ true → childless fs f ≡ true in
-    pick-either P (eqb f 0) false _ (λ e. absurd (clash (sym e))) (pick-either P (eqb (r .pins) 0) (childless fs f) false (λ e. e) (λ e. absurd (clash (sym e))))
+    rw (open-where r fs f)
+    (pick-either P (isRoot f) false _ (λ e. absurd (clash (sym e))) (pick-either P (eqb (r .pins) 0) (childless fs f) false (λ e. e) (λ e. absurd (clash (sym e)))))
 
 -- q is r with another usage count: in its range, and not more where there are no pins
 pub record Cooler (r q : FrameRecord) : Type 0 where
@@ -158,30 +170,39 @@ leaves-warm r c e t = elim (case (eqb (r .usage) 0)) [ on z ↦ absurd (clash (s
 -- ---- the classes of document 01
 
 kind-open : (fs : List ℕ) (r : FrameRecord) (f : ℕ) → isOpen r fs f ≡ true → yields (kind fs r f) ≡ true
-unfolding kind pick
-kind-open fs r f o = rw o
+kind-open fs r f = by-standing (standing r fs f)
+  where
+    by-standing : (a : Standing) → evictable a ≡ true → yields (classOf a) ≡ true
+    by-standing Root e = e
+    by-standing Pinned e = e
+    by-standing Parent e = e
+    by-standing Evictable e = e
 
 open-kind : (fs : List ℕ) (r : FrameRecord) (f : ℕ) → yields (kind fs r f) ≡ true → isOpen r fs f ≡ true
-unfolding kind
-open-kind fs r f = pick-by (λ (c : Class). yields c ≡ true → isOpen r fs f ≡ true) (isOpen r fs f) yield rest (λ o e. o) (λ o e. absurd (clash (sym e)))
+open-kind fs r f = by-standing (standing r fs f)
+  where
+    by-standing : (a : Standing) → yields (classOf a) ≡ true → evictable a ≡ true
+    by-standing Root e = e
+    by-standing Pinned e = e
+    by-standing Parent e = e
+    by-standing Evictable e = e
 
--- being open goes by the pins and the words
-open-same : (r q : FrameRecord) (fs : List ℕ) (f : ℕ) → q .pins ≡ r .pins → isOpen q fs f ≡ isOpen r fs f
-unfolding isOpen
-open-same r q fs f e = rw e
+-- where a page stands goes by the pins and the words
+standing-same : (r q : FrameRecord) (fs : List ℕ) (f : ℕ) → q .pins ≡ r .pins → standing q fs f ≡ standing r fs f
+unfolding standing
+standing-same r q fs f e = rw e
 
 pub kind-settled : (fs : List ℕ) → Settled (kind fs)
-unfolding kind
-kind-settled fs = record {
-  same = λ r q f c. ap (λ (o : Bool). pick o yield rest) (open-same r q fs f (c .pins));
-  pinned = λ r f. pick-by (λ (c : Class). c ≡ warm → r .pins ≢ 0) (isOpen r fs f) yield rest (λ o e. absurd (other (sym e))) (λ o e. absurd (other′ e));
-}
+kind-settled fs = record { same = λ r q f c. ap classOf (standing-same r q fs f (c .pins)); pinned = λ r f e. absurd (none (standing r fs f) e) }
   where
-    other : warm ≡ yield → ⊥
-    other e = let z : _≡_ {A = ℕ} 0 1 = cc in omega arith
+    at-rest : rest ≡ warm → ⊥
+    at-rest e = let z : _≡_ {A = ℕ} 0 1 = cc in omega arith
 
-    other′ : rest ≡ warm → ⊥
-    other′ e = let z : _≡_ {A = ℕ} 0 1 = cc in omega arith
+    none : (a : Standing) → classOf a ≡ warm → ⊥
+    none Root e = at-rest e
+    none Pinned e = at-rest e
+    none Parent e = at-rest e
+    none Evictable e = let z : _≡_ {A = ℕ} 0 1 = cc in omega arith
 
 -- ---- how many looks
 

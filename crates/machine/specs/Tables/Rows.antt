@@ -13,13 +13,13 @@ use Rattle.machine.specs.Machine.{State, state, frameIndex, pageNumber, 
 use Rattle.machine.specs.Agreement.{isBlank, rootInPlace, pagesApart, handInRange, fieldsInRange, allInRange, emptyBlank, parentsName, pointsBack, swizzledPointBack, absent, numbersAbsent, numbersOnce, reachesRoot, allReachRoot, agree}
 use Rattle.machine.specs.Soundness.{wordsBelow, wordsOnce, sound}
 use Rattle.machine.specs.Moves.{plain, imageTo, writtenOutBy, writtenOutTo, cleanedTo, settled, evicted, loaded}
-use Rattle.machine.specs.Sweep.{after, emptyFrom, childless, isOpen, kind, lookLeaves, lookTakes, sweepFrom}
+use Rattle.machine.specs.Sweep.{after, emptyFrom, childless, standing, lookLeaves, lookTakes, sweepFrom}
 use Rattle.machine.specs.Naming.{currentWord, named, namedByResident, repeated, wordLoadable, loadable}
 use Rattle.machine.specs.Answers.{Answer, refused, done, handle, payload, inFrames, inStore, number, frame, nowhere, doneAnswer, placeAnswer, cut, Shown, Out}
 use Rattle.machine.specs.Rules.{lengthsFit, handleFits, rangeFits}
 use Rattle.machine.specs.Calls.{decide, openCall, rootCall, fixCall, missOut, unfixCall, showCall, payloadPlace, peekCall, wordCall, writeCall, linkCall, unlinkCall, evictCall, settleCall, foundAnswer, findCall}
 
-abbrev joined : List (List ℕ) → List ℕ
+abbrev pub joined : List (List ℕ) → List ℕ
 joined = foldr (λ (x y : List ℕ). x ++ y) []
 
 -- ---- small machines
@@ -137,6 +137,6 @@ sameNumbers (x ∷ xs) (y ∷ ys) = eqb x y && sameNumbers xs ys
 
 -- every row gives what document 01 says. To unfold it unfolds the definitions that the rows are computed by.
 unfoldable pub allHold : List Case → Bool
-unfolding sameNumbers openCall rootCall fixCall missOut unfixCall showCall payloadPlace peekCall wordCall writeCall linkCall unlinkCall evictCall settleCall foundAnswer findCall decide verdict firstBroken pick _and_ _or_ _⇒_ every some lengthsFit handleFits rangeFits agree rootInPlace pagesApart handInRange allInRange fieldsInRange emptyBlank isBlank parentsName pointsBack swizzledPointBack absent numbersAbsent givesPage numbersOnce reachesRoot allReachRoot sound wordsBelow wordsOnce zeroPool openedPool occupied foundFrom nameOf renamed slot wordAt putSlot putWord pageOf putPage putPayload bytesFrom plain imageTo writtenOutBy writtenOutTo cleanedTo settled evicted loaded after emptyFrom childless isOpen kind lookLeaves lookTakes sweepFrom currentWord named namedByResident repeated wordLoadable loadable doneAnswer placeAnswer cut
+unfolding sameNumbers openCall rootCall fixCall missOut unfixCall showCall payloadPlace peekCall wordCall writeCall linkCall unlinkCall evictCall settleCall foundAnswer findCall decide verdict firstBroken pick _and_ _or_ _⇒_ every some lengthsFit handleFits rangeFits agree rootInPlace pagesApart handInRange allInRange fieldsInRange emptyBlank isBlank parentsName pointsBack swizzledPointBack absent numbersAbsent givesPage numbersOnce reachesRoot allReachRoot sound wordsBelow wordsOnce zeroPool openedPool occupied foundFrom nameOf renamed slot wordAt putSlot putWord pageOf putPage putPayload bytesFrom plain imageTo writtenOutBy writtenOutTo cleanedTo settled evicted loaded after emptyFrom childless standing lookLeaves lookTakes sweepFrom currentWord named namedByResident repeated wordLoadable loadable doneAnswer placeAnswer cut
 allHold [] = true
 allHold (c ∷ cs) = sameNumbers (c .gives) (c .says) && allHold cs

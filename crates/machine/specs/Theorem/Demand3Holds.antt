@@ -63,6 +63,10 @@ unfolding run AllBytes
 run-keeps [] x b I = I
 run-keeps (c ∷ cs) x b I = run-keeps cs (next c x) (b .1) (step-keeps x I c (b .0))
 
-pub demand3 : Demand3
+pub invariant-along : (frames store : List ℕ) → Octets frames → Octets store → openCall frames store .answer ≡ done
+    → (cs : List Call) → AllBytes cs → Invariant (run cs (start (openCall frames store .left)))
 unfolding openCall
-demand3 frames store bf bs e cs b = holds _ (run-keeps cs (start (openCall frames store .left)) b (start-keeps frames store bf bs _ (outcome _ _ _ _ refl) e))
+invariant-along frames store bf bs e cs b = run-keeps cs (start (openCall frames store .left)) b (start-keeps frames store bf bs _ (outcome _ _ _ _ refl) e)
+
+pub demand3 : Demand3
+demand3 frames store bf bs e cs b = holds _ (invariant-along frames store bf bs e cs b)

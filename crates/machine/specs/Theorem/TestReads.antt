@@ -11,6 +11,7 @@ use Rattle.machine.specs.declared.Handle.{Handle}
 use Rattle.machine.specs.Laws.TestLaws.{clash, case, on, off, and-true, every-true, false-every, pick-yes, pick-no}
 use Rattle.machine.specs.Machine.{State, recordAt}
 use Rattle.machine.specs.Sweep.{childless, isOpen}
+use Rattle.machine.specs.Laws.SweepLaws.{open-where}
 use Rattle.machine.specs.Rules.{handleFits}
 use Rattle.machine.specs.Theorem.View.{View, view, Occupied}
 
@@ -35,25 +36,28 @@ pub record Open (v : View) (f : ℕ) : Type 0 where
   pub leaf : (k : ℕ) → k < slotCount → Number (v .word f k)
 
 pub open-of : (s : State) (f : ℕ) → isOpen (recordAt (s .pool .records) f) (s .frames) f ≡ true → Open (view s) f
-unfolding isOpen childless
-open-of s f t = elim (case (eqb f 0)) [
-  | on a ↦ absurd (clash (sym t ∙ sym (pick-yes _ a refl)))
-  | off a ↦
-      let u = pick-no false a refl ∙ t in
-      elim (case (eqb (recordAt (s .pool .records) f .pins) 0)) [
-        | off b ↦ absurd (clash (sym u ∙ sym (pick-no _ b refl)))
-        | on b ↦ record {
-          notRoot = eqb-false f 0 a;
-          unpinned = eqb-true _ 0 b;
-          leaf = λ k h. number-yes _ (every-true slotCount _ (pick-yes false b refl ∙ u) k h);
-        }
-      ]
-]
+unfolding childless
+open-of s f o =
+    let t = sym (open-where (recordAt (s .pool .records) f) (s .frames) f) ∙ o in
+    elim (case (eqb f 0)) [
+      | on a ↦ absurd (clash (sym t ∙ sym (pick-yes _ a refl)))
+      | off a ↦
+          let u = pick-no false a refl ∙ t in
+          elim (case (eqb (recordAt (s .pool .records) f .pins) 0)) [
+            | off b ↦ absurd (clash (sym u ∙ sym (pick-no _ b refl)))
+            | on b ↦ record {
+              notRoot = eqb-false f 0 a;
+              unpinned = eqb-true _ 0 b;
+              leaf = λ k h. number-yes _ (every-true slotCount _ (pick-yes false b refl ∙ u) k h);
+            }
+          ]
+    ]
 
 -- an unpinned frame that is not the root's and yet not open has a swizzled word
-pub shut-of : (s : State) (f : ℕ) → isOpen (recordAt (s .pool .records) f) (s .frames) f ≡ false → f ≢ 0 → view s .pins f ≡ 0 → (k : ℕ) × (k < slotCount) × (Swizzled (view s .word f k))
-unfolding isOpen childless
-shut-of s f t n z =
+pub shut-of : (s : State) (f : ℕ) → isOpen (recordAt (s .pool .records) f) (s .frames) f ≡ false → f ≢ 0 → view s .pins f ≡ 0 → (k : ℕ) × (k < slotCount) × Swizzled (view s .word f k)
+unfolding childless
+shut-of s f o n z =
+    let t = sym (open-where (recordAt (s .pool .records) f) (s .frames) f) ∙ o in
     let c = pick-yes false (eq-eqb _ 0 z) refl ∙ pick-no false (ne-eqb f 0 n) refl ∙ t in
     let r = false-every slotCount _ c in
     (r .0, r .1, number-no _ (r .2))

@@ -1,21 +1,52 @@
 -- `scan::sight` meets its contract. Assumes nothing.
 use mathlib.Core.Path.{sym, _∙_}
 use borrow.Author.Needs.{needs}
-use Rattle.scan.specs.Walk.{sight-open, sight-shut}
+use Rattle.scan.specs.Walk.{sight as classAndUsage, sight-by}
 use Rattle.scan.proofs.sight.Statement.{statement}
 use Rattle.scan.proofs.sight.Tie as tie
 
-is-open-requires : tie.Need-is-open-requires
-is-open-requires c κs = search needs
+of-requires : tie.Need-of-requires
+of-requires c κs = search needs
 
-returns : tie.Need-returns
-returns c = sight-open _ _ _ _ (sym (c .before .is-open .ensures) ∙ c .if1 .taken)
+enum-told : tie.Need-enum-told
+enum-told c = search needs
 
 add-result : tie.Need-add-result
 add-result c = search needs
 
+enum-told-2 : tie.Need-enum-told-2
+enum-told-2 c = search needs
+
+add-result-2 : tie.Need-add-result-2
+add-result-2 c = search needs
+
+enum-told-3 : tie.Need-enum-told-3
+enum-told-3 c = search needs
+
+add-result-3 : tie.Need-add-result-3
+add-result-3 c = search needs
+
+enum-told-4 : tie.Need-enum-told-4
+enum-told-4 c = search needs
+
+-- the root; pinned; with a swizzled word; open to eviction
+returns : tie.Need-returns
+unfolding classAndUsage
+returns c = sight-by _ _ _ _ (sym (c .before .enum-told .given .1) ∙ c .before .before .before .of .ensures)
+
 returns-2 : tie.Need-returns-2
-returns-2 c = sight-shut _ _ _ _ (sym (c .before .before .is-open .ensures) ∙ c .before .if1 .left)
+unfolding classAndUsage
+returns-2 c = sight-by _ _ _ _ (sym (c .before .enum-told2 .given .1) ∙ c .before .before .before .of .ensures)
+
+returns-3 : tie.Need-returns-3
+unfolding classAndUsage
+returns-3 c = sight-by _ _ _ _ (sym (c .before .enum-told3 .given .1) ∙ c .before .before .before .of .ensures)
+
+returns-4 : tie.Need-returns-4
+unfolding classAndUsage
+returns-4 c = sight-by _ _ _ _ (sym (c .enum-told4 .given .1) ∙ c .before .before .of .ensures)
 
 pub sight-spec : {M : Type 1} → statement M
-sight-spec = tie.close (tie.spec is-open-requires returns add-result returns-2)
+sight-spec =
+    tie.close
+    (tie.spec of-requires enum-told add-result enum-told-2 add-result-2 enum-told-3 add-result-3 enum-told-4 returns returns-2 returns-3 returns-4)

@@ -1,0 +1,145 @@
+//! The shapes of state that calls are timed on: how the store's pages name each other, and which of them are resident.
+use crate::baseline;
+use pagepool::{FrameIndex, Handle, PageNumber, Pool, PAGE_SIZE, PAYLOAD_START, SLOTS};
+
+/// The records and the buffers that a host lends to each call.
+#[derive(Clone, PartialEq)]
+pub struct State {
+    pub pool: Pool,
+    pub frames: Vec<u8>,
+    pub store: Vec<u8>,
+}
+
+#[derive(Clone, Copy, Debug, PartialEq)]
+pub enum Shape {
+    /// Page p names pages 15 p + 1 to 15 p + 15. The frames are full.
+    Full,
+    /// The root names 16 pages, and no more of these name 15 each than it takes to fill the frames. The frames are full.
+    Leaves,
+    /// Pages as in `Full`. The root is resident alone.
+    Opened,
+    /// Pages as in `Full`, but few. The frames are full, or all named pages resident.
+    Few,
+    /// Each page names the next one. The frames are full.
+    Chain,
+}
+
+pub const ROOT: Handle = Handle { frame: FrameIndex(0), page: PageNumber(0) };
+
+/// A slot that is empty in every pinned page, except in the root of `Leaves`.
+pub const EMPTY_SLOT: usize = 15;
+
+/// A page that isn't taken in, so that a resident page names one that is not; in `Full` it names pages itself.
+const LEFT_OUT: usize = 16;
+
+impl Shape {
+    pub const ALL: [Shape; 5] = [Shape::Full, Shape::Leaves, Shape::Opened, Shape::Few, Shape::Chain];
+
+    pub fn name(self) -> &'static str {
+        match self {
+            Shape::Full => "full",
+            Shape::Leaves => "leaves",
+            Shape::Opened => "just opened",
+            Shape::Few => "few pages",
+            Shape::Chain => "chain",
+        }
+    }
+
+    /// The page and the slot that name a page.
+    fn parent(self, page: usize) -> (usize, usize) {
+        match self {
+            Shape::Leaves if page <= SLOTS => (0, page - 1),
+            Shape::Leaves => ((page - SLOTS - 1) / 15 + 1, (page - SLOTS - 1) % 15),
+            Shape::Chain => (page - 1, 0),
+            Shape::Full | Shape::Opened | Shape::Few => ((page - 1) / 15, (page - 1) % 15),
+        }
+    }
+
+    /// The pages that are named, for F frames and N pages. The last page never is.
+    fn named(self, count: usize, pages: usize) -> impl Iterator<Item = usize> {
+        let end = if self == Shape::Leaves { count.max(SLOTS) + 1 } else { pages };
+        1..end.min(pages - 1)
+    }
+
+    pub fn store(self, count: usize, pages: usize) -> Vec<u8> {
+        let mut store = vec![0; PAGE_SIZE * pages];
+        for (page, bytes) in store.chunks_exact_mut(PAGE_SIZE).enumerate() {
+            bytes[PAYLOAD_START..].fill(page as u8 | 1);
+        }
+        for page in self.named(count, pages) {
+            let (parent, slot) = self.parent(page);
+            let word = &mut store[PAGE_SIZE * parent + 4 * slot..][..4];
+            word.copy_from_slice(&(page as u32).to_le_bytes());
+        }
+        store
+    }
+
+    /// A pool over such a store, its frames filled in the order of page numbers. The root and the first page after it are
+    /// pinned, and each page has usage 1.
+    pub fn state(self, count: usize, pages: usize) -> State {
+        let mut state = State::opened(count, self.store(count, pages));
+        let mut handles = vec![state.pin_root()];
+        let taken_in = |page: &usize| self == Shape::Chain || *page != LEFT_OUT;
+        let most = if self == Shape::Opened { 0 } else { count - 1 };
+        for page in self.named(count, pages).filter(taken_in).take(most) {
+            let (parent, slot) = self.parent(page);
+            handles.push(state.pin(handles[parent], slot));
+        }
+        state.release_all_but_two();
+        state
+    }
+}
+
+impl State {
+    /// A pool just opened, nothing pinned.
+    pub fn opened(count: usize, store: Vec<u8>) -> State {
+        let mut frames = vec![0; PAGE_SIZE * count];
+        let pool = baseline::open(&mut frames, &store).expect("the store is sound");
+        State { pool, frames, store }
+    }
+
+    fn pin_root(&mut self) -> Handle {
+        baseline::root(&mut self.pool, &self.frames, &self.store).expect("the root can be pinned").handle
+    }
+
+    fn pin(&mut self, parent: Handle, slot: usize) -> Handle {
+        let fixed = baseline::fix(&mut self.pool, &mut self.frames, &mut self.store, parent, slot);
+        fixed.expect("a frame is empty").handle
+    }
+
+    fn release_all_but_two(&mut self) {
+        let records = self.pool.records.iter_mut().enumerate();
+        for (frame, record) in records.filter(|(_, record)| record.is_used()) {
+            record.pins = u16::from(frame < 2);
+            record.usage = 1;
+        }
+    }
+
+    /// The page that was pinned last: the first one after the root, or the root where it is alone.
+    pub fn pinned(&self) -> Handle {
+        let frame = FrameIndex(self.pool.records[1].used);
+        Handle { frame, page: self.pool.record(frame).page }
+    }
+
+    /// A slot of a pinned page that names a page that isn't resident.
+    pub fn absent(&self) -> (Handle, usize) {
+        let slots =
+            [self.pinned(), ROOT].into_iter().flat_map(|page| (0..SLOTS).map(move |slot| (page, slot)));
+        let mut absent = slots.filter(|(page, slot)| {
+            let word = &self.frames[PAGE_SIZE * usize::from(page.frame) + 4 * slot..][..4];
+            word != [0; 4] && word[3] < 0x80
+        });
+        absent.next().expect("a page was left out")
+    }
+
+    /// The page in the last frame that isn't empty.
+    pub fn last_resident(&self) -> PageNumber {
+        let used = self.pool.records.iter().rev().find(|record| record.is_used());
+        used.expect("the root is resident").page
+    }
+
+    /// A page that isn't resident and that no word names.
+    pub fn unnamed(&self) -> PageNumber {
+        PageNumber(self.pool.pages - 1)
+    }
+}

@@ -1,0 +1,54 @@
+-- Answers in code, and what show, peek, word and find give.
+use mathlib.Core.Path.{_≡_, refl}
+use mathlib.Core.Bool.{true, false}
+use mathlib.Core.List.{List, [], _∷_}
+use lib.ListN.{replicate}
+use Rattle.machine.specs.declared.FixAnswer.the-variants.{Fixed, Refused}
+use Rattle.machine.specs.declared.WordAnswer.the-variants.{Names, Refused as RefusedWord}
+use Rattle.machine.specs.declared.FindAnswer.the-variants.{At, Absent, Refused as RefusedFind}
+use Rattle.machine.specs.Machine.{State, frameIndex, pageNumber}
+use Rattle.machine.specs.Answers.{Answer, refused, done, handle, payload, inFrames, inStore, number, frame, nowhere, doneAnswer, fixAnswer, wordAnswer, findAnswer, placeAnswer, Shown, handedBack}
+use Rattle.machine.specs.Calls.{showCall, peekCall, wordCall, findCall}
+use Rattle.machine.specs.Tables.Rows.{resident, names, swizzledTo, page, machine, handleOf, Case, answers, leaves, hands, allHold}
+
+-- page 1 in frame 1 by the root's slot 0, page 2 not resident, named by the root's slot 1
+abbrev two : State
+two = machine 1 ((resident 0 1 2, page (swizzledTo 1 ∷ names 2 ∷ []) 10) ∷ (resident 1 1 1, page [] 11) ∷ []) (page (names 1 ∷ []) 20 ∷ page [] 21 ∷ page [] 22 ∷ [])
+
+-- what is handed back where frames and store are lent at byte 1,000 of block 5 and at byte 2,000 of block 6
+abbrev handed : Answer → Shown
+handed a = handedBack (record { at = (5, 1000); bytes = two .frames }) (record { at = (6, 2000); bytes = two .store }) a
+
+pub table : List Case
+table =
+    -- "Where an answer is an enum, a definition gives this paper's number and values for each of its cases."
+    answers (fixAnswer (Fixed (handleOf 3 4) 16)) (handle 3 4 16)
+    ∷ answers (fixAnswer (Refused 15)) (refused 15)
+    ∷ answers (wordAnswer (Names (pageNumber 7))) (number 7)
+    ∷ answers (wordAnswer (RefusedWord 4)) (refused 4)
+    ∷ answers (findAnswer (At (frameIndex 3))) (frame 3)
+    ∷ answers (findAnswer Absent) nowhere
+    ∷ answers (findAnswer (RefusedFind 6)) (refused 6)
+    ∷ answers (doneAnswer 0) done
+    ∷ answers (doneAnswer 9) (refused 9)
+    ∷ answers (placeAnswer (record { refusal = 0; in_store = false; start = 320; size = 192 })) (payload inFrames 320 192)
+    ∷ answers (placeAnswer (record { refusal = 0; in_store = true; start = 576; size = 192 })) (payload inStore 576 192)
+    ∷ answers (placeAnswer (record { refusal = 3; in_store = true; start = 576; size = 192 })) (refused 3)
+    -- "Show hands back a handle's payload." "Peek, by page number, hands back the payload from the frame if resident, otherwise from the store." "Both put their number, 0 if accepted, into a number the caller lends."
+    ∷ hands (handed (showCall two (handleOf 1 1) .answer)) (5, 1320) (replicate 192 11) 0
+    ∷ hands (handed (peekCall two (pageNumber 1) .answer)) (5, 1320) (replicate 192 11) 0
+    ∷ hands (handed (peekCall two (pageNumber 2) .answer)) (6, 2576) (replicate 192 22) 0
+    -- "A refused show or peek gives the empty part at the start of the frames."
+    ∷ hands (handed (showCall two (handleOf 1 2) .answer)) (5, 1000) [] 3
+    ∷ hands (handed (peekCall two (pageNumber 3) .answer)) (5, 1000) [] 6
+    -- "Word gives the page number in a slot, swizzled or not." "Find, by page number, gives the frame or 'absent'." They change nothing.
+    ∷ leaves (wordCall two (handleOf 0 0) 0) (number 1) two
+    ∷ leaves (wordCall two (handleOf 0 0) 1) (number 2) two
+    ∷ leaves (wordCall two (handleOf 0 0) 2) (number 0) two
+    ∷ leaves (findCall two (pageNumber 1)) (frame 1) two
+    ∷ leaves (findCall two (pageNumber 2)) nowhere two
+    ∷ []
+
+pub answer-rows : allHold table ≡ true
+unfolding table allHold
+answer-rows = refl

@@ -1,0 +1,39 @@
+-- A load by a sweep: every record, the hand, both buffers and the looks after it.
+use mathlib.Core.Path.{_≡_, refl}
+use mathlib.Core.Bool.{true}
+use mathlib.Core.List.{List, [], _∷_}
+use Rattle.machine.specs.Answers.{handle}
+use Rattle.machine.specs.Calls.{fixCall}
+use Rattle.machine.specs.Tables.Rows.{child, resident, changed, names, swizzledTo, nothing, page, machine, handleOf, Case, leaves, refuses, allHold}
+
+pub table : List Case
+table =
+    -- "The root, a pinned page and a page with a swizzled word are passed over. Any other with heat above 0 loses 1. One with heat 0 is evicted and its frame used. The hand moves on by one after every look, the last included, from F − 1 to 0."
+    leaves
+    (fixCall
+    (machine 1
+    ((resident 0 1 3, page (swizzledTo 1 ∷ swizzledTo 2 ∷ nothing ∷ names 4 ∷ []) 10) ∷ (resident 1 1 2, page [] 11) ∷ (resident 2 0 1, page (swizzledTo 3 ∷ []) 12) ∷ (child 2 0 3 0 1, page [] 13) ∷ [])
+    (page [] 20 ∷ page [] 21 ∷ page [] 22 ∷ page [] 23 ∷ page [] 24 ∷ []))
+    (handleOf 0 0) 3)
+    (handle 3 4 7)
+    (machine 0
+    ((resident 0 1 3, page (swizzledTo 1 ∷ swizzledTo 2 ∷ nothing ∷ swizzledTo 3 ∷ []) 10) ∷ (resident 1 1 2, page [] 11) ∷ (resident 2 0 1, page (names 3 ∷ []) 12) ∷ (resident 4 1 1, page [] 24) ∷ [])
+    (page [] 20 ∷ page [] 21 ∷ page [] 22 ∷ page [] 23 ∷ page [] 24 ∷ []))
+    -- a page that loses 1 keeps the rest of its record; a dirty victim's image goes to the store
+    ∷ leaves
+    (fixCall
+    (machine 1 ((resident 0 1 0, page (swizzledTo 1 ∷ swizzledTo 2 ∷ names 3 ∷ []) 10) ∷ (changed 1 0 2, page [] 11) ∷ (changed 2 0 0, page (names 4 ∷ []) 12) ∷ [])
+    (page [] 20 ∷ page [] 21 ∷ page [] 22 ∷ page [] 23 ∷ page [] 24 ∷ []))
+    (handleOf 0 0) 2)
+    (handle 2 3 2)
+    (machine 0 ((resident 0 1 0, page (swizzledTo 1 ∷ names 2 ∷ swizzledTo 2 ∷ []) 10) ∷ (changed 1 0 1, page [] 11) ∷ (resident 3 1 1, page [] 23) ∷ [])
+    (page [] 20 ∷ page [] 21 ∷ page (names 4 ∷ []) 12 ∷ page [] 23 ∷ page [] 24 ∷ []))
+    -- "No frame is empty and a sweep could take none."
+    ∷ refuses (λ s. fixCall s (handleOf 0 0) 1)
+    (machine 1 ((resident 0 1 3, page (swizzledTo 1 ∷ names 2 ∷ []) 10) ∷ (resident 1 1 2, page [] 11) ∷ []) (page [] 20 ∷ page [] 21 ∷ page [] 22 ∷ []))
+    15
+    ∷ []
+
+pub sweep-rows : allHold table ≡ true
+unfolding table allHold
+sweep-rows = refl

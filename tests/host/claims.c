@@ -1,0 +1,193 @@
+/* Tries what the header says of answers, handles, payloads and pointers. Names each claim that fails. */
+#include "pagepool.h"
+
+#include <stdio.h>
+#include <string.h>
+
+#define FRAMES 3
+#define PAGES 8
+
+static uint8_t store[PAGES * POOL_PAGE_SIZE];
+static uint8_t frames[FRAMES * POOL_PAGE_SIZE];
+/* What each call below is lent. */
+#define LENT frames, sizeof frames, store, sizeof store
+#define NOTHING NULL, 0, NULL, 0
+
+static int failures;
+
+static void claim(const char *words, bool holds)
+{
+    if (!holds) {
+        printf("fails: %s\n", words);
+        failures++;
+    }
+}
+
+static bool same_pool(const struct pool *a, const struct pool *b)
+{
+    for (int i = 0; i < POOL_MOST_FRAMES; i++) {
+        const struct pool_record *x = &a->records[i], *y = &b->records[i];
+        if (x->used != y->used || x->dirty != y->dirty || x->usage != y->usage || x->slot != y->slot ||
+            x->parent != y->parent || x->pins != y->pins || x->page != y->page)
+            return false;
+    }
+    return a->count == b->count && a->pages == b->pages && a->hand == b->hand;
+}
+
+/* A refused answer: its number, the records that were handed in, and 0 in every other field. */
+
+static bool done_refused(struct pool_done answer, uint8_t refusal, struct pool pool)
+{
+    return answer.refusal == refusal && same_pool(&answer.pool, &pool);
+}
+
+static bool fixed_refused(struct pool_fixed answer, uint8_t refusal, struct pool pool)
+{
+    return answer.refusal == refusal && same_pool(&answer.pool, &pool) && answer.handle.frame == 0 &&
+           answer.handle.page == 0 && answer.looks == 0;
+}
+
+static bool place_refused(struct pool_place answer, uint8_t refusal)
+{
+    return answer.refusal == refusal && !answer.in_store && answer.start == 0 && answer.size == 0;
+}
+
+static bool named_refused(struct pool_named answer, uint8_t refusal)
+{
+    return answer.refusal == refusal && answer.page == 0;
+}
+
+static bool found_refused(struct pool_found answer, uint8_t refusal)
+{
+    return answer.refusal == refusal && !answer.present && answer.frame == 0;
+}
+
+/* A pool over a store whose root names pages 1, 2 and 3 in its slots 1, 2 and 3, with the root pinned. */
+static struct pool begin(void)
+{
+    memset(store, 0, sizeof store);
+    memset(frames, 0, sizeof frames);
+    for (uint8_t slot = 1; slot <= 3; slot++)
+        store[4 * slot] = slot;
+    struct pool_done opened = pool_open(LENT);
+    claim("a sound store opens", opened.refusal == POOL_ACCEPTED);
+    return pool_root(opened.pool, LENT).pool;
+}
+
+static const struct pool_handle root = {0, 0};
+
+static void null_and_0(void)
+{
+    struct pool pool = begin(), zero;
+    memset(&zero, 0, sizeof zero);
+    claim("open", done_refused(pool_open(NOTHING), POOL_WRONG_LENGTH, zero));
+    claim("open, no frames", done_refused(pool_open(NULL, 0, store, sizeof store), POOL_WRONG_LENGTH, zero));
+    claim("open, no store", done_refused(pool_open(frames, sizeof frames, NULL, 0), POOL_WRONG_LENGTH, zero));
+    claim("root", fixed_refused(pool_root(pool, NOTHING), POOL_WRONG_LENGTH, pool));
+    claim("fix", fixed_refused(pool_fix(pool, NOTHING, root, 1), POOL_WRONG_LENGTH, pool));
+    claim("unfix", done_refused(pool_unfix(pool, NOTHING, root), POOL_WRONG_LENGTH, pool));
+    claim("show", place_refused(pool_show(pool, NOTHING, root), POOL_WRONG_LENGTH));
+    claim("peek", place_refused(pool_peek(pool, NOTHING, 1), POOL_WRONG_LENGTH));
+    claim("word", named_refused(pool_word(pool, NOTHING, root, 1), POOL_WRONG_LENGTH));
+    claim("write", done_refused(pool_write(pool, NOTHING, root, 0, NULL, 0), POOL_WRONG_LENGTH, pool));
+    claim("link", done_refused(pool_link(pool, NOTHING, root, 0, 4), POOL_WRONG_LENGTH, pool));
+    claim("unlink", done_refused(pool_unlink(pool, NOTHING, root, 1), POOL_WRONG_LENGTH, pool));
+    claim("evict", done_refused(pool_evict(pool, NOTHING, 1), POOL_WRONG_LENGTH, pool));
+    claim("settle", done_refused(pool_settle(pool, NOTHING), POOL_WRONG_LENGTH, pool));
+    claim("find", found_refused(pool_find(pool, NOTHING, 1), POOL_WRONG_LENGTH));
+
+    struct pool_done written = pool_write(pool, LENT, root, POOL_PAYLOAD_SIZE, NULL, 0);
+    claim("a write of no bytes changes nothing", written.refusal == 0 && same_pool(&written.pool, &pool));
+    claim("nor beyond the payload", done_refused(pool_write(pool, LENT, root, 193, NULL, 0), POOL_BAD_RANGE, pool));
+}
+
+/* Rules other than 1, with answers of each kind. */
+static void refused_answers(void)
+{
+    struct pool pool = begin(), zero;
+    const struct pool_handle stale = {1, 1};
+    memset(&zero, 0, sizeof zero);
+    claim("fix by a stale handle", fixed_refused(pool_fix(pool, LENT, stale, 1), POOL_BAD_HANDLE, pool));
+    claim("fix of an empty slot", fixed_refused(pool_fix(pool, LENT, root, 0), POOL_EMPTY_SLOT, pool));
+    claim("show by a stale handle", place_refused(pool_show(pool, LENT, stale), POOL_BAD_HANDLE));
+    claim("peek beyond N", place_refused(pool_peek(pool, LENT, PAGES), POOL_BAD_PAGE));
+    claim("word beyond slot 15", named_refused(pool_word(pool, LENT, root, 16), POOL_BAD_SLOT));
+    claim("find beyond N", found_refused(pool_find(pool, LENT, PAGES), POOL_BAD_PAGE));
+    claim("unlink of an empty slot", done_refused(pool_unlink(pool, LENT, root, 0), POOL_EMPTY_SLOT, pool));
+    struct pool altered = pool;
+    altered.records[0].usage = POOL_MAX_USAGE + 1;
+    claim("altered records", fixed_refused(pool_root(altered, LENT), POOL_DISAGREE, altered));
+    store[4 * 5] = 1;
+    claim("a refused open", done_refused(pool_open(LENT), POOL_UNSOUND_STORE, zero));
+}
+
+static void handles(void)
+{
+    struct pool_fixed fixed = pool_fix(begin(), LENT, root, 1);
+    struct pool_handle one = fixed.handle;
+    fixed = pool_fix(fixed.pool, LENT, root, 1);
+    claim("a page pinned twice has one handle", fixed.handle.frame == one.frame && fixed.handle.page == one.page);
+    struct pool_done done = pool_unfix(fixed.pool, LENT, one);
+    claim("good while a pin is left", pool_show(done.pool, LENT, one).refusal == 0);
+    done = pool_unfix(done.pool, LENT, one);
+    claim("stale without pins", pool_show(done.pool, LENT, one).refusal == POOL_BAD_HANDLE);
+    done = pool_evict(done.pool, LENT, 1);
+    fixed = pool_fix(done.pool, LENT, root, 2);
+    claim("the frame holds another page", fixed.handle.frame == one.frame && fixed.handle.page == 2);
+    claim("which the handle doesn't reach", pool_show(fixed.pool, LENT, one).refusal == POOL_BAD_HANDLE);
+    done = pool_evict(pool_unfix(fixed.pool, LENT, fixed.handle).pool, LENT, 2);
+    fixed = pool_fix(done.pool, LENT, root, 1);
+    claim("good again in the same frame", pool_show(fixed.pool, LENT, one).refusal == 0);
+}
+
+static void no_frame(void)
+{
+    struct pool_fixed one = pool_fix(begin(), LENT, root, 1);
+    struct pool_fixed two = pool_fix(one.pool, LENT, root, 2);
+    struct pool_fixed three = pool_fix(two.pool, LENT, root, 3);
+    claim("all frames are pinned", fixed_refused(three, POOL_NO_FRAME, two.pool));
+    for (pool_page_number page = 0; page < 3; page++)
+        claim("evict is refused too", pool_evict(three.pool, LENT, page).refusal == POOL_NOT_OPEN);
+    struct pool_done done = pool_unfix(three.pool, LENT, one.handle);
+    three = pool_fix(done.pool, LENT, root, 3);
+    claim("an unfix makes room", three.refusal == 0 && three.handle.frame == one.handle.frame && three.looks > 0);
+}
+
+static void payloads(void)
+{
+    struct pool_fixed one = pool_fix(begin(), LENT, root, 1);
+    struct pool_fixed two = pool_fix(one.pool, LENT, root, 2);
+    struct pool pool = pool_write(two.pool, LENT, one.handle, 5, (const uint8_t *)"bytes", 5).pool;
+    struct pool_place place = pool_show(pool, LENT, one.handle);
+    uint8_t copy[POOL_PAYLOAD_SIZE];
+    claim("a payload is 192 bytes", place.size == sizeof copy);
+    memcpy(copy, pool_payload(place, frames, store), sizeof copy);
+    pool = pool_write(pool, LENT, two.handle, 0, copy, sizeof copy).pool;
+    place = pool_show(pool, LENT, two.handle);
+    claim("a page copied", memcmp(pool_payload(place, frames, store), "\0\0\0\0\0bytes", 11) == 0);
+    place = pool_peek(pool, LENT, 3);
+    claim("peek in the store", place.in_store && pool_payload(place, frames, store) == store + 3 * 256 + 64);
+}
+
+static void open_forgets(void)
+{
+    struct pool pool = pool_write(begin(), LENT, root, 0, (const uint8_t *)"lost", 4).pool;
+    struct pool_done done = pool_open(LENT);
+    claim("handles are stale after open", pool_show(done.pool, LENT, root).refusal == POOL_BAD_HANDLE);
+    claim("unsettled changes are forgotten", frames[POOL_PAYLOAD_START] == 0 && store[POOL_PAYLOAD_START] == 0);
+    pool = pool_write(pool_root(done.pool, LENT).pool, LENT, root, 0, (const uint8_t *)"kept", 4).pool;
+    done = pool_settle(pool, LENT);
+    done = pool_open(LENT);
+    claim("settled ones are not", memcmp(frames + POOL_PAYLOAD_START, "kept", 4) == 0 && done.refusal == 0);
+}
+
+int main(void)
+{
+    null_and_0();
+    refused_answers();
+    handles();
+    no_frame();
+    payloads();
+    open_forgets();
+    return failures != 0;
+}

@@ -1,0 +1,81 @@
+//! The table of rules against the C header and the Rust package: numbers, names, and which call is refused by which.
+use pagepool::Refusal;
+use pool_tests::calls::NAMES;
+use std::collections::BTreeSet;
+use std::fs;
+use words::rules::Table;
+
+const HEADER: &str = include_str!("../../include/pagepool.h");
+
+/// The package's sources, one after the other.
+fn package() -> String {
+    let folder = concat!(env!("CARGO_MANIFEST_DIR"), "/../rust/src");
+    let files = fs::read_dir(folder).expect(folder).map(|entry| entry.expect(folder).path());
+    files.map(|path| fs::read_to_string(&path).expect("a source")).collect()
+}
+
+/// The lines of an enum that give a name its number, as `NAME = NUMBER,`.
+fn named_numbers<'a>(source: &'a str, opening: &str) -> Vec<(&'a str, u8)> {
+    let body = source.split_once(opening).and_then(|(_, after)| after.split_once('}')).expect(opening).0;
+    let lines = body.lines().map(str::trim).filter(|line| !line.starts_with('/'));
+    let pairs = lines.filter_map(|line| line.trim_end_matches(',').split_once(" = "));
+    pairs.map(|(name, number)| (name, number.parse().expect(name))).collect()
+}
+
+/// The numbers after "Refused:" in the comment that ends before a function's declaration.
+fn refused(source: &str, declaration: &str) -> BTreeSet<u8> {
+    let before = source.split_once(declaration).unwrap_or_else(|| panic!("no '{declaration}'")).0;
+    let sentence = before.rsplit_once("Refused:").expect(declaration).1.split('.').next().unwrap_or_default();
+    let words = sentence.split(|sign: char| !sign.is_ascii_digit()).filter(|word| !word.is_empty());
+    words.map(|word| word.parse().expect(declaration)).collect()
+}
+
+/// `POOL_BAD_SLOT` as Rust writes it, `BadSlot`.
+fn in_rust(name: &str) -> String {
+    let words = name.trim_start_matches("POOL_").split('_');
+    words.map(|word| word[..1].to_string() + &word[1..].to_lowercase()).collect()
+}
+
+#[test]
+fn the_tables_calls_are_those_of_the_tests() {
+    assert_eq!(Table::standing().calls, NAMES);
+}
+
+#[test]
+fn the_headers_enum() {
+    let table = Table::standing();
+    let rules: Vec<_> = table.rules.iter().filter_map(|rule| Some((rule.name?, rule.number))).collect();
+    assert_eq!(named_numbers(HEADER, "enum pool_refusal {"), rules);
+}
+
+#[test]
+fn the_packages_refusals() {
+    let table = Table::standing();
+    let refusals = table.rules.iter().filter(|rule| rule.number != 0);
+    let rules: Vec<_> = refusals.filter_map(|rule| Some((in_rust(rule.name?), rule.number))).collect();
+    let named = Refusal::ALL.iter().map(|refusal| (format!("{refusal:?}"), refusal.number()));
+    assert_eq!(named.collect::<Vec<_>>(), rules);
+}
+
+/// The header and the package say each rule in the same words.
+#[test]
+fn the_same_sentences() {
+    for (refusal, rule) in Refusal::ALL.iter().zip(&Table::standing().rules[1..]) {
+        let entry =
+            format!("/* {} */\n    {} = {}", refusal.sentence(), rule.name.unwrap_or("-"), refusal.number());
+        assert!(HEADER.contains(&entry), "no '{entry}'");
+    }
+}
+
+/// What each call is refused by, as the header and the package say beside it.
+#[test]
+fn refused_by_which() {
+    let (table, package) = (Table::standing(), package());
+    for call in &table.calls {
+        let rules: BTreeSet<u8> = table.answers(call).filter(|number| *number != 0).collect();
+        assert_eq!(refused(HEADER, &format!(" pool_{call}(")), rules, "include/pagepool.h, pool_{call}");
+        let declaration = ["(", "<"].map(|sign| format!("\npub fn {call}{sign}"));
+        let declared = declaration.iter().find(|text| package.contains(*text)).expect(call);
+        assert_eq!(refused(&package, declared), rules, "rust/src, {call}");
+    }
+}

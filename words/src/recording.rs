@@ -1,0 +1,40 @@
+//! A recording, in words or as the listing's records.
+use crate::line::{self, FORMS};
+use crate::record::{call_of, records_of, Record, SIZE};
+
+/// What a recording is, for a file that is none.
+pub fn hint() -> String {
+    format!(
+        "a recording is records of {SIZE} bytes with no header, or lines of these forms, # starting a comment:\n    {}",
+        FORMS.join("\n    ")
+    )
+}
+
+/// The records of a recording, which may be in words. The error names every line that is no call.
+pub fn read(bytes: &[u8]) -> Result<Vec<Record>, String> {
+    match std::str::from_utf8(bytes) {
+        Ok(text) if !text.contains(|sign: char| sign.is_control() && !sign.is_whitespace()) => parse(text),
+        _ => Ok(records_of(bytes)),
+    }
+}
+
+/// The records of lines of words. The error names every line that is no call.
+pub fn parse(text: &str) -> Result<Vec<Record>, String> {
+    let (mut records, mut bad) = (Vec::new(), Vec::new());
+    for (index, line) in text.lines().enumerate() {
+        match line::parse(line) {
+            Ok(record) => records.extend(record),
+            Err(why) => bad.push(format!("line {}: {why}", index + 1)),
+        }
+    }
+    match bad[..] {
+        [] => Ok(records),
+        _ => Err(format!("{}\n{}", bad.join("\n"), hint())),
+    }
+}
+
+/// Whether there is no record, or most make no call: then the file may be something else.
+pub fn is_doubtful(records: &[Record]) -> bool {
+    let calls = records.iter().filter(|record| call_of(record).is_some()).count();
+    calls == 0 || 2 * calls < records.len()
+}

@@ -1,0 +1,93 @@
+//! The table of rules, `rules.txt`.
+
+/// One row: a number that calls answer, 0 for accepted.
+#[derive(Clone, Debug, PartialEq, Eq)]
+pub struct Rule {
+    pub number: u8,
+    /// The name in the C header; none for the listing's own.
+    pub name: Option<&'static str>,
+    /// The calls that can answer it.
+    pub calls: Vec<&'static str>,
+    /// Whether the listing can answer it.
+    pub listed: bool,
+    /// Document 01's sentence.
+    pub sentence: &'static str,
+}
+
+#[derive(Clone, Debug, PartialEq, Eq)]
+pub struct Table {
+    /// Every call, in the order of the columns.
+    pub calls: Vec<&'static str>,
+    pub rules: Vec<Rule>,
+}
+
+impl Table {
+    /// The table as it stands in the repository.
+    pub fn standing() -> Table {
+        Table::read(include_str!("../../rules.txt")).unwrap_or_else(|why| panic!("rules.txt: {why}"))
+    }
+
+    /// The table of a text. The error names the line that is none.
+    pub fn read(text: &'static str) -> Result<Table, String> {
+        let mut lines =
+            text.lines().enumerate().filter(|(_, line)| !line.is_empty() && !line.starts_with('#'));
+        let (_, head) = lines.next().ok_or("no line names the columns")?;
+        let calls = match &head.split_whitespace().collect::<Vec<_>>()[..] {
+            ["number", "name", calls @ .., "listing", "sentence"] => calls.to_vec(),
+            _ => return Err(format!("expected number, name, the calls, listing, sentence, found '{head}'")),
+        };
+        let mut table = Table { calls, rules: Vec::new() };
+        for (index, line) in lines {
+            let rule = row(&table.calls, line).map_err(|why| format!("line {}: {why}", index + 1))?;
+            if table.rules.last().is_some_and(|before| before.number >= rule.number) {
+                return Err(format!(
+                    "line {}: rule {} doesn't follow a smaller number",
+                    index + 1,
+                    rule.number
+                ));
+            }
+            table.rules.push(rule);
+        }
+        Ok(table)
+    }
+
+    pub fn rule(&self, number: u8) -> Option<&Rule> {
+        self.rules.iter().find(|rule| rule.number == number)
+    }
+
+    /// The numbers that a call can answer.
+    pub fn answers<'a>(&'a self, call: &'a str) -> impl Iterator<Item = u8> + 'a {
+        self.rules.iter().filter(move |rule| rule.calls.contains(&call)).map(|rule| rule.number)
+    }
+}
+
+fn row(calls: &[&'static str], line: &'static str) -> Result<Rule, String> {
+    let mut rest = line;
+    let mut field = || {
+        let (word, after) = rest.trim_start().split_once(char::is_whitespace).ok_or("a field is missing")?;
+        rest = after;
+        Ok::<_, String>(word)
+    };
+    let number = field()?;
+    let number = number.parse().map_err(|_| format!("expected a number to 255, found '{number}'"))?;
+    let name = Some(field()?).filter(|name| *name != "-");
+    let mut marked = Vec::new();
+    for call in calls {
+        if mark(field()?)? {
+            marked.push(*call);
+        }
+    }
+    let listed = mark(field()?)?;
+    match rest.trim() {
+        "" => Err("no sentence".to_string()),
+        sentence => Ok(Rule { number, name, calls: marked, listed, sentence }),
+    }
+}
+
+fn mark(word: &str) -> Result<bool, String> {
+    match word {
+        "x" => Ok(true),
+        "." => Ok(false),
+        _ => Err(format!("expected x or ., found '{word}'")),
+    }
+}

@@ -1,0 +1,157 @@
+//! The commands as a technician runs them: what they print, and how they end.
+use std::fs::{self, OpenOptions};
+use std::io::Write;
+use std::os::unix::fs::PermissionsExt;
+use std::path::PathBuf;
+use std::process::{Command, Output, Stdio};
+
+const LISTING: &str = concat!(env!("CARGO_MANIFEST_DIR"), "/../listing");
+
+fn run(arguments: &[&str], input: &[u8], output: Stdio) -> Output {
+    let mut words = Command::new(env!("CARGO_BIN_EXE_words"));
+    words.args(arguments).stdin(Stdio::piped()).stdout(output).stderr(Stdio::piped());
+    let mut run = words.spawn().expect("words");
+    // a command that is wrong reads nothing
+    let _ = run.stdin.take().expect("a pipe").write_all(input);
+    run.wait_with_output().expect("words")
+}
+
+fn words(arguments: &[&str], input: &[u8]) -> (i32, String, String) {
+    ended(run(arguments, input, Stdio::piped()))
+}
+
+fn ended(output: Output) -> (i32, String, String) {
+    let text = |bytes: Vec<u8>| String::from_utf8_lossy(&bytes).into_owned();
+    (output.status.code().expect("a status"), text(output.stdout), text(output.stderr))
+}
+
+/// A command that stands in for the listing.
+fn stand_in(name: &str, script: &str) -> String {
+    let path = PathBuf::from(env!("CARGO_TARGET_TMPDIR")).join(name);
+    fs::write(&path, format!("#!/bin/sh\n{script}\n")).expect("a script");
+    fs::set_permissions(&path, fs::Permissions::from_mode(0o755)).expect("a script");
+    path.to_str().expect("a path").to_string()
+}
+
+const CALLS: &str = "\
+# every call, and a record that is none
+root
+link 7 3 of 0 0
+fix 3 of 0 0
+evict 7
+find 7
+find 9
+find 0
+write 190 0102 of 1 7
+write 192 - of 1 7
+link 8 3 of 0 0
+unlink 3 of 0 0
+fix 4 of 0 0
+unfix 1 7
+unfix 2 7
+evict 7
+unlink 3 of 0 0
+settle
+record 0b000000000000000000000000000000
+";
+
+const TOLD: &str = "\
+1  root: page 0 in frame 0
+2  link page 7 at slot 3 of page 0 in frame 0: done
+3  fix slot 3 (page 7) of page 0 in frame 0: page 7 in frame 1
+4  evict page 7: refused by rule 12: Evict's page is the root, pinned, or has a swizzled word.
+5  find page 7: in frame 1
+6  find page 9: absent
+7  find page 0: in frame 0
+8  write 0102 at 190 of page 7 in frame 1: done
+9  write nothing at 192 of page 7 in frame 1: done
+10  link page 8 at slot 3 (page 7) of page 0 in frame 0: refused by rule 8: Link meets a word that isn't 0.
+11  unlink slot 3 (page 7) of page 0 in frame 0: refused by rule 10: Unlink's page is resident.
+12  fix slot 4 of page 0 in frame 0: refused by rule 7: Fix or unlink meets a word of 0.
+13  unfix page 7 in frame 1: done
+14  unfix page 7 in frame 2: refused by rule 3: The handle's frame index isn't below F, that frame doesn't hold its page, or its pins are 0.
+15  evict page 7: done
+16  unlink slot 3 (page 7) of page 0 in frame 0: done
+17  settle: done
+18  record 0b000000000000000000000000000000: refused by rule 17: The listing program's record has a call outside 1 to 9 or a length above 9 (tested there before all others).
+";
+
+#[test]
+fn a_recording_is_told_from_words_and_from_records() {
+    assert_eq!(words(&["replay", LISTING, "-"], CALLS.as_bytes()), (0, TOLD.to_string(), String::new()));
+    let records = run(&["records"], CALLS.as_bytes(), Stdio::piped()).stdout;
+    assert_eq!(records.len(), 18 * 16);
+    assert_eq!(words(&["replay", LISTING, "-"], &records).1, TOLD);
+    let lines = words(&["lines"], &records).1;
+    assert_eq!(words(&["replay", LISTING, "-"], lines.as_bytes()).1, TOLD);
+}
+
+#[test]
+fn a_record_that_sets_bytes_which_it_does_not_use_is_told() {
+    let mut records = [0xff; 16];
+    records[0] = 1;
+    records[6] = 9;
+    assert_eq!(words(&["replay", LISTING, "-"], &records).1, "1  root: page 0 in frame 0\n");
+}
+
+#[test]
+fn every_bad_line_is_named_and_nothing_is_written() {
+    for arguments in [&["records"][..], &["replay", LISTING, "-"]] {
+        let (status, out, why) = words(arguments, b"root\nfix 3\n\nevict 7\nhello world\n");
+        assert_eq!((status, out.as_str()), (2, ""));
+        let named = "line 2: expected fix SLOT of FRAME PAGE\nline 5: expected a call, found 'hello'\n";
+        assert!(why.starts_with(named) && why.contains("a recording is"), "{why}");
+    }
+}
+
+#[test]
+fn a_hint_where_the_input_is_no_recording() {
+    let zeros = [0; 320];
+    for input in [&zeros[..], b"", b"\x7fELF\x02"] {
+        let (status, _, why) = words(&["replay", LISTING, "-"], input);
+        assert_eq!(status, 0);
+        assert!(why.contains("a recording is"), "{why}");
+    }
+    assert_eq!(words(&["replay", LISTING, "no/such/file"], b"").0, 2);
+}
+
+#[test]
+fn lost_output_is_told_by_the_status() {
+    let full = || OpenOptions::new().write(true).open("/dev/full").expect("/dev/full");
+    for arguments in [&["records"][..], &["replay", LISTING, "-"], &["rule", "4"], &["--help"]] {
+        let (status, _, why) = ended(run(arguments, b"root\n", full().into()));
+        assert_eq!(status, 1, "{arguments:?}");
+        assert!(why.contains("output was lost"), "{why}");
+    }
+    assert_eq!(ended(run(&["lines"], &[1; 16], full().into())).0, 1);
+    assert_eq!(ended(run(&["explain"], b"1 0 0 0\n", full().into())).0, 1);
+}
+
+#[test]
+fn a_listing_that_lost_its_output_is_told_by_the_status() {
+    for (name, script) in [
+        ("silent", "cat >/dev/null"),
+        ("shorter", "cat >/dev/null; echo 1 0 0 0"),
+        ("longer", "cat >/dev/null; printf '1 0 0 0\\n8 0 0 0\\n8 0 0 0\\n'"),
+        ("failing", "cat >/dev/null; printf '1 0 0 0\\n8 0 0 0\\n'; exit 1"),
+        ("other", "cat >/dev/null; printf '1 0 0 0\\n7 0 0 0\\n'"),
+        ("cut", "cat >/dev/null; printf '1 0 0 0\\n8 0'"),
+    ] {
+        let (status, out, why) = words(&["replay", &stand_in(name, script), "-"], b"root\nsettle\n");
+        assert_eq!((status, out.as_str()), (1, ""), "{name}: {why}");
+    }
+    let whole = stand_in("whole", "cat >/dev/null; printf '1 0 0 0\\n8 0 0 0\\n'");
+    assert_eq!(words(&["replay", &whole, "-"], b"root\nsettle\n").0, 0);
+}
+
+#[test]
+fn help_is_no_error() {
+    for word in ["--help", "-h", "help"] {
+        let (status, out, why) = words(&[word], b"");
+        assert_eq!((status, why.as_str()), (0, ""));
+        assert!(out.starts_with("usage: words replay"), "{out}");
+    }
+    let (status, out, why) = words(&["nosuch"], b"");
+    assert_eq!((status, out.as_str()), (2, ""));
+    assert!(why.starts_with("usage: words replay"), "{why}");
+}
