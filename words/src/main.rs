@@ -14,6 +14,7 @@ usage: words replay LISTING FILE   each call of a recording in words, its answer
        words lines                 records to lines of words
        words explain               the lines of a listing, with the rule behind each refusal
        words rule N                what rule N is
+       words forms                 what a recording is
 All but replay go from standard input to standard output.";
 
 enum Fault {
@@ -37,6 +38,7 @@ fn main() -> ExitCode {
         ["rule", number] => refusal::meaning(&table, number)
             .map_err(Fault::Bad)
             .and_then(|rule| print(&format!("{number}: {rule}\n"))),
+        ["forms"] => print(&(recording::hint() + "\n")),
         ["--help" | "-h" | "help"] => print(&format!("{USAGE}\n\n{}\n", recording::hint())),
         _ => Err(Fault::Bad(USAGE.to_string())),
     };

@@ -5,7 +5,8 @@ use crate::record::{call_of, records_of, Record, SIZE};
 /// What a recording is, for a file that is none.
 pub fn hint() -> String {
     format!(
-        "a recording is records of {SIZE} bytes with no header, or lines of these forms, # starting a comment:\n    {}",
+        "a recording is records of {SIZE} bytes with no header, or lines of these forms, # starting a comment:\n    {}\n\
+         FRAME and PAGE behind 'of' and 'unfix' are a handle, as root and fix answer it.",
         FORMS.join("\n    ")
     )
 }

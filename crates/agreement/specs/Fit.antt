@@ -16,10 +16,11 @@ use Rattle.machine.specs.Tests.{pick, _and_}
 use Rattle.machine.specs.Machine.{recordAt, pageIn}
 use Rattle.machine.specs.Agreement.{agree}
 use Rattle.machine.specs.Laws.Parents.{climb}
-use Rattle.residents.specs.Table.{Table}
+use Rattle.seen.specs.Seen.{Seen}
+use Rattle.residents.specs.Residents.{Residents}
 use Rattle.residents.specs.Handed.{Handed}
 use Rattle.agreement.specs.Counting.{countIf}
-use Rattle.agreement.specs.Seen.{Passed, Progress}
+use Rattle.agreement.specs.Rows.{Passed, Progress}
 
 -- ---- a record by itself
 
@@ -151,11 +152,11 @@ pub record BelowOf (fs : List ℕ) (N at : ℕ) (ns : List ℕ) : Type 0 where
   pub right : (k : ℕ) → k < slotCount → getD ns k 0 ≡ numberBelow N (nameAt fs (at + wordSize * k))
 
 -- the words from `at` on were noted: in any row that has them, the row goes on
-abbrev pub NotesWords : List ℕ → ℕ → ℕ → List Bool → List Bool → Bool → Type 0
+abbrev pub NotesWords : List ℕ → ℕ → ℕ → Seen → Seen → Bool → Type 0
 NotesWords fs N at seen seen' fresh = (row : ℕ → ℕ) (i : ℕ) → HasWords fs N at row i → Passed N row i seen → Progress N row (i + slotCount) seen' fresh
 
 -- the page and then the words of an occupied frame were noted
-abbrev pub NotesNumbers : List ℕ → ℕ → ℕ → ℕ → List Bool → List Bool → Bool → Type 0
+abbrev pub NotesNumbers : List ℕ → ℕ → ℕ → ℕ → Seen → Seen → Bool → Type 0
 NotesNumbers fs N at page seen seen' fresh =
     (row : ℕ → ℕ) (i : ℕ) → row i ≡ page → HasWords fs N at row (i + 1) → Passed N row i seen → Progress N row (i + perFrame) seen' fresh
 
@@ -177,7 +178,7 @@ pub record SumsWords (fs : List ℕ) (N at sum : ℕ) : Type 0 where
   pub none : sum % overWeight ≡ 0 → NoNumber fs N at
 
 -- what is told of an occupied frame's page and words
-pub record NumbersNoted (fs : List ℕ) (N at page : ℕ) (seen seen' : List Bool) (over : ℕ) (fresh : Bool) : Type 0 where
+pub record NumbersNoted (fs : List ℕ) (N at page : ℕ) (seen seen' : Seen) (over : ℕ) (fresh : Bool) : Type 0 where
   pub few : over ≤ slotCount
   pub counts : fresh ≡ true → over ≡ countIf slotCount (overFrom fs N at)
   pub notes : NotesNumbers fs N at page seen seen' fresh
@@ -189,7 +190,7 @@ pub record HasNumbers (fs : List ℕ) (N f : ℕ) (r : FrameRecord) (row : ℕ �
   pub empty : r .used ≡ false → (j : ℕ) → j < perFrame → row (i + j) ≡ 0
 
 -- what is told of frame f
-pub record FrameNoted (fs : List ℕ) (F N f : ℕ) (r : FrameRecord) (above : Bool) (seen seen' : List Bool) (over : ℕ) (ok : Bool) : Type 0 where
+pub record FrameNoted (fs : List ℕ) (F N f : ℕ) (r : FrameRecord) (above : Bool) (seen seen' : Seen) (over : ℕ) (ok : Bool) : Type 0 where
   pub few : over ≤ slotCount
   pub fits : ok ≡ true → Fits fs F N f r above
   pub counts : ok ≡ true → r .used ≡ true → over ≡ countIf slotCount (overFrom fs N (pageSize * f))
@@ -213,26 +214,26 @@ AllLead up F = (f : ℕ) → f < F → (n : ℕ) × (climb up n f ≡ 0)
 -- ---- what is settled on the way
 
 -- before frame f
-pub record Before (rs : List FrameRecord) (fs : List ℕ) (F N f : ℕ) (seen : List Bool) (t table : List ℕ) (occupied over : ℕ) : Type 0 where
+pub record Before (rs : List FrameRecord) (fs : List ℕ) (F N f : ℕ) (seen : Seen) (t residents : List ℕ) (occupied over : ℕ) : Type 0 where
   pub most : f ≤ F
   pub fits : (g : ℕ) → g < f → Fits fs F N g (recordAt rs g) (aboveUsed rs (recordAt rs g))
   pub passed : Passed N (numbers rs fs N) (perFrame * f) seen
   pub room : F ≤ length t
   pub parents : Entries (parentIn rs) f t
-  pub size : length table ≡ mostFrames
-  pub pages : Entries (pageIn rs) f table
-  pub clear : (g : ℕ) → f ≤ g → entry table g ≡ 0
+  pub size : length residents ≡ mostFrames
+  pub held : Entries (pageIn rs) f residents
+  pub clear : (g : ℕ) → f ≤ g → entry residents g ≡ 0
   pub counted : occupied ≡ countIf f (isUsed rs)
   pub named : over ≡ countIf (slotCount * f) (isOver rs fs N)
 
 -- before the parents are followed
-pub record Settled (rs : List FrameRecord) (fs : List ℕ) (F N : ℕ) (seen : List Bool) (t table : List ℕ) : Type 0 where
+pub record Settled (rs : List FrameRecord) (fs : List ℕ) (F N : ℕ) (seen : Seen) (t residents : List ℕ) : Type 0 where
   pub rest : RestBlank rs F
   pub fit : FramesFit rs fs F N
   pub parents : HasParents rs F t
   pub passed : Passed N (numbers rs fs N) (perFrame * F) seen
-  pub pages : Table rs table
+  pub held : Residents rs residents
 
 -- the answer, and what it tells of the tables
-abbrev pub Outcome : Pool → List ℕ → List ℕ → List Bool → Bool → Type 0
-Outcome p fs pages seen r = (r ≡ agree p fs) × (r ≡ true → Handed p fs pages seen)
+abbrev pub Outcome : Pool → List ℕ → List ℕ → Seen → Bool → Type 0
+Outcome p fs residents seen r = (r ≡ agree p fs) × (r ≡ true → Handed p fs residents seen)

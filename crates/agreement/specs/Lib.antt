@@ -1,7 +1,7 @@
 pub mod Sizes
 pub mod Deciding
 pub mod Counting
-pub mod Seen
+pub mod Rows
 pub mod Fit
 pub mod FitLaws
 pub mod PassLaws

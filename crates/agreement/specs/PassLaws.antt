@@ -13,33 +13,34 @@ use Rattle.page.specs.Figures.{slotCount, mostFrames, recordCount, mostPages}
 use Rattle.machine.specs.declared.FrameRecord.{FrameRecord}
 use Rattle.machine.specs.Laws.TestLaws.{case, on, off}
 use Rattle.machine.specs.Machine.{recordAt, pageIn}
-use Rattle.residents.specs.Table.{Table}
+use Rattle.seen.specs.Seen.{Seen}
+use Rattle.residents.specs.Residents.{Residents}
 use Rattle.residents.specs.Handed.{Clear}
 use Rattle.agreement.specs.Counting.{countIf, count-zero, count-more, count-le}
-use Rattle.agreement.specs.Seen.{Progress, clear-at, pass-none, not-twice}
+use Rattle.agreement.specs.Rows.{Progress, clear-at, pass-none, not-twice}
 use Rattle.agreement.specs.Fit.{Blank, Gathers, Fits, perFrame, numbers, isOver, isUsed, aboveUsed, RestBlank, FramesFit, FrameNoted, parentIn, Before, Settled}
 use Rattle.agreement.specs.FitLaws.{entries-more, has-numbers, over-used, over-empty}
 
 module _ (rs : List FrameRecord) (fs : List ℕ) (F N : ℕ) where
-  pub before-first : (t table : List ℕ) (seen : List Bool) → N ≤ mostPages → F ≤ length t → Clear table seen → Before rs fs F N 0 seen t table 0 0
-  before-first t table seen l m C = record {
+  pub before-first : (t residents : List ℕ) (seen : Seen) → N ≤ mostPages → F ≤ length t → Clear residents seen → Before rs fs F N 0 seen t residents 0 0
+  before-first t residents seen l m C = record {
     most = omega arith;
     fits = λ g a. absurd (omega arith);
     passed = rw (C .noneSeen) (pass-none N (numbers rs fs N) l);
     room = m;
     parents = λ g a. absurd (omega arith);
     size = ap length (C .noPage) ∙ length-replicate {A = ℕ} mostFrames 0;
-    pages = λ g a. absurd (omega arith);
+    held = λ g a. absurd (omega arith);
     clear = λ g a. rw (C .noPage) (clear-at mostFrames 0 g);
     counted = sym (count-zero (isUsed rs));
     named = sym (count-zero (isOver rs fs N));
   }
 
-  pub before-few : (f : ℕ) (seen : List Bool) (t table : List ℕ) (occupied over : ℕ) → Before rs fs F N f seen t table occupied over → (occupied ≤ f) × (over ≤ slotCount * f)
-  before-few f seen t table occupied over B = (rw (B .counted) (count-le f (isUsed rs)), rw (B .named) (count-le (slotCount * f) (isOver rs fs N)))
+  pub before-few : (f : ℕ) (seen : Seen) (t residents : List ℕ) (occupied over : ℕ) → Before rs fs F N f seen t residents occupied over → (occupied ≤ f) × (over ≤ slotCount * f)
+  before-few f seen t residents occupied over B = (rw (B .counted) (count-le f (isUsed rs)), rw (B .named) (count-le (slotCount * f) (isOver rs fs N)))
 
-  module _ (f : ℕ) (seen : List Bool) (t table : List ℕ) (occupied over : ℕ) (B : Before rs fs F N f seen t table occupied over) (l : f < F)
-      (seen' : List Bool) (more : ℕ) (ok : Bool) (D : FrameNoted fs F N f (recordAt rs f) (aboveUsed rs (recordAt rs f)) seen seen' more ok) where
+  module _ (f : ℕ) (seen : Seen) (t residents : List ℕ) (occupied over : ℕ) (B : Before rs fs F N f seen t residents occupied over) (l : f < F)
+      (seen' : Seen) (more : ℕ) (ok : Bool) (D : FrameNoted fs F N f (recordAt rs f) (aboveUsed rs (recordAt rs f)) seen seen' more ok) where
     -- the frame's numbers in the row
     progress : Fits fs F N f (recordAt rs f) (aboveUsed rs (recordAt rs f)) → Progress N (numbers rs fs N) (perFrame * (f + 1)) seen' ok
     progress fit =
@@ -61,16 +62,16 @@ module _ (rs : List FrameRecord) (fs : List ℕ) (F N : ℕ) where
         sum a b = rw (a, b)
 
     -- the frame fits
-    pub before-more : f < mostFrames → ok ≡ true → Before rs fs F N (f + 1) seen' (set t f (parentIn rs f)) (set table f (pageIn rs f)) (occupied + boolByte (recordAt rs f .used)) (over + more)
+    pub before-more : f < mostFrames → ok ≡ true → Before rs fs F N (f + 1) seen' (set t f (parentIn rs f)) (set residents f (pageIn rs f)) (occupied + boolByte (recordAt rs f .used)) (over + more)
     before-more m z = record {
       most = omega arith;
       fits = λ g m. elim (ℕ-discrete g f) [ yes e ↦ rw e (D .fits z) | no e ↦ B .fits g (omega arith) ];
       passed = rw z at (progress (D .fits z));
       room = rw (length-set t f (parentIn rs f)) (B .room);
       parents = entries-more (parentIn rs) t f _ (omega (arith, B .room)) refl (B .parents);
-      size = length-set table f (pageIn rs f) ∙ B .size;
-      pages = entries-more (pageIn rs) table f _ (omega (arith, B .size)) refl (B .pages);
-      clear = λ g a. getD-set-other table f g (pageIn rs f) 0 (λ e. omega arith) ∙ B .clear g (omega arith);
+      size = length-set residents f (pageIn rs f) ∙ B .size;
+      held = entries-more (pageIn rs) residents f _ (omega (arith, B .size)) refl (B .held);
+      clear = λ g a. getD-set-other residents f g (pageIn rs f) 0 (λ e. omega arith) ∙ B .clear g (omega arith);
       counted = ap (λ (n : ℕ). n + boolByte (recordAt rs f .used)) (B .counted) ∙ sym (count-more f (isUsed rs));
       named = over-more z;
     }
@@ -97,24 +98,24 @@ module _ (rs : List FrameRecord) (F : ℕ) where
 
 -- ---- after the last frame
 
-module _ (rs : List FrameRecord) (fs : List ℕ) (F N : ℕ) (f : ℕ) (seen : List Bool) (t table : List ℕ) (occupied over : ℕ) (B : Before rs fs F N f seen t table occupied over) (l : F ≤ f) where
-  at-end : Before rs fs F N F seen t table occupied over
+module _ (rs : List FrameRecord) (fs : List ℕ) (F N : ℕ) (f : ℕ) (seen : Seen) (t residents : List ℕ) (occupied over : ℕ) (B : Before rs fs F N f seen t residents occupied over) (l : F ≤ f) where
+  at-end : Before rs fs F N F seen t residents occupied over
   at-end = let e : f ≡ F = omega (arith, B .most) in rw e at B
 
   pub frames-even : FramesFit rs fs F N → over + 1 ≡ occupied
   frames-even fit = ap (λ (n : ℕ). n + 1) (at-end .named) ∙ fit .even ∙ sym (at-end .counted)
 
   -- the table of pages goes on with those of the all-zero records
-  page-table : RestBlank rs F → Table rs table
+  page-table : RestBlank rs F → Residents rs residents
   page-table rest = record {
     size = B .size;
     right = λ g m. elim (decLt g F) [
-      | yes k ↦ at-end .pages g k
+      | yes k ↦ at-end .held g k
       | no k ↦ at-end .clear g (omega arith) ∙ sym (rest g (omega arith) m .page)
     ];
   }
 
-  pub settle : over + 1 ≡ occupied → (g : ℕ) (P : Type 0) → recordCount ≤ g → RestTo rs F g P → P → Settled rs fs F N seen t table
+  pub settle : over + 1 ≡ occupied → (g : ℕ) (P : Type 0) → recordCount ≤ g → RestTo rs F g P → P → Settled rs fs F N seen t residents
   settle e g P m R q =
       let b : RestBlank rs F = λ h a k. R .blanks q h a (omega arith) in
       record {
@@ -122,5 +123,5 @@ module _ (rs : List FrameRecord) (fs : List ℕ) (F N : ℕ) (f : ℕ) (seen : L
         fit = record { fits = at-end .fits; once = at-end .passed .once; even = ap (λ (n : ℕ). n + 1) (sym (at-end .named)) ∙ e ∙ at-end .counted };
         parents = record { size = B .room; parent = at-end .parents };
         passed = at-end .passed;
-        pages = page-table b;
+        held = page-table b;
       }

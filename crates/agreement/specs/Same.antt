@@ -19,6 +19,7 @@ use Rattle.machine.specs.Machine.{recordAt, pageIn, occupied}
 use Rattle.machine.specs.Agreement.{parentOf, parentSlotOf, agree}
 use Rattle.machine.specs.Laws.AgreementFacts.{occupied-lt, occupied-used, make-occupied, InRange, Points, Agreed, facts, tests}
 use Rattle.machine.specs.Laws.Parents.{climb-zero, climb-suc, climb-reach, reach-climb}
+use Rattle.seen.specs.Seen.{Seen}
 use Rattle.agreement.specs.Sizes.{Sizes}
 use Rattle.agreement.specs.Deciding.{Decides, holds, fails}
 use Rattle.agreement.specs.Counting.{countIf, without, without-of, without-other, count-without, Into, into-le, into-all}
@@ -340,20 +341,20 @@ module _ (p : Pool) (fs : List ℕ) (S : Sizes (p .count) (p .pages) fs) where
 
   module _ (count : ℕ) (e : count ≡ p .count) where
     -- where a test fails, whatever the tables are
-    module _ (table : List ℕ) (seen : List Bool) where
-      refused : (Agreed p fs → ⊥) → Outcome p fs table seen false
+    module _ (residents : List ℕ) (seen : Seen) where
+      refused : (Agreed p fs → ⊥) → Outcome p fs residents seen false
       refused h = (disagree h, λ z. absurd (clash (sym z)))
 
-      pub end-hand : (h : ℕ) → h ≡ p .hand .0 → count ≤ h → Outcome p fs table seen false
+      pub end-hand : (h : ℕ) → h ≡ p .hand .0 → count ≤ h → Outcome p fs residents seen false
       end-hand h q l = refused (λ A. omega (arith, A .hand))
 
-      pub end-rest : (RestBlank (p .records) count → ⊥) → Outcome p fs table seen false
+      pub end-rest : (RestBlank (p .records) count → ⊥) → Outcome p fs residents seen false
       end-rest h = refused (λ A. h (rw e (is-rest p fs S A)))
 
-      pub end-frames : (FramesFit (p .records) fs count (p .pages) → ⊥) → Outcome p fs table seen false
+      pub end-frames : (FramesFit (p .records) fs count (p .pages) → ⊥) → Outcome p fs residents seen false
       end-frames h = refused (λ A. h (rw e (is-frames p fs S A)))
 
-    module _ (seen : List Bool) (t table : List ℕ) (Z : Settled (p .records) fs count (p .pages) seen t table) where
+    module _ (seen : Seen) (t residents : List ℕ) (Z : Settled (p .records) fs count (p .pages) seen t residents) where
       below : (f : ℕ) → f < count → parentIn (p .records) f < count
       below f l = rw e (parent-below p fs S (rw e at (Z .rest)) (rw e at (Z .fit)) f (omega arith))
 

@@ -3,6 +3,7 @@ use crate::words::Noted;
 use machine::FrameRecord;
 use page::FrameIndex;
 use page::PageNumber;
+use seen::Seen;
 ghost use Prim.Native.Nat.{_+_, _*_, _<_, _≤_};
 ghost use lib.ListN.{length};
 ghost use Rattle.page.specs.Figures.{pageSize, slotCount, mostFrames};
@@ -55,7 +56,7 @@ pub fn note(
     above: bool,
     count: usize,
     pages: u32,
-    seen: &mut [bool; PageNumber::MOST],
+    seen: &mut Seen,
 ) -> Noted
     requires { ⌜ Sizes count pages (now frames) × (frame .0 < count) ⌝ }
     ensures { λ r. ⌜ FrameNoted (now (frames .entry)) count pages (frame .0) rec above (now (seen .entry)) (now (seen .exit)) (r .over) (r .fits) ⌝ }

@@ -6,7 +6,8 @@ mod words;
 
 use machine::Pool;
 use page::FrameIndex;
-use page::PageNumber;
+use residents::Residents;
+use seen::Seen;
 ghost use mathlib.Core.Path.{_≡_};
 ghost use mathlib.Core.Bool.{true};
 ghost use Rattle.machine.specs.Agreement.{agree};
@@ -14,14 +15,9 @@ ghost use Rattle.residents.specs.Handed.{Clear, Handed};
 ghost use Rattle.agreement.specs.Sizes.{Sizes};
 
 // Do records and frames agree, once their sizes were found right. Where they do, the tables tell the page in each frame, and which pages resident pages name.
-pub fn agrees(
-    pool: Pool,
-    frames: &[u8],
-    pages: &mut [u16; FrameIndex::MOST],
-    seen: &mut [bool; PageNumber::MOST],
-) -> bool
-    requires { ⌜ Sizes (pool .count) (pool .pages) (now frames) × Clear (now pages) (now seen) ⌝ }
-    ensures { λ r. ⌜ (r ≡ agree pool (now (frames .entry))) × (r ≡ true → Handed pool (now (frames .entry)) (now (pages .exit)) (now (seen .exit))) ⌝ }
+pub fn agrees(pool: Pool, frames: &[u8], residents: &mut Residents, seen: &mut Seen) -> bool
+    requires { ⌜ Sizes (pool .count) (pool .pages) (now frames) × Clear (now residents) (now seen) ⌝ }
+    ensures { λ r. ⌜ (r ≡ agree pool (now (frames .entry))) × (r ≡ true → Handed pool (now (frames .entry)) (now (residents .exit)) (now (seen .exit))) ⌝ }
 {
     let records = pool.records;
     let count = page::wide::from_u16(pool.count);
@@ -45,7 +41,7 @@ pub fn agrees(
         over += noted.over;
         occupied += rec.used as u32;
         parents[f] = rec.parent.0;
-        pages[f] = rec.page.0;
+        residents[f] = rec.page.0;
         f += 1;
     }
     // The fields of the records from F on, or-ed together. They are read where they lie: from a copy of the record the compiler would not read neighbours at once.

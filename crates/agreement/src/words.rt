@@ -1,5 +1,6 @@
 // The page and the 16 words of a frame, and the table of the page numbers seen so far.
 use page::PageNumber;
+use seen::Seen;
 ghost use mathlib.Core.Path.{_≡_};
 ghost use Prim.Native.Nat.{_+_, _≤_};
 ghost use lib.ListN.{length};
@@ -67,7 +68,7 @@ fn numbers_below(frames: &[u8], start: usize, pages: u32) -> [u32; PageNumber::S
 }
 
 // Notes the numbers below N among the 16 words from `start` on: were they all new. The mark of number 0, which stands for any other word, is taken back.
-fn mark_words(frames: &[u8], start: usize, pages: u32, seen: &mut [bool; PageNumber::MOST]) -> bool
+fn mark_words(frames: &[u8], start: usize, pages: u32, seen: &mut Seen) -> bool
     requires { ⌜ (1 ≤ pages) × (pages ≤ mostPages) × (start + payloadStart ≤ length (now frames)) ⌝ }
     ensures { λ r. ⌜ NotesWords (now (frames .entry)) pages start (now (seen .entry)) (now (seen .exit)) r ⌝ }
 {
@@ -92,7 +93,7 @@ pub fn note_numbers(
     start: usize,
     page: PageNumber,
     pages: u32,
-    seen: &mut [bool; PageNumber::MOST],
+    seen: &mut Seen,
 ) -> Noted
     requires { ⌜ (page .0 + 1 ≤ pages) × (pages ≤ mostPages) × (start + payloadStart ≤ length (now frames)) ⌝ }
     ensures { λ r. ⌜ NumbersNoted (now (frames .entry)) pages start (page .0) (now (seen .entry)) (now (seen .exit)) (r .over) (r .fits) ⌝ }

@@ -33,8 +33,8 @@ pub fn write(
     ensures { λ r. ⌜ out (doneAnswer (r .refusal)) (state (r .pool) (now (frames .exit)) (now (store .entry))) ≡ writeCall (state pool (now (frames .entry)) (now (store .entry))) handle offset (now (bytes .entry)) ⌝ }
 {
     let n = bytes.len();
-    let mut pages: [u16; FrameIndex::MOST] = [0; FrameIndex::MOST];
-    let mut seen = [false; PageNumber::MOST];
+    let mut residents = residents::NONE;
+    let mut seen = seen::NONE;
     let mut next = pool;
     let at = guard::record_place(handle);
     let held = next.records[at];
@@ -46,7 +46,7 @@ pub fn write(
         handle,
         offset,
         n,
-        &mut pages,
+        &mut residents,
         &mut seen,
     );
     if refusal != 0 {
@@ -75,8 +75,8 @@ pub fn link(
 ) -> Done
     ensures { λ r. ⌜ out (doneAnswer (r .refusal)) (state (r .pool) (now (frames .exit)) (now (store .entry))) ≡ linkCall (state pool (now (frames .entry)) (now (store .entry))) handle slot page ⌝ }
 {
-    let mut pages: [u16; FrameIndex::MOST] = [0; FrameIndex::MOST];
-    let mut seen = [false; PageNumber::MOST];
+    let mut residents = residents::NONE;
+    let mut seen = seen::NONE;
     let mut next = pool;
     let at = guard::record_place(handle);
     let held = next.records[at];
@@ -88,7 +88,7 @@ pub fn link(
         handle,
         slot,
         page,
-        &mut pages,
+        &mut residents,
         &mut seen,
     );
     if refusal != 0 {
@@ -106,8 +106,8 @@ pub fn link(
 pub fn unlink(pool: Pool, frames: &mut [u8], store: &[u8], handle: Handle, slot: usize) -> Done
     ensures { λ r. ⌜ out (doneAnswer (r .refusal)) (state (r .pool) (now (frames .exit)) (now (store .entry))) ≡ unlinkCall (state pool (now (frames .entry)) (now (store .entry))) handle slot ⌝ }
 {
-    let mut pages: [u16; FrameIndex::MOST] = [0; FrameIndex::MOST];
-    let mut seen = [false; PageNumber::MOST];
+    let mut residents = residents::NONE;
+    let mut seen = seen::NONE;
     let mut next = pool;
     let at = guard::record_place(handle);
     let held = next.records[at];
@@ -118,7 +118,7 @@ pub fn unlink(pool: Pool, frames: &mut [u8], store: &[u8], handle: Handle, slot:
         store,
         handle,
         slot,
-        &mut pages,
+        &mut residents,
         &mut seen,
     );
     if refusal != 0 {

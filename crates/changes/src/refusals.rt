@@ -2,8 +2,9 @@
 use machine::FrameRecord;
 use machine::Handle;
 use machine::Pool;
-use page::FrameIndex;
 use page::PageNumber;
+use residents::Residents;
+use seen::Seen;
 ghost use mathlib.Core.Path.{_≡_};
 ghost use Rattle.machine.specs.Tests.{firstBroken};
 ghost use Rattle.machine.specs.Machine.{state, recordAt};
@@ -31,13 +32,13 @@ pub fn write_refusal(
     handle: Handle,
     offset: usize,
     n: usize,
-    pages: &mut [u16; FrameIndex::MOST],
-    seen: &mut [bool; PageNumber::MOST],
+    residents: &mut Residents,
+    seen: &mut Seen,
 ) -> u8
-    requires { ⌜ (held ≡ recordAt (pool .records) (recordPlace handle)) × Clear (now pages) (now seen) ⌝ }
+    requires { ⌜ (held ≡ recordAt (pool .records) (recordPlace handle)) × Clear (now residents) (now seen) ⌝ }
     ensures { λ r. ⌜ r ≡ firstBroken (writeRules (state pool (now (frames .entry)) (now (store .entry))) handle offset n) ⌝ }
 {
-    let refusal = guard::handle_refusal(pool, held, frames, store, handle, pages, seen);
+    let refusal = guard::handle_refusal(pool, held, frames, store, handle, residents, seen);
     if refusal != 0 {
         return refusal;
     }
@@ -56,13 +57,13 @@ pub fn link_refusal(
     handle: Handle,
     slot: usize,
     page: PageNumber,
-    pages: &mut [u16; FrameIndex::MOST],
-    seen: &mut [bool; PageNumber::MOST],
+    residents: &mut Residents,
+    seen: &mut Seen,
 ) -> u8
-    requires { ⌜ (held ≡ recordAt (pool .records) (recordPlace handle)) × Clear (now pages) (now seen) ⌝ }
+    requires { ⌜ (held ≡ recordAt (pool .records) (recordPlace handle)) × Clear (now residents) (now seen) ⌝ }
     ensures { λ r. ⌜ r ≡ firstBroken (linkRules (state pool (now (frames .entry)) (now (store .entry))) handle slot page) ⌝ }
 {
-    let refusal = guard::slot_refusal(pool, held, frames, store, handle, slot, pages, seen);
+    let refusal = guard::slot_refusal(pool, held, frames, store, handle, slot, residents, seen);
     if refusal != 0 {
         return refusal;
     }
@@ -76,7 +77,7 @@ pub fn link_refusal(
     if page::slot::slot_name(frames, handle.frame, slot) != 0 {
         return 8;
     }
-    if naming::is_named(pages, seen, store, n, page) {
+    if naming::is_named(residents, seen, store, n, page) {
         return 9;
     }
     0
@@ -90,13 +91,13 @@ pub fn unlink_refusal(
     store: &[u8],
     handle: Handle,
     slot: usize,
-    pages: &mut [u16; FrameIndex::MOST],
-    seen: &mut [bool; PageNumber::MOST],
+    residents: &mut Residents,
+    seen: &mut Seen,
 ) -> u8
-    requires { ⌜ (held ≡ recordAt (pool .records) (recordPlace handle)) × Clear (now pages) (now seen) ⌝ }
+    requires { ⌜ (held ≡ recordAt (pool .records) (recordPlace handle)) × Clear (now residents) (now seen) ⌝ }
     ensures { λ r. ⌜ r ≡ firstBroken (unlinkRules (state pool (now (frames .entry)) (now (store .entry))) handle slot) ⌝ }
 {
-    let refusal = guard::slot_refusal(pool, held, frames, store, handle, slot, pages, seen);
+    let refusal = guard::slot_refusal(pool, held, frames, store, handle, slot, residents, seen);
     if refusal != 0 {
         return refusal;
     }

@@ -16,12 +16,13 @@ use Rattle.machine.specs.Machine.{State, found}
 use Rattle.machine.specs.Answers.{payload, inFrames, inStore, frame, nowhere}
 use Rattle.machine.specs.Calls.{pageRules, payloadPlace, peekCall, foundAnswer, findCall}
 use Rattle.machine.specs.Laws.RuleLaws.{answer-yes}
+use Rattle.seen.specs.Seen.{Seen}
 use Rattle.residents.specs.Handed.{Handed}
 use Rattle.scan.specs.ByTable.{foundBy, counted, at-found}
 
 -- n is the refusal by rules 1, 2 and 6, F the count that the frames' length gives, and f the frame that the code found
-module _ (s : State) (q : PageNumber) {pages : List ℕ} {seen : List Bool} {n F : ℕ} (e : (n ≡ firstBroken (pageRules s q)) × (n ≡ 0 → Handed (s .pool) (s .frames) pages seen)) (z : n ≡ 0) (c : F ≡ length (s .frames) / pageSize) where
-  module _ {f : ℕ} (i : f ≡ foundBy pages (q .0) F 0) where
+module _ (s : State) (q : PageNumber) {residents : List ℕ} {seen : Seen} {n F : ℕ} (e : (n ≡ firstBroken (pageRules s q)) × (n ≡ 0 → Handed (s .pool) (s .frames) residents seen)) (z : n ≡ 0) (c : F ≡ length (s .frames) / pageSize) where
+  module _ {f : ℕ} (i : f ≡ foundBy residents (q .0) F 0) where
     here : f ≡ found (s .pool) (q .0)
     here = at-found s q e z c i
 

@@ -19,7 +19,8 @@ use Rattle.machine.specs.Answers.{number}
 use Rattle.machine.specs.Rules.{wordOf}
 use Rattle.machine.specs.Calls.{wordRules, wordCall}
 use Rattle.machine.specs.Laws.RuleLaws.{SlotKept, slot-kept, held-occupied, answer-yes}
-use Rattle.residents.specs.Table.{pageBy}
+use Rattle.seen.specs.Seen.{Seen}
+use Rattle.residents.specs.Residents.{pageBy}
 use Rattle.residents.specs.Handed.{Handed}
 
 -- a page number below the largest N, or swizzled to one of the largest F frames
@@ -28,7 +29,7 @@ pub record Resolvable (w : ℕ) : Type 0 where
   pub frame : Swizzled w → frameIn w < mostFrames
 
 -- n is the refusal by rules 1 to 4, and w the name that the code read
-module _ (s : State) (h : Handle) (k : ℕ) {pages : List ℕ} {seen : List Bool} {n : ℕ} (e : (n ≡ firstBroken (wordRules s h k)) × (n ≡ 0 → Handed (s .pool) (s .frames) pages seen)) (z : n ≡ 0) where
+module _ (s : State) (h : Handle) (k : ℕ) {residents : List ℕ} {seen : Seen} {n : ℕ} (e : (n ≡ firstBroken (wordRules s h k)) × (n ≡ 0 → Handed (s .pool) (s .frames) residents seen)) (z : n ≡ 0) where
   kept : SlotKept s h k
   kept = slot-kept s h k (sym (e .0) ∙ z)
 
@@ -50,14 +51,14 @@ module _ (s : State) (h : Handle) (k : ℕ) {pages : List ℕ} {seen : List Bool
         }
 
     -- the table tells the page in the frame that a swizzled word names
-    by-table : plain (pageBy pages) w ≡ plain (pageIn (s .pool .records)) w
+    by-table : plain (pageBy residents) w ≡ plain (pageIn (s .pool .records)) w
     by-table = elim (reading w) [
       | low l ↦ plain-low _ w l ∙ sym (plain-low _ w l)
       | high g y ↦
           let l = resolvable .frame (omega arith) in
-          rw y (plain-high _ g ∙ e .1 z .table .right g (omega arith) ∙ sym (plain-high _ g))
+          rw y (plain-high _ g ∙ e .1 z .held .right g (omega arith) ∙ sym (plain-high _ g))
     ]
 
-    pub word-names : {p : PageNumber} → p ≡ pageNumber (plain (pageBy pages) w) → number (p .0) ≡ wordCall s h k .answer
+    pub word-names : {p : PageNumber} → p ≡ pageNumber (plain (pageBy residents) w) → number (p .0) ≡ wordCall s h k .answer
     unfolding wordCall
     word-names y = answer-yes s _ s (e .0) z (ap (λ (p : PageNumber). number (p .0)) y ∙ ap number (by-table ∙ ap (plain (pageIn (s .pool .records))) i))

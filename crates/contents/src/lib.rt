@@ -8,23 +8,32 @@ use machine::Pool;
 use machine::WordAnswer;
 use page::FrameIndex;
 use page::PageNumber;
+use residents::Residents;
 ghost use mathlib.Core.Path.{_≡_};
 ghost use Rattle.machine.specs.Machine.{state, pageNumber};
 ghost use Rattle.machine.specs.Moves.{plain};
 ghost use Rattle.machine.specs.Answers.{lent, handedBack, placeAnswer, wordAnswer, findAnswer};
 ghost use Rattle.machine.specs.Calls.{showCall, peekCall, wordCall, findCall};
-ghost use Rattle.residents.specs.Table.{pageBy};
+ghost use Rattle.residents.specs.Residents.{pageBy};
 ghost use Rattle.contents.specs.Words.{Resolvable};
 
 // Where the payload of the handle's page lies.
 pub fn show_place(pool: Pool, frames: &[u8], store: &[u8], handle: Handle) -> Place
     ensures { λ r. ⌜ placeAnswer r ≡ showCall (state pool (now (frames .entry)) (now (store .entry))) handle .answer ⌝ }
 {
-    let mut pages: [u16; FrameIndex::MOST] = [0; FrameIndex::MOST];
-    let mut seen = [false; PageNumber::MOST];
+    let mut residents = residents::NONE;
+    let mut seen = seen::NONE;
     let at = guard::record_place(handle);
     let held = pool.records[at];
-    let refusal = guard::handle_refusal(pool, held, frames, store, handle, &mut pages, &mut seen);
+    let refusal = guard::handle_refusal(
+        pool,
+        held,
+        frames,
+        store,
+        handle,
+        &mut residents,
+        &mut seen,
+    );
     if refusal != 0 {
         return part::refused(refusal);
     }
@@ -35,14 +44,14 @@ pub fn show_place(pool: Pool, frames: &[u8], store: &[u8], handle: Handle) -> Pl
 pub fn peek_place(pool: Pool, frames: &[u8], store: &[u8], page: PageNumber) -> Place
     ensures { λ r. ⌜ placeAnswer r ≡ peekCall (state pool (now (frames .entry)) (now (store .entry))) page .answer ⌝ }
 {
-    let mut pages: [u16; FrameIndex::MOST] = [0; FrameIndex::MOST];
-    let mut seen = [false; PageNumber::MOST];
-    let refusal = guard::page_refusal(pool, frames, store, page, &mut pages, &mut seen);
+    let mut residents = residents::NONE;
+    let mut seen = seen::NONE;
+    let refusal = guard::page_refusal(pool, frames, store, page, &mut residents, &mut seen);
     if refusal != 0 {
         return part::refused(refusal);
     }
     let count = frames.len() / PageNumber::SIZE;
-    let frame = scan::find_frame(&pages, count, page);
+    let frame = scan::find_frame(&residents, count, page);
     if frame < count {
         return part::in_frame(FrameIndex(frame as u8));
     }
@@ -78,24 +87,24 @@ pub fn peek<'a>(
 }
 
 // The page number that the name in a resident page stands for, swizzled or not, by the table of the page in each frame.
-fn page_named(pages: &[u16; FrameIndex::MOST], name: u32) -> PageNumber
+fn page_named(residents: &Residents, name: u32) -> PageNumber
     requires { ⌜ Resolvable name ⌝ }
-    ensures { λ r. ⌜ r ≡ pageNumber (plain (pageBy (now (pages .entry))) name) ⌝ }
+    ensures { λ r. ⌜ r ≡ pageNumber (plain (pageBy (now (residents .entry))) name) ⌝ }
 {
     if page::word::is_number(name) {
         let number = name as u16;
         return PageNumber(number);
     }
     let g = page::word::frame_in(name);
-    PageNumber(pages[g])
+    PageNumber(residents[g])
 }
 
 // The page number in a slot of the handle's page, 0 for none.
 pub fn word(pool: Pool, frames: &[u8], store: &[u8], handle: Handle, slot: usize) -> WordAnswer
     ensures { λ r. ⌜ wordAnswer r ≡ wordCall (state pool (now (frames .entry)) (now (store .entry))) handle slot .answer ⌝ }
 {
-    let mut pages: [u16; FrameIndex::MOST] = [0; FrameIndex::MOST];
-    let mut seen = [false; PageNumber::MOST];
+    let mut residents = residents::NONE;
+    let mut seen = seen::NONE;
     let at = guard::record_place(handle);
     let held = pool.records[at];
     let refusal = guard::slot_refusal(
@@ -105,28 +114,28 @@ pub fn word(pool: Pool, frames: &[u8], store: &[u8], handle: Handle, slot: usize
         store,
         handle,
         slot,
-        &mut pages,
+        &mut residents,
         &mut seen,
     );
     if refusal != 0 {
         return WordAnswer::Refused(refusal);
     }
     let name = page::slot::slot_name(frames, handle.frame, slot);
-    WordAnswer::Names(page_named(&pages, name))
+    WordAnswer::Names(page_named(&residents, name))
 }
 
 // The frame that holds a page.
 pub fn find(pool: Pool, frames: &[u8], store: &[u8], page: PageNumber) -> FindAnswer
     ensures { λ r. ⌜ findAnswer r ≡ findCall (state pool (now (frames .entry)) (now (store .entry))) page .answer ⌝ }
 {
-    let mut pages: [u16; FrameIndex::MOST] = [0; FrameIndex::MOST];
-    let mut seen = [false; PageNumber::MOST];
-    let refusal = guard::page_refusal(pool, frames, store, page, &mut pages, &mut seen);
+    let mut residents = residents::NONE;
+    let mut seen = seen::NONE;
+    let refusal = guard::page_refusal(pool, frames, store, page, &mut residents, &mut seen);
     if refusal != 0 {
         return FindAnswer::Refused(refusal);
     }
     let count = frames.len() / PageNumber::SIZE;
-    let f = scan::find_frame(&pages, count, page);
+    let f = scan::find_frame(&residents, count, page);
     if f < count {
         return FindAnswer::At(FrameIndex(f as u8));
     }

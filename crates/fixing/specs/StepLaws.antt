@@ -28,6 +28,7 @@ use Rattle.machine.specs.Laws.Ready.{Kept, Ready, Sized, ready}
 use Rattle.machine.specs.Laws.RuleLaws.{SlotKept, held-occupied, decide-no, decide-yes, pool-stops, pool-passes, slot-stops, slot-passes}
 use Rattle.machine.specs.Laws.SweepLaws.{open-childless, sweep-sound, swept-ready}
 use Rattle.machine.specs.Laws.MoveLaws.{evicted-sized}
+use Rattle.seen.specs.Seen.{Seen}
 use Rattle.residents.specs.Handed.{Handed}
 use Rattle.naming.specs.ByTable.{loadableBy, loadable-by}
 use Rattle.scan.specs.declared.Walk.{Walk}
@@ -153,13 +154,13 @@ module _ (s : State) {r : Walk} {m : Pool} (T : Took s r m) where
         rw (← T .swept) (decide-yes s _ (one-kept 15 (T .taken)) refl (l ∙ rw left-is))
 
 -- what the tables tell, N by the store's length
-module _ (s : State) (K : Kept s) {pages : List ℕ} {seen : List Bool} (H : Handed (s .pool) (s .frames) pages seen) where
+module _ (s : State) (K : Kept s) {residents : List ℕ} {seen : Seen} (H : Handed (s .pool) (s .frames) residents seen) where
   pub loadable-told : (q : ℕ) {b : Bool} → b ≡ loadableBy seen (s .store) (length (s .store) / pageSize) q → b ≡ loadable s q
   loadable-told q e =
       let N : length (s .store) / pageSize ≡ s .pool .pages = omega (arith, K .sized .store) in
       e ∙ ap (λ (n : ℕ). loadableBy seen (s .store) n q) N ∙ loadable-by s K H q
 
-  pub empty-told : {e : ℕ} → e ≡ emptyBy pages (s .pool .count) (s .pool .count) (s .pool .hand .0) → e ≡ firstEmpty (s .pool)
+  pub empty-told : {e : ℕ} → e ≡ emptyBy residents (s .pool .count) (s .pool .count) (s .pool .hand .0) → e ≡ firstEmpty (s .pool)
   empty-told h = h ∙ empty-by s K H
 
 module _ (s : State) (f k q : ℕ) where

@@ -36,8 +36,8 @@ pub fn root(pool: Pool, frames: &[u8], store: &[u8]) -> Fix
 pub fn fix(pool: Pool, frames: &mut [u8], store: &mut [u8], handle: Handle, slot: usize) -> Fix
     ensures { λ r. ⌜ out (fixAnswer (r .answer)) (state (r .pool) (now (frames .exit)) (now (store .exit))) ≡ fixCall (state pool (now (frames .entry)) (now (store .entry))) handle slot ⌝ }
 {
-    let mut pages: [u16; FrameIndex::MOST] = [0; FrameIndex::MOST];
-    let mut seen = [false; PageNumber::MOST];
+    let mut residents = residents::NONE;
+    let mut seen = seen::NONE;
     let mut next = pool;
     let at = guard::record_place(handle);
     let held = next.records[at];
@@ -48,7 +48,7 @@ pub fn fix(pool: Pool, frames: &mut [u8], store: &mut [u8], handle: Handle, slot
         store,
         handle,
         slot,
-        &mut pages,
+        &mut residents,
         &mut seen,
     );
     if refusal != 0 {
@@ -61,7 +61,16 @@ pub fn fix(pool: Pool, frames: &mut [u8], store: &mut [u8], handle: Handle, slot
     }
     if word::is_number(name) {
         let page = PageNumber(name as u16);
-        return load::bring_in(pool, frames, store, parent, slot, page, &pages, &mut seen);
+        return load::bring_in(
+            pool,
+            frames,
+            store,
+            parent,
+            slot,
+            page,
+            &residents,
+            &mut seen,
+        );
     }
     let g = word::frame_in(name);
     let child = next.records[g];

@@ -4,6 +4,8 @@ use machine::Fix;
 use machine::Pool;
 use page::FrameIndex;
 use page::PageNumber;
+use residents::Residents;
+use seen::Seen;
 ghost use mathlib.Core.Path.{_≡_};
 ghost use Prim.Native.Nat.{_<_};
 ghost use Rattle.page.specs.Figures.{slotCount};
@@ -20,10 +22,10 @@ pub fn bring_in(
     parent: FrameIndex,
     slot: usize,
     page: PageNumber,
-    pages: &[u16; FrameIndex::MOST],
-    seen: &mut [bool; PageNumber::MOST],
+    residents: &Residents,
+    seen: &mut Seen,
 ) -> Fix
-    requires { ⌜ Kept (state pool (now frames) (now store)) × Handed pool (now frames) (now pages) (now seen) × (parent .0 < pool .count) × (slot < slotCount) × (page .0 < pool .pages) ⌝ }
+    requires { ⌜ Kept (state pool (now frames) (now store)) × Handed pool (now frames) (now residents) (now seen) × (parent .0 < pool .count) × (slot < slotCount) × (page .0 < pool .pages) ⌝ }
     ensures { λ r. ⌜ fixOut r (now (frames .exit)) (now (store .exit)) ≡ missDecided (state pool (now (frames .entry)) (now (store .entry))) (parent .0) slot (page .0) ⌝ }
 {
     let mut next = pool;
@@ -34,7 +36,7 @@ pub fn bring_in(
     let hand = next.hand;
     let count = next.count;
     let most = count as usize;
-    let empty = scan::first_empty(pages, count, hand);
+    let empty = scan::first_empty(residents, count, hand);
     if empty < most {
         let frame = FrameIndex(empty as u8);
         next.records[empty] = moves::load_page(frames, store, parent, slot, frame, page);

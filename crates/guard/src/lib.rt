@@ -6,6 +6,8 @@ use machine::Handle;
 use machine::Pool;
 use page::FrameIndex;
 use page::PageNumber;
+use residents::Residents;
+use seen::Seen;
 ghost use mathlib.Core.Path.{_≡_};
 ghost use Rattle.machine.specs.Tests.{firstBroken};
 ghost use Rattle.machine.specs.Machine.{state, recordAt};
@@ -64,18 +66,18 @@ pub fn table_refusal(
     pool: Pool,
     frames: &[u8],
     store: &[u8],
-    pages: &mut [u16; FrameIndex::MOST],
-    seen: &mut [bool; PageNumber::MOST],
+    residents: &mut Residents,
+    seen: &mut Seen,
 ) -> u8
-    requires { ⌜ Clear (now pages) (now seen) ⌝ }
-    ensures { λ r. ⌜ (r ≡ firstBroken (poolRules (state pool (now (frames .entry)) (now (store .entry))))) × (r ≡ 0 → Handed pool (now (frames .entry)) (now (pages .exit)) (now (seen .exit))) ⌝ }
+    requires { ⌜ Clear (now residents) (now seen) ⌝ }
+    ensures { λ r. ⌜ (r ≡ firstBroken (poolRules (state pool (now (frames .entry)) (now (store .entry))))) × (r ≡ 0 → Handed pool (now (frames .entry)) (now (residents .exit)) (now (seen .exit))) ⌝ }
 {
     let count = pool.count as usize;
     let n = pool.pages as usize;
     if !lengths_fit(count, n, frames, store) {
         return 1;
     }
-    if !agreement::agrees(pool, frames, pages, seen) {
+    if !agreement::agrees(pool, frames, residents, seen) {
         return 2;
     }
     0
@@ -85,9 +87,9 @@ pub fn table_refusal(
 pub fn pool_refusal(pool: Pool, frames: &[u8], store: &[u8]) -> u8
     ensures { λ r. ⌜ r ≡ firstBroken (poolRules (state pool (now (frames .entry)) (now (store .entry)))) ⌝ }
 {
-    let mut pages: [u16; FrameIndex::MOST] = [0; FrameIndex::MOST];
-    let mut seen = [false; PageNumber::MOST];
-    table_refusal(pool, frames, store, &mut pages, &mut seen)
+    let mut residents = residents::NONE;
+    let mut seen = seen::NONE;
+    table_refusal(pool, frames, store, &mut residents, &mut seen)
 }
 
 // Rules 1 to 3, with the record at the handle's place, and the tables.
@@ -97,13 +99,13 @@ pub fn handle_refusal(
     frames: &[u8],
     store: &[u8],
     handle: Handle,
-    pages: &mut [u16; FrameIndex::MOST],
-    seen: &mut [bool; PageNumber::MOST],
+    residents: &mut Residents,
+    seen: &mut Seen,
 ) -> u8
-    requires { ⌜ (held ≡ recordAt (pool .records) (recordPlace handle)) × Clear (now pages) (now seen) ⌝ }
-    ensures { λ r. ⌜ (r ≡ firstBroken (handleRules (state pool (now (frames .entry)) (now (store .entry))) handle)) × (r ≡ 0 → Handed pool (now (frames .entry)) (now (pages .exit)) (now (seen .exit))) ⌝ }
+    requires { ⌜ (held ≡ recordAt (pool .records) (recordPlace handle)) × Clear (now residents) (now seen) ⌝ }
+    ensures { λ r. ⌜ (r ≡ firstBroken (handleRules (state pool (now (frames .entry)) (now (store .entry))) handle)) × (r ≡ 0 → Handed pool (now (frames .entry)) (now (residents .exit)) (now (seen .exit))) ⌝ }
 {
-    let refusal = table_refusal(pool, frames, store, pages, seen);
+    let refusal = table_refusal(pool, frames, store, residents, seen);
     if refusal != 0 {
         return refusal;
     }
@@ -121,13 +123,13 @@ pub fn slot_refusal(
     store: &[u8],
     handle: Handle,
     slot: usize,
-    pages: &mut [u16; FrameIndex::MOST],
-    seen: &mut [bool; PageNumber::MOST],
+    residents: &mut Residents,
+    seen: &mut Seen,
 ) -> u8
-    requires { ⌜ (held ≡ recordAt (pool .records) (recordPlace handle)) × Clear (now pages) (now seen) ⌝ }
-    ensures { λ r. ⌜ (r ≡ firstBroken (wordRules (state pool (now (frames .entry)) (now (store .entry))) handle slot)) × (r ≡ 0 → Handed pool (now (frames .entry)) (now (pages .exit)) (now (seen .exit))) ⌝ }
+    requires { ⌜ (held ≡ recordAt (pool .records) (recordPlace handle)) × Clear (now residents) (now seen) ⌝ }
+    ensures { λ r. ⌜ (r ≡ firstBroken (wordRules (state pool (now (frames .entry)) (now (store .entry))) handle slot)) × (r ≡ 0 → Handed pool (now (frames .entry)) (now (residents .exit)) (now (seen .exit))) ⌝ }
 {
-    let refusal = handle_refusal(pool, held, frames, store, handle, pages, seen);
+    let refusal = handle_refusal(pool, held, frames, store, handle, residents, seen);
     if refusal != 0 {
         return refusal;
     }
@@ -143,13 +145,13 @@ pub fn page_refusal(
     frames: &[u8],
     store: &[u8],
     page: PageNumber,
-    pages: &mut [u16; FrameIndex::MOST],
-    seen: &mut [bool; PageNumber::MOST],
+    residents: &mut Residents,
+    seen: &mut Seen,
 ) -> u8
-    requires { ⌜ Clear (now pages) (now seen) ⌝ }
-    ensures { λ r. ⌜ (r ≡ firstBroken (pageRules (state pool (now (frames .entry)) (now (store .entry))) page)) × (r ≡ 0 → Handed pool (now (frames .entry)) (now (pages .exit)) (now (seen .exit))) ⌝ }
+    requires { ⌜ Clear (now residents) (now seen) ⌝ }
+    ensures { λ r. ⌜ (r ≡ firstBroken (pageRules (state pool (now (frames .entry)) (now (store .entry))) page)) × (r ≡ 0 → Handed pool (now (frames .entry)) (now (residents .exit)) (now (seen .exit))) ⌝ }
 {
-    let refusal = table_refusal(pool, frames, store, pages, seen);
+    let refusal = table_refusal(pool, frames, store, residents, seen);
     if refusal != 0 {
         return refusal;
     }

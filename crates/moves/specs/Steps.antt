@@ -8,7 +8,7 @@ use native.Mathlib.Numerals.{add-one}
 use lib.ListN.{length, take, drop}
 use borrow.Rule.Slice.PartMut.{putMid}
 use Rattle.page.specs.Figures.{pageSize, slotCount}
-use Rattle.page.specs.Word.{nameOf, renamed, isNumber, number-yes}
+use Rattle.page.specs.Word.{renamed, isNumber, number-yes}
 use Rattle.page.specs.Octets.{Octets}
 use Rattle.page.specs.Page.{slot, name, pageOf, putSlot, putPage, slot-pageOf, pageOf-whole, part-is-page, put-part}
 use Rattle.machine.specs.declared.FrameRecord.{FrameRecord}
@@ -19,7 +19,7 @@ use Rattle.machine.specs.Moves.{imageTo, writtenOutBy, writtenOutTo, cleanedTo,
 use Rattle.machine.specs.Sweep.{childless}
 use Rattle.machine.specs.Laws.MoveLaws.{image-length, image-own, writtenOutBy-ext, writtenOutTo-zero, writtenOutTo-suc, cleanedTo-zero, cleanedTo-suc, cleanedTo-above}
 use Rattle.machine.specs.Laws.Ready.{Ready}
-use Rattle.residents.specs.Table.{pageBy, Table}
+use Rattle.residents.specs.Residents.{pageBy, Residents}
 use Rattle.moves.specs.WriteOut.{Named, Writable}
 
 -- ---- a page's image, and the image put where a part of the store was lent
@@ -59,7 +59,7 @@ unfolding writtenOutBy
 written-dirty page r fs st ts f d e = pick-yes _ d e
 
 -- the pages by the table are those by the records
-written-by-table : (rs : List FrameRecord) (t : List ℕ) (r : FrameRecord) (fs st : List ℕ) (f : ℕ) → Table rs t → (r .dirty ≡ true → Named fs f)
+written-by-table : (rs : List FrameRecord) (t : List ℕ) (r : FrameRecord) (fs st : List ℕ) (f : ℕ) → Residents rs t → (r .dirty ≡ true → Named fs f)
     → writtenOutBy (pageBy t) r fs st f ≡ writtenOutBy (pageIn rs) r fs st f
 written-by-table rs t r fs st f h n = writtenOutBy-ext (pageBy t) (pageIn rs) r fs st f n (h .right)
 
@@ -89,10 +89,10 @@ module _ {p n : Pool} {fs st ss : List ℕ} {f : ℕ} (S : Settling p n fs st ss
       let w = writable (state p fs st) f h l in
       rw same-record (record { placed = record { frame = w .placed .frame; bytes = w .placed .bytes; place = rw k (w .placed .place) }; words = w .words })
 
-  pub settling-more : {t ts : List ℕ} → Ready (state p fs st) → f < p .count → Table (p .records) t → ts ≡ writtenOutBy (pageBy t) (recordAt (n .records) f) fs ss f
+  pub settling-more : {t ts : List ℕ} → Ready (state p fs st) → f < p .count → Residents (p .records) t → ts ≡ writtenOutBy (pageBy t) (recordAt (n .records) f) fs ss f
       → Settling p (withRecord n f (cleaned (recordAt (n .records) f))) fs st ts (f + 1)
-  settling-more {t} {ts} h l table e =
-      let by = written-by-table (p .records) t (recordAt (p .records) f) fs ss f table (writable (state p fs st) f h l .words) in
+  settling-more {t} {ts} h l residents e =
+      let by = written-by-table (p .records) t (recordAt (p .records) f) fs ss f residents (writable (state p fs st) f h l .words) in
       record {
         clean = rw (S .clean, add-one f, cleanedTo-suc (p .records) f);
         written = rw (e, same-record, by, S .written, add-one f, writtenOutTo-suc (p .records) fs st f);

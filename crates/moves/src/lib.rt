@@ -6,11 +6,12 @@ use machine::FrameRecord;
 use machine::Pool;
 use page::FrameIndex;
 use page::PageNumber;
+use residents::Residents;
 ghost use mathlib.Core.Path.{_≡_};
 ghost use Rattle.machine.specs.Machine.{state, blank, loadedRecord};
 ghost use Rattle.machine.specs.Moves.{settled};
 ghost use Rattle.machine.specs.Laws.Ready.{Ready};
-ghost use Rattle.residents.specs.Table.{Table};
+ghost use Rattle.residents.specs.Residents.{Residents};
 ghost use Rattle.moves.specs.InAndOut.{Removable, TakenOut, Fitting, broughtIn};
 
 // An empty frame's record.
@@ -70,13 +71,8 @@ pub fn load_page(
 }
 
 // Writes the image of each dirty page to the store, and marks it clean. The table gives each frame's page.
-pub fn settle_pages(
-    pool: Pool,
-    table: &[u16; FrameIndex::MOST],
-    frames: &[u8],
-    store: &mut [u8],
-) -> Pool
-    requires { ⌜ Ready (state pool (now frames) (now store)) × Table (pool .records) (now table) ⌝ }
+pub fn settle_pages(pool: Pool, residents: &Residents, frames: &[u8], store: &mut [u8]) -> Pool
+    requires { ⌜ Ready (state pool (now frames) (now store)) × Residents (pool .records) (now residents) ⌝ }
     ensures { λ r. ⌜ state r (now (frames .entry)) (now (store .exit)) ≡ settled (state pool (now (frames .entry)) (now (store .entry))) ⌝ }
 {
     let mut next = pool;
@@ -84,7 +80,7 @@ pub fn settle_pages(
     let mut f = 0;
     while f < count {
         let mut record = next.records[f];
-        out::write_out(record, table, frames, store, FrameIndex(f as u8));
+        out::write_out(record, residents, frames, store, FrameIndex(f as u8));
         record.dirty = false;
         next.records[f] = record;
         f += 1;

@@ -10,40 +10,39 @@ use Rattle.machine.specs.Laws.TestLaws.{true-every, every-ext}
 use Rattle.machine.specs.Machine.{State, state}
 use Rattle.machine.specs.Naming.{named, namedByResident, loadable}
 use Rattle.machine.specs.Laws.Ready.{Kept}
-use Rattle.soundness.specs.Seen.{hasWord, told, fresh}
-use Rattle.soundness.specs.SeenLaws.{fresh-zero, fresh-ext, no-word}
-use Rattle.soundness.specs.Pages.{pageWords}
+use Rattle.seen.specs.Seen.{Seen, hasWord, noted, fresh, pageWords}
+use Rattle.seen.specs.SeenLaws.{fresh-zero, fresh-ext, no-word}
 use Rattle.residents.specs.Handed.{Handed}
 use Rattle.naming.specs.Stored.{inStore}
 use Rattle.naming.specs.Named.{named-parts}
 use Rattle.naming.specs.Loadable.{by-fresh}
 
 -- page x is named by a resident page, or by one of n stored pages that isn't resident
-unfoldable pub namedBy : List ℕ → List Bool → List ℕ → ℕ → ℕ → Bool
-namedBy pages seen st n x = told seen x or inStore pages st n x
+unfoldable pub namedBy : List ℕ → Seen → List ℕ → ℕ → ℕ → Bool
+namedBy residents seen st n x = noted seen x or inStore residents st n x
 
 -- each word of the stored page q is 0, or below n, of no page that a resident page names, and of no word before it
-unfoldable pub loadableBy : List Bool → List ℕ → ℕ → ℕ → Bool
-loadableBy seen st n q = every slotCount (fresh (told seen) (pageWords st q) n)
+unfoldable pub loadableBy : Seen → List ℕ → ℕ → ℕ → Bool
+loadableBy seen st n q = every slotCount (fresh (noted seen) (pageWords st q) n)
 
 -- a page without a word but 0
-pub loadable-empty : (seen : List Bool) (st : List ℕ) (n q : ℕ) → hasWord (pageWords st q) ≡ false → true ≡ loadableBy seen st n q
+pub loadable-empty : (seen : Seen) (st : List ℕ) (n q : ℕ) → hasWord (pageWords st q) ≡ false → true ≡ loadableBy seen st n q
 unfolding loadableBy
-loadable-empty seen st n q t = sym (true-every slotCount _ (λ k l. fresh-zero (told seen) (pageWords st q) n k (no-word (pageWords st q) t k l)))
+loadable-empty seen st n q t = sym (true-every slotCount _ (λ k l. fresh-zero (noted seen) (pageWords st q) n k (no-word (pageWords st q) t k l)))
 
 -- what resident pages name is nothing to the store
 storeless : (s : State) (x : ℕ) → namedByResident (state (s .pool) (s .frames) []) x ≡ namedByResident s x
 unfolding namedByResident
 storeless s x = refl
 
-module _ (s : State) (K : Kept s) {pages : List ℕ} {seen : List Bool} (H : Handed (s .pool) (s .frames) pages seen) where
-  told-named : (x : ℕ) → 0 < x → x < s .pool .pages → told seen x ≡ namedByResident s x
-  told-named x p l = H .named .right x p (omega (arith, K .sized .pages)) ∙ storeless s x
+module _ (s : State) (K : Kept s) {residents : List ℕ} {seen : Seen} (H : Handed (s .pool) (s .frames) residents seen) where
+  noted-named : (x : ℕ) → 0 < x → x < s .pool .pages → noted seen x ≡ namedByResident s x
+  noted-named x p l = H .named .right x p (omega (arith, K .sized .pages)) ∙ storeless s x
 
-  pub named-by : (x : ℕ) → 0 < x → x < s .pool .pages → namedBy pages seen (s .store) (s .pool .pages) x ≡ named s x
+  pub named-by : (x : ℕ) → 0 < x → x < s .pool .pages → namedBy residents seen (s .store) (s .pool .pages) x ≡ named s x
   unfolding namedBy
-  named-by x p l = ap (λ (b : Bool). b or inStore pages (s .store) (s .pool .pages) x) (told-named x p l) ∙ sym (named-parts s K pages (H .table) x)
+  named-by x p l = ap (λ (b : Bool). b or inStore residents (s .store) (s .pool .pages) x) (noted-named x p l) ∙ sym (named-parts s K residents (H .held) x)
 
   pub loadable-by : (q : ℕ) → loadableBy seen (s .store) (s .pool .pages) q ≡ loadable s q
   unfolding loadableBy
-  loadable-by q = every-ext slotCount _ _ (λ k l. fresh-ext (told seen) (namedByResident s) (pageWords (s .store) q) (s .pool .pages) told-named k) ∙ sym (by-fresh s q)
+  loadable-by q = every-ext slotCount _ _ (λ k l. fresh-ext (noted seen) (namedByResident s) (pageWords (s .store) q) (s .pool .pages) noted-named k) ∙ sym (by-fresh s q)

@@ -17,9 +17,9 @@ use Rattle.machine.specs.Laws.FoundLaws.{found-holds, found-is, none-found}
 use Rattle.machine.specs.Moves.{plain}
 use Rattle.machine.specs.Naming.{currentWord, named, namedByResident}
 use Rattle.machine.specs.Laws.Ready.{Kept}
-use Rattle.soundness.specs.Pages.{pageWords}
-use Rattle.residents.specs.Table.{Table}
-use Rattle.residents.specs.TableLaws.{Names, names-of, of-names, table-in, not-in-table}
+use Rattle.seen.specs.Seen.{pageWords}
+use Rattle.residents.specs.Residents.{Residents}
+use Rattle.residents.specs.ResidentLaws.{Names, names-of, of-names, table-in, not-in-table}
 use Rattle.naming.specs.Stored.{inStore, Stored, stored-of, of-stored}
 
 module _ (s : State) where
@@ -32,7 +32,7 @@ module _ (s : State) where
   unfolding currentWord slot
   word-stored q k l = sym (pick-no _ (le-ltb _ _ l) refl)
 
-module _ (s : State) (K : Kept s) (table : List ℕ) (T : Table (s .pool .records) table) (x : ℕ) where
+module _ (s : State) (K : Kept s) (residents : List ℕ) (T : Residents (s .pool .records) residents) (x : ℕ) where
   make-named : (p k : ℕ) → p < s .pool .pages → k < slotCount → currentWord s p k ≡ x → named s x ≡ true
   unfolding named
   make-named p k lp lk e = true-some (s .pool .pages) _ p lp (true-some slotCount _ k lk (eq-eqb _ x e))
@@ -46,12 +46,12 @@ module _ (s : State) (K : Kept s) (table : List ℕ) (T : Table (s .pool .record
       make-named q (n .slot) (K .agreed .inRange f (omega (arith, K .sized .most)) .page) (n .inPage)
       (word-found s q (n .slot) (omega arith) ∙ ap (λ (g : ℕ). plain (pageIn (s .pool .records)) (pageWords (s .frames) g (n .slot))) e ∙ n .word)
 
-  store-names : Stored table (s .store) (s .pool .pages) x → named s x ≡ true
+  store-names : Stored residents (s .store) (s .pool .pages) x → named s x ≡ true
   store-names h =
-      let e : found (s .pool) (h .page) ≡ s .pool .count = none-found (s .pool) (h .page) (not-in-table s (K .sized .most) (K .agreed) table T (h .page) (h .absent)) in
+      let e : found (s .pool) (h .page) ≡ s .pool .count = none-found (s .pool) (h .page) (not-in-table s (K .sized .most) (K .agreed) residents T (h .page) (h .absent)) in
       make-named (h .page) (h .slot) (h .lt) (h .inPage) (word-stored s (h .page) (h .slot) (omega arith) ∙ h .word)
 
-  named-where : named s x ≡ true → (namedByResident s x or inStore table (s .store) (s .pool .pages) x) ≡ true
+  named-where : named s x ≡ true → (namedByResident s x or inStore residents (s .store) (s .pool .pages) x) ≡ true
   unfolding named
   named-where t =
       let a = some-true (s .pool .pages) _ t in
@@ -59,12 +59,12 @@ module _ (s : State) (K : Kept s) (table : List ℕ) (T : Table (s .pool .record
       let e : currentWord s (a .0) (b .0) ≡ x = eqb-true _ x (b .2) in
       elim (decLt (found (s .pool) (a .0)) (s .pool .count)) [
         | yes l ↦ or-left _ (of-names s x (record { frame = found (s .pool) (a .0); slot = b .0; at = found-holds (s .pool) (a .0) l .0; inPage = b .1; word = sym (word-found s (a .0) (b .0) l) ∙ e }))
-        | no l ↦ or-right (namedByResident s x) (of-stored table (s .store) x (s .pool .pages) (record {
+        | no l ↦ or-right (namedByResident s x) (of-stored residents (s .store) x (s .pool .pages) (record {
           page = a .0;
           slot = b .0;
           lt = a .1;
           inPage = b .1;
-          absent = is-off _ (λ i. let g = table-in s (K .sized .most) (K .agreed) table T (a .0) i in absurd-found (a .0) l (g .0) (g .1) (g .2));
+          absent = is-off _ (λ i. let g = table-in s (K .sized .most) (K .agreed) residents T (a .0) i in absurd-found (a .0) l (g .0) (g .1) (g .2));
           word = sym (word-stored s (a .0) (b .0) (omega arith)) ∙ e;
         }))
       ]
@@ -72,8 +72,8 @@ module _ (s : State) (K : Kept s) (table : List ℕ) (T : Table (s .pool .record
       absurd-found : (q : ℕ) → (found (s .pool) q < s .pool .count → ⊥) → (f : ℕ) → occupied (s .pool) f ≡ true → pageIn (s .pool .records) f ≡ q → ⊥
       absurd-found q l f o e = let h : found (s .pool) (pageIn (s .pool .records) f) ≡ f = found-is (s .pool) (s .frames) (K .agreed) f o in l (rw (← e) (omega (arith, occupied-lt (s .pool) f o)))
 
-  pub named-parts : named s x ≡ (namedByResident s x or inStore table (s .store) (s .pool .pages) x)
+  pub named-parts : named s x ≡ (namedByResident s x or inStore residents (s .store) (s .pool .pages) x)
   named-parts = same _ _ named-where (λ t. elim (case (namedByResident s x)) [
     | on i ↦ resident-names (names-of s x i)
-    | off i ↦ store-names (stored-of table (s .store) x (s .pool .pages) (or-second (namedByResident s x) _ t i))
+    | off i ↦ store-names (stored-of residents (s .store) x (s .pool .pages) (or-second (namedByResident s x) _ t i))
   ])

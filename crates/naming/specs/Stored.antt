@@ -7,50 +7,49 @@ use borrow.Author.Tests.{not-true}
 use Rattle.page.specs.Figures.{slotCount}
 use Rattle.machine.specs.Tests.{_and_, some}
 use Rattle.machine.specs.Laws.TestLaws.{both, and-true, and-no, and-off, some-zero, some-true, true-some}
-use Rattle.soundness.specs.Seen.{among}
-use Rattle.soundness.specs.SeenLaws.{some-keep, is-among, among-is}
-use Rattle.soundness.specs.Pages.{pageWords}
-use Rattle.residents.specs.Table.{inTable}
+use Rattle.seen.specs.Seen.{among, pageWords}
+use Rattle.seen.specs.SeenLaws.{some-keep, is-among, among-is}
+use Rattle.residents.specs.Residents.{inTable}
 
 -- x is a word in one of the first n stored pages that are in no frame
 unfoldable pub inStore : List ℕ → List ℕ → ℕ → ℕ → Bool
-inStore table st n x = some n (λ p. among (pageWords st p) slotCount x and not (inTable table p))
+inStore residents st n x = some n (λ p. among (pageWords st p) slotCount x and not (inTable residents p))
 
 -- where it stands
-pub record Stored (table st : List ℕ) (n x : ℕ) : Type 0 where
+pub record Stored (residents st : List ℕ) (n x : ℕ) : Type 0 where
   pub page : ℕ
   pub slot : ℕ
   pub lt : page < n
   pub inPage : slot < slotCount
-  pub absent : inTable table page ≡ false
+  pub absent : inTable residents page ≡ false
   pub word : pageWords st page slot ≡ x
 
-module _ (table st : List ℕ) (x : ℕ) where
-  pub in-no-page : inStore table st 0 x ≡ false
+module _ (residents st : List ℕ) (x : ℕ) where
+  pub in-no-page : inStore residents st 0 x ≡ false
   unfolding inStore
   in-no-page = some-zero _
 
   -- page p has the word and is in no frame
-  pub in-page : (n p : ℕ) → p < n → among (pageWords st p) slotCount x ≡ true → inTable table p ≡ false → inStore table st n x ≡ true
+  pub in-page : (n p : ℕ) → p < n → among (pageWords st p) slotCount x ≡ true → inTable residents p ≡ false → inStore residents st n x ≡ true
   unfolding inStore
   in-page n p l h a = true-some n _ p l (both _ _ h (ap not a))
 
   -- page p hasn't the word, or is in a frame
-  pub pass-other : (p : ℕ) → among (pageWords st p) slotCount x ≡ false → inStore table st (p + 1) x ≡ inStore table st p x
+  pub pass-other : (p : ℕ) → among (pageWords st p) slotCount x ≡ false → inStore residents st (p + 1) x ≡ inStore residents st p x
   unfolding inStore
   pass-other p h = some-keep p _ (sym (and-no _ h))
 
-  pub pass-resident : (p : ℕ) → inTable table p ≡ true → inStore table st (p + 1) x ≡ inStore table st p x
+  pub pass-resident : (p : ℕ) → inTable residents p ≡ true → inStore residents st (p + 1) x ≡ inStore residents st p x
   unfolding inStore
   pass-resident p h = some-keep p _ (rw h (and-off _))
 
-  pub stored-of : (n : ℕ) → inStore table st n x ≡ true → Stored table st n x
+  pub stored-of : (n : ℕ) → inStore residents st n x ≡ true → Stored residents st n x
   unfolding inStore
   stored-of n t =
-      let a = some-true n (λ p. among (pageWords st p) slotCount x and not (inTable table p)) t in
+      let a = some-true n (λ p. among (pageWords st p) slotCount x and not (inTable residents p)) t in
       let b = and-true (among (pageWords st (a .0)) slotCount x) _ (a .2) in
       let c = among-is (pageWords st (a .0)) slotCount x (b .0) in
       record { page = a .0; slot = c .0; lt = a .1; inPage = c .1; absent = not-true _ (b .1); word = c .2 }
 
-  pub of-stored : (n : ℕ) → Stored table st n x → inStore table st n x ≡ true
+  pub of-stored : (n : ℕ) → Stored residents st n x → inStore residents st n x ≡ true
   of-stored n h = in-page n (h .page) (h .lt) (is-among (pageWords st (h .page)) slotCount x (h .slot) (h .inPage) (h .word)) (h .absent)

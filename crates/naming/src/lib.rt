@@ -1,8 +1,9 @@
 // Rules 9 and 14: which pages name a page. The tables that rule 2 hands on tell of resident pages: which they are, and what they name.
 pub mod stored;
 
-use page::FrameIndex;
 use page::PageNumber;
+use residents::Residents;
+use seen::Seen;
 ghost use mathlib.Core.Path.{_≡_};
 ghost use Prim.Native.Nat.{_*_, _≤_, _<_};
 ghost use lib.ListN.{length};
@@ -11,35 +12,30 @@ ghost use Rattle.naming.specs.ByTable.{namedBy, loadableBy};
 
 // Is the page named by a word of any page (rule 9), of n pages in the store.
 pub fn is_named(
-    pages: &[u16; FrameIndex::MOST],
-    seen: &[bool; PageNumber::MOST],
+    residents: &Residents,
+    seen: &Seen,
     store: &[u8],
     n: usize,
     page: PageNumber,
 ) -> bool
     requires { ⌜ (n ≤ mostPages) × (length (now store) ≡ pageSize * n) × (page .0 < mostPages) ⌝ }
-    ensures { λ r. ⌜ r ≡ namedBy (now (pages .entry)) (now (seen .entry)) (now (store .entry)) n (page .0) ⌝ }
+    ensures { λ r. ⌜ r ≡ namedBy (now (residents .entry)) (now (seen .entry)) (now (store .entry)) n (page .0) ⌝ }
 {
     let q = page.0 as usize;
     if seen[q] {
         return true;
     }
-    stored::in_store(store, pages, n, PageNumber::word(page))
+    stored::in_store(store, residents, n, PageNumber::word(page))
 }
 
 // May the stored page come in (rule 14), of n pages in the store. The table is used up.
-pub fn is_loadable(
-    store: &[u8],
-    n: usize,
-    page: PageNumber,
-    seen: &mut [bool; PageNumber::MOST],
-) -> bool
+pub fn is_loadable(store: &[u8], n: usize, page: PageNumber, seen: &mut Seen) -> bool
     requires { ⌜ (n ≤ mostPages) × (length (now store) ≡ pageSize * n) × (page .0 < n) × (length (now seen) ≡ mostPages) ⌝ }
     ensures { λ r. ⌜ r ≡ loadableBy (now (seen .entry)) (now (store .entry)) n (page .0) ⌝ }
 {
     let at = PageNumber::SIZE * page.0 as usize;
-    if !soundness::seen::has_word(store, at) {
+    if !seen::has_word(store, at) {
         return true;
     }
-    soundness::seen::mark_page(store, at, n, seen)
+    seen::mark_page(store, at, n, seen)
 }

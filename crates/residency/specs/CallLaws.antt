@@ -25,6 +25,7 @@ use Rattle.machine.specs.Rules.{lengthsFit, rule11, rule12}
 use Rattle.machine.specs.Calls.{changeRecord, openCall, handleRules, unfixCall, pageRules, evictCall}
 use Rattle.machine.specs.Laws.Ready.{ready}
 use Rattle.machine.specs.Laws.RuleLaws.{done-no, done-yes, HandleKept, handle-kept, page-passes}
+use Rattle.seen.specs.Seen.{Seen}
 use Rattle.residents.specs.Handed.{Handed}
 use Rattle.guard.specs.Held.{recordPlace}
 use Rattle.scan.specs.ByTable.{foundBy, kept, counted, at-found}
@@ -66,11 +67,11 @@ module _ (s : State) (h : Handle) {n a : ℕ} (e : n ≡ firstBroken (handleRule
 
 -- ---- evict, where n is the refusal by rules 1, 2 and 6, F the count that the frames' length gives, and f the frame that the code found
 
-module _ (s : State) (q : PageNumber) {pages : List ℕ} {seen : List Bool} {n F : ℕ} (e : (n ≡ firstBroken (pageRules s q)) × (n ≡ 0 → Handed (s .pool) (s .frames) pages seen)) (z : n ≡ 0) (c : F ≡ length (s .frames) / pageSize) where
+module _ (s : State) (q : PageNumber) {residents : List ℕ} {seen : Seen} {n F : ℕ} (e : (n ≡ firstBroken (pageRules s q)) × (n ≡ 0 → Handed (s .pool) (s .frames) residents seen)) (z : n ≡ 0) (c : F ≡ length (s .frames) / pageSize) where
   rest : List Rule
   rest = rule11 s (q .0) ∷ rule12 s (q .0) ∷ []
 
-  module _ {f : ℕ} (i : f ≡ foundBy pages (q .0) F 0) where
+  module _ {f : ℕ} (i : f ≡ foundBy residents (q .0) F 0) where
     here : f ≡ found (s .pool) (q .0)
     here = at-found s q e z c i
 

@@ -13,12 +13,20 @@ ghost use Rattle.machine.specs.Calls.{unfixCall, evictCall};
 pub fn unfix(pool: Pool, frames: &[u8], store: &[u8], handle: Handle) -> Done
     ensures { λ r. ⌜ out (doneAnswer (r .refusal)) (state (r .pool) (now (frames .entry)) (now (store .entry))) ≡ unfixCall (state pool (now (frames .entry)) (now (store .entry))) handle ⌝ }
 {
-    let mut pages: [u16; FrameIndex::MOST] = [0; FrameIndex::MOST];
-    let mut seen = [false; PageNumber::MOST];
+    let mut residents = residents::NONE;
+    let mut seen = seen::NONE;
     let mut next = pool;
     let at = guard::record_place(handle);
     let mut rec = next.records[at];
-    let refusal = guard::handle_refusal(pool, rec, frames, store, handle, &mut pages, &mut seen);
+    let refusal = guard::handle_refusal(
+        pool,
+        rec,
+        frames,
+        store,
+        handle,
+        &mut residents,
+        &mut seen,
+    );
     if refusal != 0 {
         return Done { pool, refusal };
     }
@@ -34,15 +42,15 @@ pub fn unfix(pool: Pool, frames: &[u8], store: &[u8], handle: Handle) -> Done
 pub fn evict(pool: Pool, frames: &mut [u8], store: &mut [u8], page: PageNumber) -> Done
     ensures { λ r. ⌜ out (doneAnswer (r .refusal)) (state (r .pool) (now (frames .exit)) (now (store .exit))) ≡ evictCall (state pool (now (frames .entry)) (now (store .entry))) page ⌝ }
 {
-    let mut pages: [u16; FrameIndex::MOST] = [0; FrameIndex::MOST];
-    let mut seen = [false; PageNumber::MOST];
+    let mut residents = residents::NONE;
+    let mut seen = seen::NONE;
     let mut next = pool;
-    let refusal = guard::page_refusal(pool, frames, store, page, &mut pages, &mut seen);
+    let refusal = guard::page_refusal(pool, frames, store, page, &mut residents, &mut seen);
     if refusal != 0 {
         return Done { pool, refusal };
     }
     let count = frames.len() / PageNumber::SIZE;
-    let f = scan::find_frame(&pages, count, page);
+    let f = scan::find_frame(&residents, count, page);
     if count <= f {
         return Done { pool, refusal: 11 };
     }

@@ -1,8 +1,6 @@
 // Settle: dirty pages go to the store.
 use machine::Done;
 use machine::Pool;
-use page::FrameIndex;
-use page::PageNumber;
 ghost use mathlib.Core.Path.{_≡_};
 ghost use Rattle.machine.specs.Machine.{state};
 ghost use Rattle.machine.specs.Answers.{out, doneAnswer};
@@ -12,13 +10,13 @@ ghost use Rattle.machine.specs.Calls.{settleCall};
 pub fn settle(pool: Pool, frames: &[u8], store: &mut [u8]) -> Done
     ensures { λ r. ⌜ out (doneAnswer (r .refusal)) (state (r .pool) (now (frames .entry)) (now (store .exit))) ≡ settleCall (state pool (now (frames .entry)) (now (store .entry))) ⌝ }
 {
-    let mut pages: [u16; FrameIndex::MOST] = [0; FrameIndex::MOST];
-    let mut seen = [false; PageNumber::MOST];
-    let refusal = guard::table_refusal(pool, frames, store, &mut pages, &mut seen);
+    let mut residents = residents::NONE;
+    let mut seen = seen::NONE;
+    let refusal = guard::table_refusal(pool, frames, store, &mut residents, &mut seen);
     if refusal != 0 {
         return Done { pool, refusal };
     }
-    let settled = moves::settle_pages(pool, &pages, frames, store);
+    let settled = moves::settle_pages(pool, &residents, frames, store);
     Done {
         pool: settled,
         refusal: 0,

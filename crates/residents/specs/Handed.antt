@@ -8,15 +8,15 @@ use Rattle.page.specs.Figures.{mostFrames, mostPages}
 use Rattle.machine.specs.declared.Pool.{Pool}
 use Rattle.machine.specs.Machine.{state}
 use Rattle.machine.specs.Naming.{namedByResident}
-use Rattle.soundness.specs.Seen.{Tells}
-use Rattle.residents.specs.Table.{Table}
+use Rattle.seen.specs.Seen.{Seen, Tells}
+use Rattle.residents.specs.Residents.{Residents}
 
 -- the two tables before the pass
-pub record Clear (pages : List ℕ) (seen : List Bool) : Type 0 where
-  pub noPage : pages ≡ replicate mostFrames 0
+pub record Clear (residents : List ℕ) (seen : Seen) : Type 0 where
+  pub noPage : residents ≡ replicate mostFrames 0
   pub noneSeen : seen ≡ replicate mostPages false
 
 -- the two tables after it; what resident pages name is nothing to the store
-pub record Handed (p : Pool) (fs : List ℕ) (pages : List ℕ) (seen : List Bool) : Type 0 where
-  pub table : Table (p .records) pages
+pub record Handed (p : Pool) (fs : List ℕ) (residents : List ℕ) (seen : Seen) : Type 0 where
+  pub held : Residents (p .records) residents
   pub named : Tells seen (namedByResident (state p fs []))

@@ -1,3 +1,3 @@
-pub mod Table
-pub mod TableLaws
+pub mod Residents
+pub mod ResidentLaws
 pub mod Handed

@@ -20,58 +20,59 @@ use Rattle.machine.specs.Laws.AgreementFacts.{occupied-used}
 use Rattle.machine.specs.Calls.{pageRules}
 use Rattle.machine.specs.Laws.Ready.{Kept}
 use Rattle.machine.specs.Laws.RuleLaws.{page-kept}
-use Rattle.residents.specs.Table.{pageBy, holdsPage}
-use Rattle.residents.specs.TableLaws.{holds-page}
+use Rattle.seen.specs.Seen.{Seen}
+use Rattle.residents.specs.Residents.{pageBy, holdsPage}
+use Rattle.residents.specs.ResidentLaws.{holds-page}
 use Rattle.residents.specs.Handed.{Handed}
 
 -- the first frame from i on whose page is q, among n of them, and else the frame after those
 unfoldable pub foundBy : List ℕ → ℕ → ℕ → ℕ → ℕ
-foundBy table q zero i = i
-foundBy table q (suc n) i = pick (eqb (pageBy table i) q) i (foundBy table q n (i + 1))
+foundBy residents q zero i = i
+foundBy residents q (suc n) i = pick (eqb (pageBy residents i) q) i (foundBy residents q n (i + 1))
 
 -- the first of the n frames from h on, going round, that holds no page, or F
 unfoldable pub emptyBy : List ℕ → ℕ → ℕ → ℕ → ℕ
-emptyBy table F zero h = F
-emptyBy table F (suc n) h = pick (holdsPage table h) (emptyBy table F n (after F h)) h
+emptyBy residents F zero h = F
+emptyBy residents F (suc n) h = pick (holdsPage residents h) (emptyBy residents F n (after F h)) h
 
-module _ (s : State) (K : Kept s) {pages : List ℕ} {seen : List Bool} (H : Handed (s .pool) (s .frames) pages seen) where
+module _ (s : State) (K : Kept s) {residents : List ℕ} {seen : Seen} (H : Handed (s .pool) (s .frames) residents seen) where
   in-range : {f : ℕ} → f < s .pool .count → f < mostFrames
   in-range l = omega (arith, K .sized .most)
 
-  holds-used : (f : ℕ) → f < s .pool .count → holdsPage pages f ≡ recordAt (s .pool .records) f .used
+  holds-used : (f : ℕ) → f < s .pool .count → holdsPage residents f ≡ recordAt (s .pool .records) f .used
   unfolding occupied
-  holds-used f l = holds-page s (K .sized .most) (K .agreed) pages (H .table) f (in-range l) ∙ sym (and-yes (lt-ltb f (s .pool .count) l) refl)
+  holds-used f l = holds-page s (K .sized .most) (K .agreed) residents (H .held) f (in-range l) ∙ sym (and-yes (lt-ltb f (s .pool .count) l) refl)
 
   -- ---- the frame that holds a page
 
-  same-page : (f : ℕ) → f < s .pool .count → pageBy pages f ≡ pageIn (s .pool .records) f
-  same-page f l = H .table .right f (in-range l)
+  same-page : (f : ℕ) → f < s .pool .count → pageBy residents f ≡ pageIn (s .pool .records) f
+  same-page f l = H .held .right f (in-range l)
 
-  empty-page : (f : ℕ) → f < s .pool .count → recordAt (s .pool .records) f .used ≡ false → pageBy pages f ≡ 0
+  empty-page : (f : ℕ) → f < s .pool .count → recordAt (s .pool .records) f .used ≡ false → pageBy residents f ≡ 0
   unfolding holdsPage
   empty-page f l u = eqb-true _ 0 (not-false _ (or-none (eqb f 0) _ (holds-used f l ∙ u) .1))
 
   -- an empty frame's entry is 0, which is page 0's number too
-  same-test : (q : ℕ) → q ≢ 0 → (f : ℕ) → f < s .pool .count → eqb (pageBy pages f) q ≡ (recordAt (s .pool .records) f .used and eqb (pageIn (s .pool .records) f) q)
+  same-test : (q : ℕ) → q ≢ 0 → (f : ℕ) → f < s .pool .count → eqb (pageBy residents f) q ≡ (recordAt (s .pool .records) f .used and eqb (pageIn (s .pool .records) f) q)
   same-test q z f l = elim (case (recordAt (s .pool .records) f .used)) [
     | on u ↦ and-yes u (ap (λ p. eqb p q) (same-page f l))
     | off u ↦ ne-eqb _ q (λ e. z (sym e ∙ empty-page f l u)) ∙ and-no _ u
   ]
 
-  found-from : (q : ℕ) → q ≢ 0 → (n i : ℕ) → i + n ≤ s .pool .count → foundBy pages q n i ≡ foundFrom (s .pool .records) q n i
+  found-from : (q : ℕ) → q ≢ 0 → (n i : ℕ) → i + n ≤ s .pool .count → foundBy residents q n i ≡ foundFrom (s .pool .records) q n i
   unfolding foundBy foundFrom
   found-from q z zero i l = refl
   found-from q z (suc n) i l = rw (same-test q z i (omega arith), found-from q z n (i + 1) (omega arith))
 
   -- page 0 is in the frame that is looked at first
-  root-found : (n : ℕ) → 0 < n → n ≤ s .pool .count → foundBy pages 0 n 0 ≡ foundFrom (s .pool .records) 0 n 0
+  root-found : (n : ℕ) → 0 < n → n ≤ s .pool .count → foundBy residents 0 n 0 ≡ foundFrom (s .pool .records) 0 n 0
   unfolding foundBy foundFrom
   root-found zero p l = absurd (omega arith)
   root-found (suc n) p l =
       let e = K .agreed .rootPage in
       sym (pick-yes _ (eq-eqb _ 0 (same-page 0 (omega arith) ∙ e)) refl) ∙ pick-yes _ (both _ _ (occupied-used (s .pool) 0 (K .agreed .root)) (eq-eqb _ 0 e)) refl
 
-  pub found-by : (q : ℕ) → foundBy pages q (s .pool .count) 0 ≡ found (s .pool) q
+  pub found-by : (q : ℕ) → foundBy residents q (s .pool .count) 0 ≡ found (s .pool) q
   found-by q = elim (ℕ-discrete q 0) [
     | yes z ↦ rw z (root-found (s .pool .count) (omega (arith, K .sized .least)) (omega arith))
     | no z ↦ found-from q z (s .pool .count) 0 (omega arith)
@@ -79,17 +80,17 @@ module _ (s : State) (K : Kept s) {pages : List ℕ} {seen : List Bool} (H : Han
 
   -- ---- the first empty frame
 
-  empty-from : (n h : ℕ) → h < s .pool .count → emptyBy pages (s .pool .count) n h ≡ emptyFrom (s .pool .records) (s .pool .count) n h
+  empty-from : (n h : ℕ) → h < s .pool .count → emptyBy residents (s .pool .count) n h ≡ emptyFrom (s .pool .records) (s .pool .count) n h
   unfolding emptyBy emptyFrom
   empty-from zero h l = refl
   empty-from (suc n) h l = rw (holds-used h l, empty-from n (after (s .pool .count) h) (after-in _ h l))
 
-  pub empty-by : emptyBy pages (s .pool .count) (s .pool .count) (s .pool .hand .0) ≡ firstEmpty (s .pool)
+  pub empty-by : emptyBy residents (s .pool .count) (s .pool .count) (s .pool .hand .0) ≡ firstEmpty (s .pool)
   empty-by = empty-from (s .pool .count) (s .pool .hand .0) (K .agreed .hand)
 
 -- ---- a page looked up after rules 1, 2 and 6: n is the refusal by them, and F the count that the frames' length gives
 
-module _ (s : State) (q : PageNumber) {pages : List ℕ} {seen : List Bool} {n F : ℕ} (e : (n ≡ firstBroken (pageRules s q)) × (n ≡ 0 → Handed (s .pool) (s .frames) pages seen)) (z : n ≡ 0) (c : F ≡ length (s .frames) / pageSize) where
+module _ (s : State) (q : PageNumber) {residents : List ℕ} {seen : Seen} {n F : ℕ} (e : (n ≡ firstBroken (pageRules s q)) × (n ≡ 0 → Handed (s .pool) (s .frames) residents seen)) (z : n ≡ 0) (c : F ≡ length (s .frames) / pageSize) where
   pub kept : Kept s
   kept = page-kept s q (sym (e .0) ∙ z) .kept
 
@@ -99,5 +100,5 @@ module _ (s : State) (q : PageNumber) {pages : List ℕ} {seen : List Bool} {n F
   pub few : F ≤ mostFrames
   few = let k = kept .sized in omega (arith, counted)
 
-  pub at-found : {f : ℕ} → f ≡ foundBy pages (q .0) F 0 → f ≡ found (s .pool) (q .0)
-  at-found i = i ∙ ap (λ (m : ℕ). foundBy pages (q .0) m 0) counted ∙ found-by s kept (e .1 z) (q .0)
+  pub at-found : {f : ℕ} → f ≡ foundBy residents (q .0) F 0 → f ≡ found (s .pool) (q .0)
+  at-found i = i ∙ ap (λ (m : ℕ). foundBy residents (q .0) m 0) counted ∙ found-by s kept (e .1 z) (q .0)

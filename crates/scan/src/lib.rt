@@ -6,6 +6,7 @@ use machine::FrameRecord;
 use machine::Standing;
 use page::FrameIndex;
 use page::PageNumber;
+use residents::Residents;
 ghost use mathlib.Core.Path.{_≡_};
 ghost use mathlib.Core.Logic.{_≢_};
 ghost use Prim.Native.Nat.{_+_, _*_, _≤_, _<_};
@@ -39,13 +40,13 @@ pub struct Walk {
 const ROUNDS: u16 = 4;
 
 // The frame that holds the page, or F, by the table of the page in each frame.
-pub fn find_frame(pages: &[u16; FrameIndex::MOST], count: usize, page: PageNumber) -> usize
+pub fn find_frame(residents: &Residents, count: usize, page: PageNumber) -> usize
     requires { ⌜ count ≤ mostFrames ⌝ }
-    ensures { λ r. ⌜ r ≡ foundBy (now (pages .entry)) (page .0) count 0 ⌝ }
+    ensures { λ r. ⌜ r ≡ foundBy (now (residents .entry)) (page .0) count 0 ⌝ }
 {
     let mut i = 0;
     while i < count {
-        if pages[i] == page.0 {
+        if residents[i] == page.0 {
             return i;
         }
         i += 1;
@@ -66,14 +67,14 @@ fn next_frame(frame: FrameIndex, count: u16) -> FrameIndex
 }
 
 // The first empty frame at or after the hand, going round, or F, by the table of the page in each frame.
-pub fn first_empty(pages: &[u16; FrameIndex::MOST], count: u16, hand: FrameIndex) -> usize
+pub fn first_empty(residents: &Residents, count: u16, hand: FrameIndex) -> usize
     requires { ⌜ (count ≤ mostFrames) × (hand .0 < count) ⌝ }
-    ensures { λ r. ⌜ r ≡ emptyBy (now (pages .entry)) count count (hand .0) ⌝ }
+    ensures { λ r. ⌜ r ≡ emptyBy (now (residents .entry)) count count (hand .0) ⌝ }
 {
     let mut frame = hand;
     let mut passed: u16 = 0;
     while passed < count {
-        if !residents::holds_page(pages, frame) {
+        if !residents::holds_page(residents, frame) {
             return frame.0 as usize;
         }
         frame = next_frame(frame, count);

@@ -1,3 +1,1 @@
-pub mod Seen
-pub mod SeenLaws
 pub mod Pages

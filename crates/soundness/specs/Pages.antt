@@ -15,12 +15,8 @@ use Rattle.page.specs.Page.{slot}
 use Rattle.machine.specs.Tests.{_or_, every, some}
 use Rattle.machine.specs.Laws.TestLaws.{clash, same, is-off, both, and-true, use⇒, make⇒, every-true, true-every, every-false, every-ext, every-step, every-zero, some-zero, some-suc, some-true, true-some}
 use Rattle.machine.specs.Soundness.{wordsBelow, wordsOnce, sound}
-use Rattle.soundness.specs.Seen.{wordsFrom, among, hasWord, fresh, told, Tells, Marked}
-use Rattle.soundness.specs.SeenLaws.{Fresh, fresh-zero, fresh-new, fresh-is, fresh-ext, is-among, among-is, not-among, none-among, no-word, no-word-among, or-same, tells-none, tells-ext}
-
--- the words of page p
-abbrev pub pageWords : List ℕ → ℕ → ℕ → ℕ
-pageWords b p = wordsFrom b (pageSize * p)
+use Rattle.seen.specs.Seen.{Seen, wordsFrom, pageWords, among, hasWord, fresh, noted, Tells, Marked}
+use Rattle.seen.specs.SeenLaws.{Fresh, fresh-zero, fresh-new, fresh-is, fresh-ext, is-among, among-is, not-among, none-among, no-word, no-word-among, or-same, tells-none, tells-ext}
 
 -- x is a word of one of the first p pages
 unfoldable pub earlier : List ℕ → ℕ → ℕ → Bool
@@ -130,7 +126,7 @@ module _ (st : List ℕ) (N : ℕ) where
 
   -- ---- what the code goes by: the first p pages are fresh, and the table tells of their words
 
-  pub record Passed (p : ℕ) (table : List Bool) : Type 0 where
+  pub record Passed (p : ℕ) (table : Seen) : Type 0 where
     pub fine : every p (freshPage st N) ≡ true
     pub tells : Tells table (earlier st p)
 
@@ -138,31 +134,31 @@ module _ (st : List ℕ) (N : ℕ) where
   unfolding earlier
   passed-none = record { fine = every-zero (freshPage st N); tells = tells-ext _ _ _ tells-none (λ x a b. sym (some-zero _)) }
 
-  pub passed-all : (table : List Bool) → Passed N table → true ≡ sound st N
+  pub passed-all : (table : Seen) → Passed N table → true ≡ sound st N
   passed-all table P = sym (by-pages ∙ P .fine)
 
-  module _ (few : N ≤ mostPages) (p : ℕ) (table : List Bool) (P : Passed p table) where
+  module _ (few : N ≤ mostPages) (p : ℕ) (table : Seen) (P : Passed p table) where
     -- the test of a page by the table is that by the pages before it
-    by-table : every slotCount (fresh (told table) (pageWords st p) N) ≡ freshPage st N p
+    by-table : every slotCount (fresh (noted table) (pageWords st p) N) ≡ freshPage st N p
     unfolding freshPage
-    by-table = every-ext slotCount _ _ (λ k l. fresh-ext (told table) (earlier st p) (pageWords st p) N (λ x a b. P .tells .right x a (omega arith)) k)
+    by-table = every-ext slotCount _ _ (λ k l. fresh-ext (noted table) (earlier st p) (pageWords st p) N (λ x a b. P .tells .right x a (omega arith)) k)
 
     earlier-next : (x : ℕ) → earlier st (p + 1) x ≡ (earlier st p x or among (pageWords st p) slotCount x)
     unfolding earlier
     earlier-next x = rw (add-one p, some-suc p (λ q. among (pageWords st q) slotCount x))
 
-    pub pass-page : (next : List Bool) → Marked (pageWords st p) N table next true → Passed (p + 1) next
+    pub pass-page : (next : Seen) → Marked (pageWords st p) N table next true → Passed (p + 1) next
     pass-page next M = record {
       fine = every-step p (freshPage st N) (P .fine) (sym (M .answer ∙ by-table));
       tells = tells-ext next _ _ (M .table refl .tells) (λ x a b. ap (λ (t : Bool). t or among (pageWords st p) slotCount x) (P .tells .right x a b) ∙ sym (earlier-next x));
     }
 
-    pub fail-page : (next : List Bool) → p < N → Marked (pageWords st p) N table next false → false ≡ sound st N
+    pub fail-page : (next : Seen) → p < N → Marked (pageWords st p) N table next false → false ≡ sound st N
     fail-page next l M = sym (by-pages ∙ every-false N (freshPage st N) p l (sym (M .answer ∙ by-table)))
 
     -- a page without a number is passed over
     pub pass-over : hasWord (pageWords st p) ≡ false → Passed (p + 1) table
     pass-over t = record {
-      fine = every-step p (freshPage st N) (P .fine) (sym by-table ∙ true-every slotCount _ (λ k l. fresh-zero (told table) (pageWords st p) N k (no-word (pageWords st p) t k l)));
+      fine = every-step p (freshPage st N) (P .fine) (sym by-table ∙ true-every slotCount _ (λ k l. fresh-zero (noted table) (pageWords st p) N k (no-word (pageWords st p) t k l)));
       tells = tells-ext table _ _ (P .tells) (λ x a b. sym (earlier-next x ∙ or-same (earlier st p x) (no-word-among (pageWords st p) t x a)));
     }

@@ -1,6 +1,4 @@
 // Rule 16: is a store sound. Its words are looked at a page at a time, with a table of the numbers seen.
-pub mod seen;
-
 use page::PageNumber;
 ghost use mathlib.Core.Path.{_≡_};
 ghost use Prim.Native.Nat.{_*_, _≤_};
@@ -13,7 +11,7 @@ pub fn is_sound(store: &[u8], n: usize) -> bool
     requires { ⌜ (n ≤ mostPages) × (length (now store) ≡ pageSize * n) ⌝ }
     ensures { λ r. ⌜ r ≡ sound (now (store .entry)) n ⌝ }
 {
-    let mut seen = [false; PageNumber::MOST];
+    let mut seen = seen::NONE;
     let mut p: usize = 0;
     while p < n {
         if seen::has_word(store, PageNumber::SIZE * p) {

@@ -15,18 +15,18 @@ use Rattle.agreement.proofs.agrees.Statement.{statement}
 use Rattle.agreement.proofs.agrees.Tie as tie
 
 abbrev Inv-loop : tie.InvT-loop
-Inv-loop frames pages₀ seen₀ records count n parents₀ occupied₀ over₀ f₀ pages seen parents occupied over f =
-    (count ≤ mostFrames) × Before records frames count n f seen parents pages occupied over
+Inv-loop frames residents₀ seen₀ records count n parents₀ occupied₀ over₀ f₀ residents seen parents occupied over f =
+    (count ≤ mostFrames) × Before records frames count n f seen parents residents occupied over
 
 abbrev μ-loop : tie.MeasureT-loop
-μ-loop frames pages₀ seen₀ records count n parents₀ occupied₀ over₀ f₀ pages seen parents occupied over f = count - f
+μ-loop frames residents₀ seen₀ records count n parents₀ occupied₀ over₀ f₀ residents seen parents occupied over f = count - f
 
 abbrev Inv-loop2 : tie.InvT-loop2
-Inv-loop2 frames pages seen records count n parents occupied over f₀ first₀ parent₀ last₀ f first parent last =
+Inv-loop2 frames residents seen records count n parents occupied over f₀ first₀ parent₀ last₀ f first parent last =
     (count ≤ f) × (f ≤ mostFrames) × RestTo records count f (NoField first parent last)
 
 abbrev μ-loop2 : tie.MeasureT-loop2
-μ-loop2 frames pages seen records count n parents occupied over f₀ first₀ parent₀ last₀ f first parent last = mostFrames - f
+μ-loop2 frames residents seen records count n parents occupied over f₀ first₀ parent₀ last₀ f first parent last = mostFrames - f
 
 from-u16-requires : tie.Need-from-u16-requires Inv-loop μ-loop Inv-loop2 μ-loop2
 from-u16-requires c κs = search needs
@@ -81,11 +81,11 @@ add-occupied c = omega (arith, before-few _ _ _ _ _ _ _ _ _ _ (c .before .before
 array-write-parents : tie.Need-array-write-parents Inv-loop μ-loop Inv-loop2 μ-loop2
 array-write-parents c = search needs
 
-mul-pages : tie.Need-mul-pages Inv-loop μ-loop Inv-loop2 μ-loop2
-mul-pages c = search needs
+mul-residents : tie.Need-mul-residents Inv-loop μ-loop Inv-loop2 μ-loop2
+mul-residents c = search needs
 
-element-write-pages : tie.Need-element-write-pages Inv-loop μ-loop Inv-loop2 μ-loop2
-element-write-pages c = search needs
+element-write-residents : tie.Need-element-write-residents Inv-loop μ-loop Inv-loop2 μ-loop2
+element-write-residents c = search needs
 
 add-f : tie.Need-add-f Inv-loop μ-loop Inv-loop2 μ-loop2
 add-f c = search needs
@@ -215,8 +215,8 @@ agrees-spec =
     cast-occupied
     add-occupied
     array-write-parents
-    mul-pages
-    element-write-pages
+    mul-residents
+    element-write-residents
     add-f
     loop-less
     loop-again

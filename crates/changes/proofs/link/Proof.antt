@@ -44,8 +44,8 @@ put-in-slot-requires c κs = let k = kept (c .before .before) in (omega arith, o
 dirtied-requires : tie.Need-dirtied-requires
 dirtied-requires c κs = search needs
 
-mul-t13 : tie.Need-mul-t13
-mul-t13 c = search needs
+mul-t15 : tie.Need-mul-t15
+mul-t15 c = search needs
 
 element-set-from-next : tie.Need-element-set-from-next
 element-set-from-next c = search needs
@@ -71,7 +71,7 @@ link-spec =
     word-requires
     put-in-slot-requires
     dirtied-requires
-    mul-t13
+    mul-t15
     element-set-from-next
     same-length-2
     returns-2)

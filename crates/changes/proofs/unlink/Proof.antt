@@ -41,8 +41,8 @@ put-in-slot-requires c κs = let k = kept (c .before) in (omega arith, omega ari
 dirtied-requires : tie.Need-dirtied-requires
 dirtied-requires c κs = search needs
 
-mul-t12 : tie.Need-mul-t12
-mul-t12 c = search needs
+mul-t14 : tie.Need-mul-t14
+mul-t14 c = search needs
 
 element-set-from-next : tie.Need-element-set-from-next
 element-set-from-next c = search needs
@@ -67,7 +67,7 @@ unlink-spec =
     returns
     put-in-slot-requires
     dirtied-requires
-    mul-t12
+    mul-t14
     element-set-from-next
     same-length-2
     returns-2)

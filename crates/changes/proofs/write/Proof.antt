@@ -69,8 +69,8 @@ copy-into-requires c κs = search needs
 dirtied-requires : tie.Need-dirtied-requires
 dirtied-requires c κs = search needs
 
-mul-t24 : tie.Need-mul-t24
-mul-t24 c = search needs
+mul-t26 : tie.Need-mul-t26
+mul-t26 c = search needs
 
 element-set-from-next : tie.Need-element-set-from-next
 element-set-from-next c = search needs
@@ -105,7 +105,7 @@ write-spec =
     part-copy-into-end
     copy-into-requires
     dirtied-requires
-    mul-t24
+    mul-t26
     element-set-from-next
     same-length-3
     returns-3)

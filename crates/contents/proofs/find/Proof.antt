@@ -19,8 +19,8 @@ returns c = answer-no _ _ _ (c .before .page-refusal .ensures .0) (c .if1 .taken
 find-frame-requires : tie.Need-find-frame-requires
 find-frame-requires c κs = few _ _ (c .before .before .page-refusal .ensures) (c .before .if1 .left) refl
 
-cast-t15 : tie.Need-cast-t15
-cast-t15 c = let h = few _ _ (c .before .before .before .before .page-refusal .ensures) (c .before .before .before .if1 .left) refl in omega (arith, h)
+cast-t17 : tie.Need-cast-t17
+cast-t17 c = let h = few _ _ (c .before .before .before .before .page-refusal .ensures) (c .before .before .before .if1 .left) refl in omega (arith, h)
 
 returns-2 : tie.Need-returns-2
 returns-2 c = find-at _ _ (c .before .before .before .before .page-refusal .ensures) (c .before .before .before .if1 .left) refl (c .before .find-frame .ensures) (c .if2 .taken)
@@ -31,4 +31,4 @@ returns-3 c = find-absent _ _ (c .before .before .before .before .page-refusal .
 pub find-spec : {M : Type 1} → statement M
 find-spec =
     tie.close
-    (tie.spec page-refusal-requires returns find-frame-requires cast-t15 returns-2 returns-3)
+    (tie.spec page-refusal-requires returns find-frame-requires cast-t17 returns-2 returns-3)

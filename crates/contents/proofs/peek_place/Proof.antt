@@ -24,8 +24,8 @@ returns c = ap placeAnswer (c .refused .ensures) ∙ place-refused _ (c .before 
 find-frame-requires : tie.Need-find-frame-requires
 find-frame-requires c κs = few _ _ (c .before .before .page-refusal .ensures) (c .before .if1 .left) refl
 
-cast-t15 : tie.Need-cast-t15
-cast-t15 c = let h = few _ _ (c .before .before .before .before .page-refusal .ensures) (c .before .before .before .if1 .left) refl in omega (arith, h)
+cast-t17 : tie.Need-cast-t17
+cast-t17 c = let h = few _ _ (c .before .before .before .before .page-refusal .ensures) (c .before .before .before .if1 .left) refl in omega (arith, h)
 
 in-frame-requires : tie.Need-in-frame-requires
 in-frame-requires c κs = search needs
@@ -51,7 +51,7 @@ peek-place-spec =
     refused-requires
     returns
     find-frame-requires
-    cast-t15
+    cast-t17
     in-frame-requires
     returns-2
     in-store-requires

@@ -65,8 +65,8 @@ returns-2 c = fix-nothing _ _ _ (c .before .before .before .before .before .befo
 is-number-requires : tie.Need-is-number-requires
 is-number-requires c κs = search needs
 
-cast-t32 : tie.Need-cast-t32
-cast-t32 c = let l = number c in let h = ok (c .before .before .before .before .before .before) in omega arith
+cast-t34 : tie.Need-cast-t34
+cast-t34 c = let l = number c in let h = ok (c .before .before .before .before .before .before) in omega arith
 
 bring-in-requires : tie.Need-bring-in-requires
 bring-in-requires c κs = let h = ok (c .before .before .before .before .before .before .before .before .before .before) in (h .kept, c .before .before .before .before .before .before .before .before .before .before .before .slot-refusal .ensures .1 (c .before .before .before .before .before .before .before .before .before .before .if1 .left), h .held .below, h .slot, number (c .before .before .before .before))
@@ -104,14 +104,14 @@ returns-4 c = fix-pinned _ _ _ (c .before .before .before .before .before .befor
 pinned-requires : tie.Need-pinned-requires
 pinned-requires c κs = search needs
 
-mul-t18 : tie.Need-mul-t18
-mul-t18 c = search needs
+mul-t20 : tie.Need-mul-t20
+mul-t20 c = search needs
 
 element-set-from-next : tie.Need-element-set-from-next
 element-set-from-next c = frame (c .before .before .before .before .before)
 
-cast-t44 : tie.Need-cast-t44
-cast-t44 c = let l = frame (c .before .before .before .before .before) in omega arith
+cast-t46 : tie.Need-cast-t46
+cast-t46 c = let l = frame (c .before .before .before .before .before) in omega arith
 
 given-requires : tie.Need-given-requires
 given-requires c κs = search needs
@@ -143,7 +143,7 @@ fix-spec =
     same-length-4
     returns-2
     is-number-requires
-    cast-t32
+    cast-t34
     bring-in-requires
     same-length-5
     same-length-6
@@ -156,9 +156,9 @@ fix-spec =
     same-length-8
     returns-4
     pinned-requires
-    mul-t18
+    mul-t20
     element-set-from-next
-    cast-t44
+    cast-t46
     given-requires
     same-length-9
     same-length-10

@@ -9,10 +9,10 @@ use Rattle.moves.proofs.settle_pages.Statement.{statement}
 use Rattle.moves.proofs.settle_pages.Tie as tie
 
 abbrev Inv-loop : tie.InvT-loop
-Inv-loop table frames store₀ next₀ count f₀ store next f = (f ≤ count) × (length store ≡ length store₀) × Settling next₀ next frames store₀ store f
+Inv-loop residents frames store₀ next₀ count f₀ store next f = (f ≤ count) × (length store ≡ length store₀) × Settling next₀ next frames store₀ store f
 
 abbrev μ-loop : tie.MeasureT-loop
-μ-loop table frames store₀ next₀ count f₀ store next f = count - f
+μ-loop residents frames store₀ next₀ count f₀ store next f = count - f
 
 cast-count : tie.Need-cast-count Inv-loop μ-loop
 cast-count c = search needs

@@ -5,18 +5,17 @@ use mathlib.Core.Path.{_≡_, sym, _∙_}
 use mathlib.Core.Logic.{⊎-elim}
 use native.Mathlib.Omega.{arith}
 use Rattle.page.specs.Figures.{mostFrames}
-use Rattle.soundness.specs.Seen.{among}
-use Rattle.soundness.specs.SeenLaws.{among-zero, among-hit, among-none}
-use Rattle.residents.specs.Table.{pageBy}
-use Rattle.residents.specs.Table.{inTable}
+use Rattle.seen.specs.Seen.{among}
+use Rattle.seen.specs.SeenLaws.{among-zero, among-hit, among-none}
+use Rattle.residents.specs.Residents.{pageBy, inTable}
 use Rattle.residents.proofs.is_resident.Statement.{statement}
 use Rattle.residents.proofs.is_resident.Tie as tie
 
 abbrev Inv-loop : tie.InvT-loop
-Inv-loop table page hit₀ g₀ hit g = (g ≤ mostFrames) × (hit ≡ among (pageBy table) g (page .0))
+Inv-loop residents page hit₀ g₀ hit g = (g ≤ mostFrames) × (hit ≡ among (pageBy residents) g (page .0))
 
 abbrev μ-loop : tie.MeasureT-loop
-μ-loop table page hit₀ g₀ hit g = mostFrames - g
+μ-loop residents page hit₀ g₀ hit g = mostFrames - g
 
 loop-holds : tie.Need-loop-holds Inv-loop μ-loop
 loop-holds c = (omega arith, sym (among-zero _ _))

@@ -7,27 +7,27 @@ use native.Mathlib.Nat.{sub-zero}
 use borrow.Author.Needs.{needs}
 use borrow.Author.Tests.{eq-eqb, ne-eqb}
 use Rattle.machine.specs.Laws.TestLaws.{pick-yes, pick-no}
-use Rattle.residents.specs.Table.{pageBy}
+use Rattle.residents.specs.Residents.{pageBy}
 use Rattle.scan.specs.ByTable.{foundBy}
 use Rattle.scan.proofs.find_frame.Statement.{statement}
 use Rattle.scan.proofs.find_frame.Tie as tie
 
 abbrev Inv-loop : tie.InvT-loop
-Inv-loop pages count page i₀ i = (i ≤ count) × (foundBy pages (page .0) count 0 ≡ foundBy pages (page .0) (count - i) i)
+Inv-loop residents count page i₀ i = (i ≤ count) × (foundBy residents (page .0) count 0 ≡ foundBy residents (page .0) (count - i) i)
 
 abbrev μ-loop : tie.MeasureT-loop
-μ-loop pages count page i₀ i = count - i
+μ-loop residents count page i₀ i = count - i
 
-module _ (table : List ℕ) (q n i : ℕ) where
-  here : i < n → pageBy table i ≡ q → foundBy table q (n - i) i ≡ i
+module _ (residents : List ℕ) (q n i : ℕ) where
+  here : i < n → pageBy residents i ≡ q → foundBy residents q (n - i) i ≡ i
   unfolding foundBy
   here l e = let s : n - i ≡ suc (n - (i + 1)) = omega arith in rw s (sym (pick-yes _ (eq-eqb _ _ e) refl))
 
-  other : i < n → (pageBy table i ≡ q → ⊥) → foundBy table q (n - i) i ≡ foundBy table q (n - (i + 1)) (i + 1)
+  other : i < n → (pageBy residents i ≡ q → ⊥) → foundBy residents q (n - i) i ≡ foundBy residents q (n - (i + 1)) (i + 1)
   unfolding foundBy
   other l e = let s : n - i ≡ suc (n - (i + 1)) = omega arith in rw s (sym (pick-no _ (ne-eqb _ _ e) refl))
 
-  past : n ≤ i → foundBy table q (n - i) i ≡ i
+  past : n ≤ i → foundBy residents q (n - i) i ≡ i
   unfolding foundBy
   past l = let s : n - i ≡ 0 = omega arith in rw s
 

@@ -10,28 +10,28 @@ use Rattle.page.specs.declared.FrameIndex.{FrameIndex}
 use Rattle.machine.specs.Laws.TestLaws.{call-no, call-yes, pick-yes, pick-no}
 use Rattle.machine.specs.Machine.{frameIndex}
 use Rattle.machine.specs.Sweep.{after}
-use Rattle.residents.specs.Table.{holdsPage}
+use Rattle.residents.specs.Residents.{holdsPage}
 use Rattle.scan.specs.ByTable.{emptyBy}
 use Rattle.scan.proofs.first_empty.Statement.{statement}
 use Rattle.scan.proofs.first_empty.Tie as tie
 
 abbrev Inv-loop : tie.InvT-loop
-Inv-loop pages count frame₀ passed₀ frame passed =
-    (passed ≤ count) × (frame .0 < count) × (emptyBy pages count count (frame₀ .0) ≡ emptyBy pages count (count - passed) (frame .0))
+Inv-loop residents count frame₀ passed₀ frame passed =
+    (passed ≤ count) × (frame .0 < count) × (emptyBy residents count count (frame₀ .0) ≡ emptyBy residents count (count - passed) (frame .0))
 
 abbrev μ-loop : tie.MeasureT-loop
-μ-loop pages count frame₀ passed₀ frame passed = count - passed
+μ-loop residents count frame₀ passed₀ frame passed = count - passed
 
-module _ (table : List ℕ) (n i h : ℕ) where
-  here : i < n → holdsPage table h ≡ false → emptyBy table n (n - i) h ≡ h
+module _ (residents : List ℕ) (n i h : ℕ) where
+  here : i < n → holdsPage residents h ≡ false → emptyBy residents n (n - i) h ≡ h
   unfolding emptyBy
   here l u = let s : n - i ≡ suc (n - (i + 1)) = omega arith in rw s (sym (pick-no _ u refl))
 
-  on : (g : FrameIndex) → i < n → holdsPage table h ≡ true → g ≡ frameIndex (after n h) → emptyBy table n (n - i) h ≡ emptyBy table n (n - (i + 1)) (g .0)
+  on : (g : FrameIndex) → i < n → holdsPage residents h ≡ true → g ≡ frameIndex (after n h) → emptyBy residents n (n - i) h ≡ emptyBy residents n (n - (i + 1)) (g .0)
   unfolding emptyBy
   on g l u e = let s : n - i ≡ suc (n - (i + 1)) = omega arith in rw (s, e) (sym (pick-yes _ u refl))
 
-  past : n ≤ i → emptyBy table n (n - i) h ≡ n
+  past : n ≤ i → emptyBy residents n (n - i) h ≡ n
   unfolding emptyBy
   past l = let s : n - i ≡ 0 = omega arith in rw s
 

@@ -6,7 +6,7 @@ use native.Mathlib.Omega.{arith}
 use mathlib.Core.Path.{refl, sym, _∙_}
 use Rattle.machine.specs.Laws.TestLaws.{clash}
 use Rattle.agreement.specs.Deciding.{holds, fails}
-use Rattle.agreement.specs.Seen.{pass-zeros}
+use Rattle.agreement.specs.Rows.{pass-zeros}
 use Rattle.agreement.specs.Fit.{Fits}
 use Rattle.agreement.specs.FitLaws.{page-below}
 use Rattle.agreement.proofs.frame.note.Statement.{statement}

@@ -6,7 +6,7 @@ use native.Mathlib.Omega.{arith}
 use mathlib.Core.Path.{_≡_, sym, _∙_}
 use mathlib.Core.Logic.{⊎-elim}
 use Rattle.machine.specs.Laws.TestLaws.{clash}
-use Rattle.agreement.specs.Seen.{Passed, Progress, progress}
+use Rattle.agreement.specs.Rows.{Passed, Progress, progress}
 use Rattle.agreement.specs.Fit.{HasWords}
 use Rattle.agreement.specs.FitLaws.{numbers-lt}
 use Rattle.agreement.proofs.words.mark_words.Statement.{statement}

@@ -5,7 +5,7 @@ use native.Mathlib.Omega.{arith}
 use mathlib.Core.Path.{_≡_, refl, sym, _∙_}
 use Rattle.machine.specs.Laws.TestLaws.{clash}
 use Rattle.agreement.specs.Counting.{count-le}
-use Rattle.agreement.specs.Seen.{twice-here, twice-more, pass-noted, pass-zeros}
+use Rattle.agreement.specs.Rows.{twice-here, twice-more, pass-noted, pass-zeros}
 use Rattle.agreement.specs.Fit.{overFrom}
 use Rattle.agreement.proofs.words.note_numbers.Statement.{statement}
 use Rattle.agreement.proofs.words.note_numbers.Tie as tie

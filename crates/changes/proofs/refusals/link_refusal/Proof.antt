@@ -15,6 +15,7 @@ use Rattle.machine.specs.Naming.{named}
 use Rattle.machine.specs.Rules.{wordOf, rule6-link, rule8, rule9}
 use Rattle.machine.specs.Calls.{linkRules}
 use Rattle.machine.specs.Laws.RuleLaws.{SlotKept, slot-kept, slot-stops, slot-passes}
+use Rattle.seen.specs.Seen.{Seen}
 use Rattle.residents.specs.Handed.{Handed}
 use Rattle.naming.specs.ByTable.{namedBy, named-by}
 use borrow.Author.Needs.{needs}
@@ -57,11 +58,11 @@ numbered : (c : tie.Else3) → let a = c .before .before .before .before .before
 numbered c = a-page _ _ (c .before .before .if2 .left) (below c)
 
 -- what the tables tell is what rule 9 asks
-told : (c : tie.Else3) {pages : List ℕ} {seen : List Bool} → let a = c .before .before .before .before .before .before .before .before .before .before .args in Handed (a .pool) (a .frames .now) pages seen → namedBy pages seen (a .store .now) (length (a .store .now) / pageSize) (a .page .0) ≡ named (given (c .before .before .before .before .before .before .before .before .before .before)) (a .page .0)
-told c {pages} {seen} h =
+told : (c : tie.Else3) {residents : List ℕ} {seen : Seen} → let a = c .before .before .before .before .before .before .before .before .before .before .args in Handed (a .pool) (a .frames .now) residents seen → namedBy residents seen (a .store .now) (length (a .store .now) / pageSize) (a .page .0) ≡ named (given (c .before .before .before .before .before .before .before .before .before .before)) (a .page .0)
+told c {residents} {seen} h =
     let a = c .before .before .before .before .before .before .before .before .before .before .args in
     let z = c .before .before .if2 .left in
-    ap (λ (n : ℕ). namedBy pages seen (a .store .now) n (a .page .0)) (stored (c .before .before .before .before)) ∙ named-by (given (c .before .before .before .before .before .before .before .before .before .before)) (kept (c .before .before .before .before) .kept) h (a .page .0) (omega arith) (below c)
+    ap (λ (n : ℕ). namedBy residents seen (a .store .now) n (a .page .0)) (stored (c .before .before .before .before)) ∙ named-by (given (c .before .before .before .before .before .before .before .before .before .before)) (kept (c .before .before .before .before) .kept) h (a .page .0) (omega arith) (below c)
 
 slot-refusal-requires : tie.Need-slot-refusal-requires
 slot-refusal-requires c κs = search needs

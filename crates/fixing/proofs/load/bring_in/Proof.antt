@@ -16,16 +16,16 @@ use Rattle.fixing.proofs.load.bring_in.Statement.{statement}
 use Rattle.fixing.proofs.load.bring_in.Tie as tie
 
 abbrev Inv-loop : tie.InvT-loop
-Inv-loop pool frames store parent slot page pages seen next n hand count most empty sights₀ f₀ sights f = (f ≤ most) × Sees (kind frames) (next .records) sights f
+Inv-loop pool frames store parent slot page residents seen next n hand count most empty sights₀ f₀ sights f = (f ≤ most) × Sees (kind frames) (next .records) sights f
 
 abbrev μ-loop : tie.MeasureT-loop
-μ-loop pool frames store parent slot page pages seen next n hand count most empty sights₀ f₀ sights f = most - f
+μ-loop pool frames store parent slot page residents seen next n hand count most empty sights₀ f₀ sights f = most - f
 
 abbrev Inv-loop2 : tie.InvT-loop2
-Inv-loop2 frames store parent slot page pages seen next₀ n count most empty sights f walk taken g₀ next g = (g ≤ most) × Cooling next₀ next sights g
+Inv-loop2 frames store parent slot page residents seen next₀ n count most empty sights f walk taken g₀ next g = (g ≤ most) × Cooling next₀ next sights g
 
 abbrev μ-loop2 : tie.MeasureT-loop2
-μ-loop2 frames store parent slot page pages seen next₀ n count most empty sights f walk taken g₀ next g = most - g
+μ-loop2 frames store parent slot page residents seen next₀ n count most empty sights f walk taken g₀ next g = most - g
 
 -- rule 14 is kept, and no frame is empty
 full : (c : tie.Else2 Inv-loop μ-loop Inv-loop2 μ-loop2) → let a = c .before .before .before .before .before .before .before .before .before .args in (x : Out) → let s = state (a .pool) (a .frames .now) (a .store .now) in x ≡ sweptDecided s (a .parent .0) (a .slot) (a .page .0) → x ≡ missDecided s (a .parent .0) (a .slot) (a .page .0)

@@ -12,16 +12,16 @@ use Rattle.page.specs.Page.{slot, name, slot-first, putSlot-first}
 use Rattle.machine.specs.Tests.{pick}
 use Rattle.machine.specs.Moves.{plain, imageTo}
 use Rattle.machine.specs.Laws.MoveLaws.{image-suc, image-zero}
-use Rattle.residents.specs.Table.{pageBy}
+use Rattle.residents.specs.Residents.{pageBy}
 use Rattle.moves.specs.WriteOut.{Named}
 use Rattle.moves.proofs.image.put_image.Statement.{statement}
 use Rattle.moves.proofs.image.put_image.Tie as tie
 
 abbrev Inv-loop : tie.InvT-loop
-Inv-loop dst₀ src table k₀ dst k = (k ≤ slotCount) × (length dst ≡ pageSize) × (dst ≡ imageTo (pageBy table) src k)
+Inv-loop dst₀ src residents k₀ dst k = (k ≤ slotCount) × (length dst ≡ pageSize) × (dst ≡ imageTo (pageBy residents) src k)
 
 abbrev μ-loop : tie.MeasureT-loop
-μ-loop dst₀ src table k₀ dst k = slotCount - k
+μ-loop dst₀ src residents k₀ dst k = slotCount - k
 
 -- one word more: its old word, what that names, the number that it stands for, and the word put
 step : (page : ℕ → ℕ) (g d e : List ℕ) (k o n j v w : ℕ) → d ≡ imageTo page g k → o ≡ wordAt g (wordSize * k) → n ≡ nameOf o → j ≡ frameIn n → v ≡ pick (isNumber n) n (page j) → w ≡ renamed o v

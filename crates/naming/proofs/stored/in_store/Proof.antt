@@ -11,10 +11,10 @@ use Rattle.naming.proofs.stored.in_store.Statement.{statement}
 use Rattle.naming.proofs.stored.in_store.Tie as tie
 
 abbrev Inv-loop : tie.InvT-loop
-Inv-loop store table n w p₀ p = (p ≤ n) × (inStore table store p w ≡ false)
+Inv-loop store residents n w p₀ p = (p ≤ n) × (inStore residents store p w ≡ false)
 
 abbrev μ-loop : tie.MeasureT-loop
-μ-loop store table n w p₀ p = n - p
+μ-loop store residents n w p₀ p = n - p
 
 loop-holds : tie.Need-loop-holds Inv-loop μ-loop
 loop-holds c = (omega arith, in-no-page _ _ _)

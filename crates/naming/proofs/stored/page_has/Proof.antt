@@ -5,8 +5,8 @@ use mathlib.Core.Path.{_≡_, sym, _∙_}
 use mathlib.Core.Logic.{⊎-elim}
 use native.Mathlib.Omega.{arith}
 use Rattle.page.specs.Figures.{slotCount}
-use Rattle.soundness.specs.Seen.{wordsFrom, among}
-use Rattle.soundness.specs.SeenLaws.{among-zero, among-hit, among-none}
+use Rattle.seen.specs.Seen.{wordsFrom, among}
+use Rattle.seen.specs.SeenLaws.{among-zero, among-hit, among-none}
 use Rattle.naming.proofs.stored.page_has.Statement.{statement}
 use Rattle.naming.proofs.stored.page_has.Tie as tie
 

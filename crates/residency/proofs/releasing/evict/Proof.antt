@@ -41,8 +41,8 @@ mul-rec c = search needs
 element-copy-out-rec : tie.Need-element-copy-out-rec
 element-copy-out-rec c = let h = few _ _ (c .before .before .before .before .page-refusal .ensures) (c .before .before .before .if1 .left) refl in omega (arith, h)
 
-cast-t25 : tie.Need-cast-t25
-cast-t25 c = let h = few _ _ (c .before .before .before .before .before .page-refusal .ensures) (c .before .before .before .before .if1 .left) refl in omega (arith, h)
+cast-t27 : tie.Need-cast-t27
+cast-t27 c = let h = few _ _ (c .before .before .before .before .before .page-refusal .ensures) (c .before .before .before .before .if1 .left) refl in omega (arith, h)
 
 is-open-requires : tie.Need-is-open-requires
 is-open-requires c κs = search needs
@@ -62,8 +62,8 @@ take-out-requires c κs = evict-removable _ _ (c .before .before .before .before
 empty-record-requires : tie.Need-empty-record-requires
 empty-record-requires c κs = search needs
 
-mul-t20 : tie.Need-mul-t20
-mul-t20 c = let h = few _ _ (c .before .before .before .before .before .before .before .before .before .before .before .before .before .before .before .before .page-refusal .ensures) (c .before .before .before .before .before .before .before .before .before .before .before .before .before .before .before .if1 .left) refl in omega (arith, h)
+mul-t22 : tie.Need-mul-t22
+mul-t22 c = let h = few _ _ (c .before .before .before .before .before .before .before .before .before .before .before .before .before .before .before .before .page-refusal .ensures) (c .before .before .before .before .before .before .before .before .before .before .before .before .before .before .before .if1 .left) refl in omega (arith, h)
 
 element-set-from-next : tie.Need-element-set-from-next
 element-set-from-next c = let h = few _ _ (c .before .before .before .before .before .before .before .before .before .before .before .before .before .before .before .before .page-refusal .ensures) (c .before .before .before .before .before .before .before .before .before .before .before .before .before .before .before .if1 .left) refl in omega (arith, h)
@@ -91,14 +91,14 @@ evict-spec =
     returns-2
     mul-rec
     element-copy-out-rec
-    cast-t25
+    cast-t27
     is-open-requires
     same-length-5
     same-length-6
     returns-3
     take-out-requires
     empty-record-requires
-    mul-t20
+    mul-t22
     element-set-from-next
     same-length-7
     same-length-8

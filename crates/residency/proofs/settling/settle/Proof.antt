@@ -18,7 +18,7 @@ unfolding settleCall
 returns c = done-no _ _ _ (c .before .table-refusal .ensures .0) (c .if1 .taken)
 
 settle-pages-requires : tie.Need-settle-pages-requires
-settle-pages-requires c κs = (ready _ (rules-kept _ (sym (c .before .before .before .table-refusal .ensures .0) ∙ c .before .before .if1 .left)), c .before .before .before .table-refusal .ensures .1 (c .before .before .if1 .left) .table)
+settle-pages-requires c κs = (ready _ (rules-kept _ (sym (c .before .before .before .table-refusal .ensures .0) ∙ c .before .before .if1 .left)), c .before .before .before .table-refusal .ensures .1 (c .before .before .if1 .left) .held)
 
 same-length-2 : tie.Need-same-length-2
 same-length-2 c = search needs

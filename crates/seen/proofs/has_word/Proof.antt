@@ -1,4 +1,4 @@
--- `soundness::seen::has_word` meets its contract: `hit` tells of the words passed. Assumes nothing.
+-- `seen::has_word` meets its contract: `hit` tells of the words passed. Assumes nothing.
 use borrow.Author.Needs.{needs}
 use borrow.Author.Tests.{eq-eqb, ne-eqb}
 use Prim.Native.Nat.{ℕ, _≤_, _-_}
@@ -11,10 +11,10 @@ use lib.Dec.{eqb}
 use Rattle.page.specs.Figures.{slotCount}
 use Rattle.machine.specs.Tests.{some}
 use Rattle.machine.specs.Laws.TestLaws.{some-zero}
-use Rattle.soundness.specs.Seen.{wordsFrom, hasWord}
-use Rattle.soundness.specs.SeenLaws.{some-keep, some-hit}
-use Rattle.soundness.proofs.seen.has_word.Statement.{statement}
-use Rattle.soundness.proofs.seen.has_word.Tie as tie
+use Rattle.seen.specs.Seen.{wordsFrom, hasWord}
+use Rattle.seen.specs.SeenLaws.{some-keep, some-hit}
+use Rattle.seen.proofs.has_word.Statement.{statement}
+use Rattle.seen.proofs.has_word.Tie as tie
 
 abbrev test : List ℕ → ℕ → ℕ → Bool
 test buffer at k = not (eqb (wordsFrom buffer at k) 0)

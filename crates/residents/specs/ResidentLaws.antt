@@ -20,11 +20,9 @@ use Rattle.machine.specs.Laws.AgreementFacts.{occupied-lt, Points, Agreed}
 use Rattle.machine.specs.Moves.{plain}
 use Rattle.machine.specs.Naming.{namedByResident}
 use Rattle.machine.specs.Laws.PlainLaws.{plain-low, plain-high}
-use Rattle.soundness.specs.Seen.{among}
-use Rattle.soundness.specs.SeenLaws.{is-among, among-is}
-use Rattle.soundness.specs.Pages.{pageWords}
-use Rattle.residents.specs.Table.{pageBy, Table}
-use Rattle.residents.specs.Table.{inTable, holdsPage, inFrames}
+use Rattle.seen.specs.Seen.{among, pageWords}
+use Rattle.seen.specs.SeenLaws.{is-among, among-is}
+use Rattle.residents.specs.Residents.{pageBy, Residents, inTable, holdsPage, inFrames}
 
 pub slot-word : (b : List ℕ) (p k : ℕ) → name b p k ≡ pageWords b p k
 unfolding slot
@@ -63,38 +61,38 @@ module _ (s : State) (x : ℕ) where
   unfolding namedByResident slot
   of-names n = true-some (s .pool .count) _ (n .frame) (occupied-lt (s .pool) (n .frame) (n .at)) (both _ _ (n .at) (true-some slotCount _ (n .slot) (n .inPage) (eq-eqb _ x (n .word))))
 
-module _ (s : State) (few : s .pool .count ≤ mostFrames) (A : Agreed (s .pool) (s .frames)) (table : List ℕ) (T : Table (s .pool .records) table) where
-  page-by : (f : ℕ) → occupied (s .pool) f ≡ true → pageBy table f ≡ pageIn (s .pool .records) f
+module _ (s : State) (few : s .pool .count ≤ mostFrames) (A : Agreed (s .pool) (s .frames)) (residents : List ℕ) (T : Residents (s .pool .records) residents) where
+  page-by : (f : ℕ) → occupied (s .pool) f ≡ true → pageBy residents f ≡ pageIn (s .pool .records) f
   page-by f o = T .right f (omega (arith, occupied-lt (s .pool) f o, few))
 
-  empty-page : (f : ℕ) → f < mostFrames → occupied (s .pool) f ≡ false → pageBy table f ≡ 0
+  empty-page : (f : ℕ) → f < mostFrames → occupied (s .pool) f ≡ false → pageBy residents f ≡ 0
   empty-page f l o = T .right f l ∙ blank-page _ (A .blank f l o)
 
   -- ---- which pages are resident
 
-  pub in-table : (f q : ℕ) → occupied (s .pool) f ≡ true → pageIn (s .pool .records) f ≡ q → inTable table q ≡ true
+  pub in-table : (f q : ℕ) → occupied (s .pool) f ≡ true → pageIn (s .pool .records) f ≡ q → inTable residents q ≡ true
   unfolding inTable
-  in-table f q o e = is-among (pageBy table) mostFrames q f (omega (arith, occupied-lt (s .pool) f o, few)) (page-by f o ∙ e)
+  in-table f q o e = is-among (pageBy residents) mostFrames q f (omega (arith, occupied-lt (s .pool) f o, few)) (page-by f o ∙ e)
 
-  pub table-in : (q : ℕ) → inTable table q ≡ true → (f : ℕ) × (occupied (s .pool) f ≡ true) × (pageIn (s .pool .records) f ≡ q)
+  pub table-in : (q : ℕ) → inTable residents q ≡ true → (f : ℕ) × (occupied (s .pool) f ≡ true) × (pageIn (s .pool .records) f ≡ q)
   unfolding inTable
   table-in q t =
-      let a = among-is (pageBy table) mostFrames q t in
-      let e : pageBy table (a .0) ≡ q = a .2 in
+      let a = among-is (pageBy residents) mostFrames q t in
+      let e : pageBy residents (a .0) ≡ q = a .2 in
       elim (case (occupied (s .pool) (a .0))) [
         | on o ↦ (a .0, o, sym (page-by (a .0) o) ∙ e)
         | off o ↦ (0, A .root, A .rootPage ∙ sym (empty-page (a .0) (a .1) o) ∙ e)
       ]
 
-  pub not-in-table : (q : ℕ) → inTable table q ≡ false → (f : ℕ) → occupied (s .pool) f ≡ true → pageIn (s .pool .records) f ≢ q
+  pub not-in-table : (q : ℕ) → inTable residents q ≡ false → (f : ℕ) → occupied (s .pool) f ≡ true → pageIn (s .pool .records) f ≢ q
   not-in-table q t f o e = clash (sym (in-table f q o e) ∙ t)
 
   -- ---- which frames are occupied
 
-  other-page : (f : ℕ) → occupied (s .pool) f ≡ true → f ≢ 0 → pageBy table f ≢ 0
+  other-page : (f : ℕ) → occupied (s .pool) f ≡ true → f ≢ 0 → pageBy residents f ≢ 0
   other-page f o n e = n (A .apart f 0 o (A .root) (sym (page-by f o) ∙ e ∙ sym (A .rootPage)))
 
-  pub holds-page : (f : ℕ) → f < mostFrames → holdsPage table f ≡ occupied (s .pool) f
+  pub holds-page : (f : ℕ) → f < mostFrames → holdsPage residents f ≡ occupied (s .pool) f
   unfolding holdsPage
   holds-page f l = same _ _
       (λ t. elim (case (occupied (s .pool) f)) [
@@ -115,16 +113,16 @@ module _ (s : State) (few : s .pool .count ≤ mostFrames) (A : Agreed (s .pool)
     pub inPage : slot < slotCount
     pub word : pageWords (s .frames) frame slot ≡ x
 
-  pub held-of : (x : ℕ) → inFrames table (s .frames) (s .pool .count) x ≡ true → Held x
+  pub held-of : (x : ℕ) → inFrames residents (s .frames) (s .pool .count) x ≡ true → Held x
   unfolding inFrames
   held-of x t =
-      let a = some-true (s .pool .count) (λ f. among (pageWords (s .frames) f) slotCount x and holdsPage table f) t in
+      let a = some-true (s .pool .count) (λ f. among (pageWords (s .frames) f) slotCount x and holdsPage residents f) t in
       let l : a .0 < s .pool .count = a .1 in
       let b = and-true (among (pageWords (s .frames) (a .0)) slotCount x) _ (a .2) in
       let c = among-is (pageWords (s .frames) (a .0)) slotCount x (b .0) in
       record { frame = a .0; slot = c .0; at = sym (holds-page (a .0) (omega (arith, few))) ∙ b .1; inPage = c .1; word = c .2 }
 
-  pub of-held : (x : ℕ) → Held x → inFrames table (s .frames) (s .pool .count) x ≡ true
+  pub of-held : (x : ℕ) → Held x → inFrames residents (s .frames) (s .pool .count) x ≡ true
   unfolding inFrames
   of-held x h =
       let l : h .frame < s .pool .count = occupied-lt (s .pool) (h .frame) (h .at) in
@@ -133,9 +131,9 @@ module _ (s : State) (few : s .pool .count ≤ mostFrames) (A : Agreed (s .pool)
   -- ---- a resident page names each resident page but the root, and the numbers in resident pages' words
 
   module _ (x : ℕ) (positive : 0 < x) (number : Number x) where
-    split : Names s x → (inTable table x or inFrames table (s .frames) (s .pool .count) x) ≡ true
+    split : Names s x → (inTable residents x or inFrames residents (s .frames) (s .pool .count) x) ≡ true
     split n = elim (reading (pageWords (s .frames) (n .frame) (n .slot))) [
-      | low l ↦ or-right (inTable table x) (of-held x (record { frame = n .frame; slot = n .slot; at = n .at; inPage = n .inPage; word = sym (plain-low _ _ l) ∙ n .word }))
+      | low l ↦ or-right (inTable residents x) (of-held x (record { frame = n .frame; slot = n .slot; at = n .at; inPage = n .inPage; word = sym (plain-low _ _ l) ∙ n .word }))
       | high g e ↦
           let q : name (s .frames) (n .frame) (n .slot) ≡ frameWord g = slot-word _ _ _ ∙ e in
           let b : Points (s .pool) (frameIn (name (s .frames) (n .frame) (n .slot))) (n .frame) (n .slot) = A .back (n .frame) (n .slot) (n .at) (n .inPage) (omega arith) in
@@ -143,7 +141,7 @@ module _ (s : State) (few : s .pool .count ≤ mostFrames) (A : Agreed (s .pool)
           or-left _ (in-table g x (rw i at (b .at)) (sym (plain-high (pageIn (s .pool .records)) g) ∙ ap (plain (pageIn (s .pool .records))) (sym e) ∙ n .word))
     ]
 
-    resident-named : inTable table x ≡ true → Names s x
+    resident-named : inTable residents x ≡ true → Names s x
     resident-named t =
         let g = table-in x t in
         let e : pageIn (s .pool .records) (g .0) ≡ x = g .2 in
@@ -156,13 +154,13 @@ module _ (s : State) (few : s .pool .count ≤ mostFrames) (A : Agreed (s .pool)
           word = ap (plain (pageIn (s .pool .records))) (sym (slot-word _ _ _) ∙ A .parentWord (g .0) (g .1) n) ∙ plain-high _ (g .0) ∙ e;
         }
 
-    held-named : inFrames table (s .frames) (s .pool .count) x ≡ true → Names s x
+    held-named : inFrames residents (s .frames) (s .pool .count) x ≡ true → Names s x
     held-named t =
         let h = held-of x t in
         let e : pageWords (s .frames) (h .frame) (h .slot) ≡ x = h .word in
         record { frame = h .frame; slot = h .slot; at = h .at; inPage = h .inPage; word = plain-low _ _ (omega arith) ∙ e }
 
-    pub by-table : namedByResident s x ≡ (inTable table x or inFrames table (s .frames) (s .pool .count) x)
+    pub by-table : namedByResident s x ≡ (inTable residents x or inFrames residents (s .frames) (s .pool .count) x)
     by-table = same _ _
         (λ t. split (names-of s x t))
-        (λ t. of-names s x (elim (case (inTable table x)) [ on i ↦ resident-named i | off i ↦ held-named (or-second (inTable table x) _ t i) ]))
+        (λ t. of-names s x (elim (case (inTable residents x)) [ on i ↦ resident-named i | off i ↦ held-named (or-second (inTable residents x) _ t i) ]))

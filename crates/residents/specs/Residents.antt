@@ -7,29 +7,28 @@ use lib.Dec.{eqb}
 use lib.ListN.{length, getD}
 use Rattle.page.specs.Figures.{slotCount, mostFrames}
 use Rattle.machine.specs.Tests.{_and_, _or_, some}
-use Rattle.soundness.specs.Seen.{among}
-use Rattle.soundness.specs.Pages.{pageWords}
+use Rattle.seen.specs.Seen.{among, pageWords}
 use Rattle.machine.specs.declared.FrameRecord.{FrameRecord}
 use Rattle.machine.specs.Machine.{pageIn}
 
 abbrev pub pageBy : List ℕ → ℕ → ℕ
-pageBy table f = getD table f 0
+pageBy residents f = getD residents f 0
 
 -- the table has the page of each record
-pub record Table (rs : List FrameRecord) (table : List ℕ) : Type 0 where
-  pub size : length table ≡ mostFrames
-  pub right : (f : ℕ) → f < mostFrames → pageBy table f ≡ pageIn rs f
+pub record Residents (rs : List FrameRecord) (residents : List ℕ) : Type 0 where
+  pub size : length residents ≡ mostFrames
+  pub right : (f : ℕ) → f < mostFrames → pageBy residents f ≡ pageIn rs f
 
 -- ---- what is asked of the table
 
 -- a frame has page q
 unfoldable pub inTable : List ℕ → ℕ → Bool
-inTable table q = among (pageBy table) mostFrames q
+inTable residents q = among (pageBy residents) mostFrames q
 
 -- frame f holds a page: only the root's holds page 0
 unfoldable pub holdsPage : List ℕ → ℕ → Bool
-holdsPage table f = eqb f 0 or not (eqb (pageBy table f) 0)
+holdsPage residents f = eqb f 0 or not (eqb (pageBy residents f) 0)
 
 -- x is a word in one of the first n frames that hold a page
 unfoldable pub inFrames : List ℕ → List ℕ → ℕ → ℕ → Bool
-inFrames table fs n x = some n (λ f. among (pageWords fs f) slotCount x and holdsPage table f)
+inFrames residents fs n x = some n (λ f. among (pageWords fs f) slotCount x and holdsPage residents f)

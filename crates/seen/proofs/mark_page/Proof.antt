@@ -1,14 +1,14 @@
--- `soundness::seen::mark_page` meets its contract: the words before slot k are fresh, and the table tells of them. Assumes nothing.
+-- `seen::mark_page` meets its contract: the words before slot k are fresh, and the table tells of them. Assumes nothing.
 use borrow.Author.Needs.{needs}
 use Prim.Native.Nat.{_≤_, _-_}
 use mathlib.Core.Path.{_≡_, sym}
 use mathlib.Core.Logic.{⊎-elim}
 use native.Mathlib.Omega.{arith}
 use Rattle.page.specs.Figures.{slotCount}
-use Rattle.soundness.specs.Seen.{wordsFrom}
-use Rattle.soundness.specs.SeenLaws.{Going, going-start, going-zero, going-new, going-done, stop-large, stop-seen}
-use Rattle.soundness.proofs.seen.mark_page.Statement.{statement}
-use Rattle.soundness.proofs.seen.mark_page.Tie as tie
+use Rattle.seen.specs.Seen.{wordsFrom}
+use Rattle.seen.specs.SeenLaws.{Going, going-start, going-zero, going-new, going-done, stop-large, stop-seen}
+use Rattle.seen.proofs.mark_page.Statement.{statement}
+use Rattle.seen.proofs.mark_page.Tie as tie
 
 abbrev Inv-loop : tie.InvT-loop
 Inv-loop buffer at limit seen₀ k₀ seen k = (k ≤ slotCount) × Going (wordsFrom buffer at) limit seen₀ seen k

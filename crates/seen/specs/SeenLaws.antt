@@ -14,7 +14,7 @@ use lib.Seq.{getD-set-same, getD-set-other}
 use Rattle.page.specs.Figures.{slotCount, mostPages}
 use Rattle.machine.specs.Tests.{_or_, every, some}
 use Rattle.machine.specs.Laws.TestLaws.{clash, same, is-off, both, and-true, or-left, or-right, or-second, or-none, or-off, or-skip, every-zero, every-step, every-false, some-zero, some-suc, true-some, some-true, some-false}
-use Rattle.soundness.specs.Seen.{among, hasWord, fresh, told, Tells, Adds, Marked}
+use Rattle.seen.specs.Seen.{Seen, among, hasWord, fresh, noted, Tells, Adds, Marked}
 
 -- ---- how `some` goes on by one number
 
@@ -109,11 +109,11 @@ fresh-ext s t w N h k = same _ _ (half s t h) (half t s (λ x p l. sym (h x p l)
 pub tells-none : Tells (replicate mostPages false) (λ x. false)
 tells-none = record { size = length-replicate mostPages false; right = λ x p l. getD-replicate mostPages x false false l }
 
-pub tells-ext : (table : List Bool) (s t : ℕ → Bool) → Tells table s → ((x : ℕ) → 0 < x → x < mostPages → s x ≡ t x) → Tells table t
+pub tells-ext : (table : Seen) (s t : ℕ → Bool) → Tells table s → ((x : ℕ) → 0 < x → x < mostPages → s x ≡ t x) → Tells table t
 tells-ext table s t h e = record { size = h .size; right = λ x p l. h .right x p l ∙ e x p l }
 
 -- number x is marked
-pub tells-set : (table : List Bool) (s : ℕ → Bool) (x : ℕ) → x < mostPages → Tells table s → (t : ℕ → Bool) → t x ≡ true → ((y : ℕ) → x ≢ y → s y ≡ t y) → Tells (set table x true) t
+pub tells-set : (table : Seen) (s : ℕ → Bool) (x : ℕ) → x < mostPages → Tells table s → (t : ℕ → Bool) → t x ≡ true → ((y : ℕ) → x ≢ y → s y ≡ t y) → Tells (set table x true) t
 tells-set table s x h T t a b = record {
   size = length-set table x true ∙ T .size;
   right = λ y p l. elim (ℕ-discrete x y) [
@@ -124,63 +124,63 @@ tells-set table s x h T t a b = record {
 
 -- ---- numbers added to a table
 
-pub adds-start : (before : List Bool) (t : ℕ → Bool) → length before ≡ mostPages → ((x : ℕ) → t x ≡ false) → Adds before before t
-adds-start before t e h = record { tells = record { size = e; right = λ x p l. sym (or-same (told before x) (h x)) } }
+pub adds-start : (before : Seen) (t : ℕ → Bool) → length before ≡ mostPages → ((x : ℕ) → t x ≡ false) → Adds before before t
+adds-start before t e h = record { tells = record { size = e; right = λ x p l. sym (or-same (noted before x) (h x)) } }
 
-pub adds-ext : (before after : List Bool) (s t : ℕ → Bool) → Adds before after s → ((x : ℕ) → 0 < x → x < mostPages → s x ≡ t x) → Adds before after t
-adds-ext before after s t T h = record { tells = tells-ext after _ _ (T .tells) (λ x p l. ap (λ (b : Bool). told before x or b) (h x p l)) }
+pub adds-ext : (before after : Seen) (s t : ℕ → Bool) → Adds before after s → ((x : ℕ) → 0 < x → x < mostPages → s x ≡ t x) → Adds before after t
+adds-ext before after s t T h = record { tells = tells-ext after _ _ (T .tells) (λ x p l. ap (λ (b : Bool). noted before x or b) (h x p l)) }
 
 -- number k is v
-module _ (before after : List Bool) (w : ℕ → ℕ) (k v : ℕ) (e : w k ≡ v) (T : Adds before after (among w k)) where
-  pub adds-skip : (next : List Bool) → ((x : ℕ) → 0 < x → x < mostPages → v ≢ x) → next ≡ after → Adds before next (among w (k + 1))
+module _ (before after : Seen) (w : ℕ → ℕ) (k v : ℕ) (e : w k ≡ v) (T : Adds before after (among w k)) where
+  pub adds-skip : (next : Seen) → ((x : ℕ) → 0 < x → x < mostPages → v ≢ x) → next ≡ after → Adds before next (among w (k + 1))
   adds-skip next h q = rw q (adds-ext before after _ _ T (λ x p l. sym (among-none w k x (λ z. h x p l (sym e ∙ z)))))
 
-  pub adds-set : (next : List Bool) → v < mostPages → next ≡ set after v true → Adds before next (among w (k + 1))
-  adds-set next l q = record { tells = rw q (tells-set after _ v l (T .tells) _ (or-right (told before v) (among-hit w k v e)) (λ y n. ap (λ (b : Bool). told before y or b) (sym (among-none w k y (λ z. n (sym e ∙ z)))))) }
+  pub adds-set : (next : Seen) → v < mostPages → next ≡ set after v true → Adds before next (among w (k + 1))
+  adds-set next l q = record { tells = rw q (tells-set after _ v l (T .tells) _ (or-right (noted before v) (among-hit w k v e)) (λ y n. ap (λ (b : Bool). noted before y or b) (sym (among-none w k y (λ z. n (sym e ∙ z)))))) }
 
 -- ---- the first k numbers of a page are fresh, and the table tells of them too
 
-pub record Going (w : ℕ → ℕ) (N : ℕ) (before after : List Bool) (k : ℕ) : Type 0 where
-  pub fine : every k (fresh (told before) w N) ≡ true
+pub record Going (w : ℕ → ℕ) (N : ℕ) (before after : Seen) (k : ℕ) : Type 0 where
+  pub fine : every k (fresh (noted before) w N) ≡ true
   pub table : Adds before after (among w k)
 
-module _ (w : ℕ → ℕ) (N : ℕ) (before : List Bool) where
+module _ (w : ℕ → ℕ) (N : ℕ) (before : Seen) where
   pub going-start : length before ≡ mostPages → Going w N before before 0
   going-start e = record {
-    fine = every-zero (fresh (told before) w N);
+    fine = every-zero (fresh (noted before) w N);
     table = adds-start before (among w 0) e (among-zero w);
   }
 
-  pub going-done : (after : List Bool) → Going w N before after slotCount → Marked w N before after true
+  pub going-done : (after : Seen) → Going w N before after slotCount → Marked w N before after true
   going-done after G = record { answer = sym (G .fine); table = λ e. G .table }
 
-  stop : (after : List Bool) (k : ℕ) → k < slotCount → fresh (told before) w N k ≡ false → Marked w N before after false
-  stop after k l e = record { answer = sym (every-false slotCount (fresh (told before) w N) k l e); table = λ z. absurd (clash (sym z)) }
+  stop : (after : Seen) (k : ℕ) → k < slotCount → fresh (noted before) w N k ≡ false → Marked w N before after false
+  stop after k l e = record { answer = sym (every-false slotCount (fresh (noted before) w N) k l e); table = λ z. absurd (clash (sym z)) }
 
   -- number k is v
-  module _ (after : List Bool) (k v : ℕ) (e : w k ≡ v) (G : Going w N before after k) where
-    pub going-zero : (next : List Bool) → v ≡ 0 → next ≡ after → Going w N before next (k + 1)
+  module _ (after : Seen) (k v : ℕ) (e : w k ≡ v) (G : Going w N before after k) where
+    pub going-zero : (next : Seen) → v ≡ 0 → next ≡ after → Going w N before next (k + 1)
     going-zero next z q = record {
-      fine = every-step k (fresh (told before) w N) (G .fine) (fresh-zero (told before) w N k (e ∙ z));
+      fine = every-step k (fresh (noted before) w N) (G .fine) (fresh-zero (noted before) w N k (e ∙ z));
       table = adds-skip before after w k v e (G .table) next (λ x p l. omega arith) q;
     }
 
     module _ (nz : v ≢ 0) (in-page : k < slotCount) where
-      pub stop-large : (last : List Bool) → N ≤ v → Marked w N before last false
-      stop-large last l = stop last k in-page (not-fresh (told before) w N k (rw e nz) (λ h. let b : w k < N = h .below in omega arith))
+      pub stop-large : (last : Seen) → N ≤ v → Marked w N before last false
+      stop-large last l = stop last k in-page (not-fresh (noted before) w N k (rw e nz) (λ h. let b : w k < N = h .below in omega arith))
 
       module _ (small : v < N) (few : N ≤ mostPages) where
-        known : told after v ≡ (told before v or among w k v)
+        known : noted after v ≡ (noted before v or among w k v)
         known = G .table .tells .right v (omega arith) (omega arith)
 
-        pub stop-seen : (last : List Bool) → told after v ≡ true → Marked w N before last false
-        stop-seen last u = stop last k in-page (not-fresh (told before) w N k (rw e nz) (λ h.
-            clash (sym (sym known ∙ u) ∙ or-off {a = told before v} (rw e at (h .unseen)) (rw e at (h .first)))))
+        pub stop-seen : (last : Seen) → noted after v ≡ true → Marked w N before last false
+        stop-seen last u = stop last k in-page (not-fresh (noted before) w N k (rw e nz) (λ h.
+            clash (sym (sym known ∙ u) ∙ or-off {a = noted before v} (rw e at (h .unseen)) (rw e at (h .first)))))
 
-        pub going-new : (next : List Bool) → told after v ≡ false → next ≡ set after v true → Going w N before next (k + 1)
+        pub going-new : (next : Seen) → noted after v ≡ false → next ≡ set after v true → Going w N before next (k + 1)
         going-new next u q =
-            let o = or-none (told before v) (among w k v) (sym known ∙ u) in
+            let o = or-none (noted before v) (among w k v) (sym known ∙ u) in
             record {
-              fine = every-step k (fresh (told before) w N) (G .fine) (fresh-new (told before) w N k (record { below = rw e small; unseen = rw e (o .0); first = rw e (o .1) }));
+              fine = every-step k (fresh (noted before) w N) (G .fine) (fresh-new (noted before) w N k (record { below = rw e small; unseen = rw e (o .0); first = rw e (o .1) }));
               table = adds-set before after w k v e (G .table) next (omega arith) q;
             }
