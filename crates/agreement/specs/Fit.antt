@@ -7,8 +7,8 @@ use mathlib.Core.List.{List}
 use lib.Dec.{eqb, ltb, leb}
 use lib.ListN.{length, getD}
 use Rattle.page.specs.Figures.{pageSize, slotCount, mostFrames, recordCount, maxUsage, maxPins, wordSize}
-use Rattle.page.specs.Word.{wordAt, frameWord}
-use Rattle.page.specs.Page.{slot}
+use Rattle.page.specs.Word.{nameAt, frameWord}
+use Rattle.page.specs.Page.{name}
 use Rattle.machine.specs.declared.FrameRecord.{FrameRecord}
 use Rattle.machine.specs.declared.Pool.{Pool}
 use Rattle.machine.specs.Tests.{pick, _and_}
@@ -75,7 +75,7 @@ pub record Resident (F N : ℕ) (r : FrameRecord) : Type 0 where
 -- frame f's parent is occupied (`above`), and its word is swizzled to f
 pub record Linked (fs : List ℕ) (f : ℕ) (r : FrameRecord) (above : Bool) : Type 0 where
   pub occupied : above ≡ true
-  pub word : slot fs (r .parent .0) (r .slot) ≡ frameWord f
+  pub word : name fs (r .parent .0) (r .slot) ≡ frameWord f
 
 -- the record of frame f, and the word that names it
 pub record Fits (fs : List ℕ) (F N f : ℕ) (r : FrameRecord) (above : Bool) : Type 0 where
@@ -100,7 +100,7 @@ perFrame = 17
 
 -- number j of an occupied frame f
 unfoldable pub numberIn : List FrameRecord → List ℕ → ℕ → ℕ → ℕ → ℕ
-numberIn rs fs N f j = pick (eqb j 0) (pageIn rs f) (numberBelow N (slot fs f (j - 1)))
+numberIn rs fs N f j = pick (eqb j 0) (pageIn rs f) (numberBelow N (name fs f (j - 1)))
 
 -- the numbers of the frames one after the other, 0 for an empty frame's
 unfoldable pub numbers : List FrameRecord → List ℕ → ℕ → ℕ → ℕ
@@ -110,11 +110,11 @@ numbers rs fs N i = pick (isUsed (recordAt rs (i / perFrame))) (numberIn rs fs N
 
 -- the word in slot k from `at` on is not below N
 unfoldable pub overFrom : List ℕ → ℕ → ℕ → ℕ → Bool
-overFrom fs N at k = leb N (wordAt fs (at + wordSize * k))
+overFrom fs N at k = leb N (nameAt fs (at + wordSize * k))
 
 -- word j, slot j % 16 of frame j / 16, is in an occupied frame and not below N
 unfoldable pub isOver : List FrameRecord → List ℕ → ℕ → ℕ → Bool
-isOver rs fs N j = isUsed (recordAt rs (j / slotCount)) and leb N (slot fs (j / slotCount) (j % slotCount))
+isOver rs fs N j = isUsed (recordAt rs (j / slotCount)) and leb N (name fs (j / slotCount) (j % slotCount))
 
 -- frame f's record is in use
 abbrev pub usedIn : List FrameRecord → ℕ → Bool
@@ -145,12 +145,12 @@ Entries row n t = (f : ℕ) → f < n → entry t f ≡ row f
 
 -- the row has the numbers of the words from `at` on, from place i on
 abbrev pub HasWords : List ℕ → ℕ → ℕ → (ℕ → ℕ) → ℕ → Type 0
-HasWords fs N at row i = (k : ℕ) → k < slotCount → row (i + k) ≡ numberBelow N (wordAt fs (at + wordSize * k))
+HasWords fs N at row i = (k : ℕ) → k < slotCount → row (i + k) ≡ numberBelow N (nameAt fs (at + wordSize * k))
 
 -- the numbers of the words from `at` on, one after the other
 pub record BelowOf (fs : List ℕ) (N at : ℕ) (ns : List ℕ) : Type 0 where
   pub size : length ns ≡ slotCount
-  pub right : (k : ℕ) → k < slotCount → getD ns k 0 ≡ numberBelow N (wordAt fs (at + wordSize * k))
+  pub right : (k : ℕ) → k < slotCount → getD ns k 0 ≡ numberBelow N (nameAt fs (at + wordSize * k))
 
 -- the words from `at` on were noted: in any row that has them, the row goes on
 abbrev pub NotesWords : List ℕ → ℕ → ℕ → Seen → Seen → Bool → Type 0
@@ -163,7 +163,7 @@ NotesNumbers fs N at page seen seen' fresh =
 
 -- none of the words from `at` on is a number below N
 abbrev pub NoNumber : List ℕ → ℕ → ℕ → Type 0
-NoNumber fs N at = (k : ℕ) → k < slotCount → numberBelow N (wordAt fs (at + wordSize * k)) ≡ 0
+NoNumber fs N at = (k : ℕ) → k < slotCount → numberBelow N (nameAt fs (at + wordSize * k)) ≡ 0
 
 -- what a word counts for in a sum
 abbrev pub overWeight : ℕ

@@ -15,8 +15,8 @@ use lib.ListN.{length, set}
 use lib.Seq.{getD-set-same, getD-set-other}
 use lib.Bits.{bitOr, bitAnd, or-add-and, and-le-l, and-le-r, or-zero-l}
 use Rattle.page.specs.Figures.{slotCount, pageSize, wordSize, mostPages}
-use Rattle.page.specs.Word.{wordAt}
-use Rattle.page.specs.Page.{slot}
+use Rattle.page.specs.Word.{nameAt}
+use Rattle.page.specs.Page.{slot, name}
 use Rattle.machine.specs.declared.FrameRecord.{FrameRecord}
 use Rattle.machine.specs.Tests.{_and_}
 use Rattle.machine.specs.Laws.TestLaws.{pick-yes, pick-no, both, and-true, and-yes, and-no, clash}
@@ -116,7 +116,7 @@ pub numbers-lt : (fs : List ℕ) (N at : ℕ) (ns : List ℕ) → 1 ≤ N → Be
 numbers-lt fs N at ns o B k h = rw (B .right k h) (below-lt N _ o)
 
 -- the word in slot k of frame f, from where the frame starts
-pub slot-from : (fs : List ℕ) (f k : ℕ) → slot fs f k ≡ wordAt fs (pageSize * f + wordSize * k)
+pub slot-from : (fs : List ℕ) (f k : ℕ) → name fs f k ≡ nameAt fs (pageSize * f + wordSize * k)
 unfolding slot
 slot-from fs f k = refl
 
@@ -140,13 +140,13 @@ module _ (rs : List FrameRecord) (fs : List ℕ) (N f : ℕ) where
   pub numbers-page : isUsed (recordAt rs f) ≡ true → numbers rs fs N (perFrame * f) ≡ pageIn rs f
   unfolding numberIn
   numbers-page u =
-      ap (numbers rs fs N) (sym (add-zero (perFrame * f))) ∙ numbers-used 0 (omega arith) u ∙ sym (pick-yes (numberBelow N (slot fs f (0 - 1))) (eq-eqb 0 0 refl) refl)
+      ap (numbers rs fs N) (sym (add-zero (perFrame * f))) ∙ numbers-used 0 (omega arith) u ∙ sym (pick-yes (numberBelow N (name fs f (0 - 1))) (eq-eqb 0 0 refl) refl)
 
-  pub numbers-word : (k : ℕ) → k < slotCount → isUsed (recordAt rs f) ≡ true → numbers rs fs N (perFrame * f + (1 + k)) ≡ numberBelow N (slot fs f k)
+  pub numbers-word : (k : ℕ) → k < slotCount → isUsed (recordAt rs f) ≡ true → numbers rs fs N (perFrame * f + (1 + k)) ≡ numberBelow N (name fs f k)
   unfolding numberIn
   numbers-word k h u =
       let e : 1 + k - 1 ≡ k = omega arith in
-      numbers-used (1 + k) (omega arith) u ∙ sym (pick-no (pageIn rs f) (ne-eqb (1 + k) 0 (λ z. omega arith)) refl) ∙ ap (λ (x : ℕ). numberBelow N (slot fs f x)) e
+      numbers-used (1 + k) (omega arith) u ∙ sym (pick-no (pageIn rs f) (ne-eqb (1 + k) 0 (λ z. omega arith)) refl) ∙ ap (λ (x : ℕ). numberBelow N (name fs f x)) e
 
   -- the row has the words of an occupied frame
   has-words : isUsed (recordAt rs f) ≡ true → HasWords fs N (pageSize * f) (numbers rs fs N) (perFrame * f + 1)
@@ -183,7 +183,7 @@ module _ (rs : List FrameRecord) (fs : List ℕ) (N f : ℕ) where
 
 -- ---- the word that was read
 
-module _ (fs : List ℕ) (N at k w : ℕ) (e : w ≡ wordAt fs (at + wordSize * k)) where
+module _ (fs : List ℕ) (N at k w : ℕ) (e : w ≡ nameAt fs (at + wordSize * k)) where
   pub over-high : N ≤ w → overFrom fs N at k ≡ true
   unfolding overFrom
   over-high l = rw (← e) (le-leb N w l)
@@ -217,7 +217,7 @@ pub record SumsTo (fs : List ℕ) (N at k sum : ℕ) : Type 0 where
   pub low : ℕ
   pub parts : sum ≡ overWeight * countIf k (overFrom fs N at) + low
   pub few : low ≤ 4095 * k
-  pub none : low ≡ 0 → (j : ℕ) → j < k → numberBelow N (wordAt fs (at + wordSize * j)) ≡ 0
+  pub none : low ≡ 0 → (j : ℕ) → j < k → numberBelow N (nameAt fs (at + wordSize * j)) ≡ 0
 
 module _ (fs : List ℕ) (N at : ℕ) where
   pub sums-none : SumsTo fs N at 0 0
@@ -227,7 +227,7 @@ module _ (fs : List ℕ) (N at : ℕ) where
   sums-few k sum h s = omega (arith, s .parts, s .few, count-le k (overFrom fs N at))
 
   -- one more word
-  pub sums-more : 1 ≤ N → N ≤ mostPages → (k sum w r : ℕ) → w ≡ wordAt fs (at + wordSize * k) → WordWeighs (N - 1) w r → SumsTo fs N at k sum → SumsTo fs N at (k + 1) (sum + r)
+  pub sums-more : 1 ≤ N → N ≤ mostPages → (k sum w r : ℕ) → w ≡ nameAt fs (at + wordSize * k) → WordWeighs (N - 1) w r → SumsTo fs N at k sum → SumsTo fs N at (k + 1) (sum + r)
   sums-more o l k sum w r e W s = elim (decLt w N) [
     | yes h ↦
         let c : countIf (k + 1) (overFrom fs N at) ≡ countIf k (overFrom fs N at) = count-no k (overFrom fs N at) (over-low fs N at k w e h) in

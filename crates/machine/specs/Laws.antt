@@ -10,3 +10,4 @@ pub mod MoveLaws
 pub mod Ready
 pub mod RuleLaws
 pub mod ResidentWords
+pub mod ByName

@@ -24,22 +24,19 @@ returns c = record {
   notes = λ row i h t k. absurd (fails (c .before .is-fitting .result) _ (c .before .is-fitting .ensures) (not-true _ (c .if1 .taken)) k);
 }
 
-from-u8-requires : tie.Need-from-u8-requires
-from-u8-requires c κs = search needs
-
-mul-start : tie.Need-mul-start
-mul-start c = search needs
+start-requires : tie.Need-start-requires
+start-requires c κs = search needs
 
 note-numbers-requires : tie.Need-note-numbers-requires
 note-numbers-requires c κs =
     let k = holds (c .before .before .before .before .before .is-fitting .result) _ (c .before .before .before .before .before .is-fitting .ensures) (not-false _ (c .before .before .before .before .if1 .left)) in
     let S = c .before .before .before .before .before .before .before .pre .0 in
     let b : c .before .before .before .before .before .before .before .args .rec .page .0 < c .before .before .before .before .before .before .before .args .pages = page-below _ _ _ _ _ _ (S .some) k (eq-eqb _ 1 (c .before .before .if2 .taken)) in
-    omega (arith, S .pages, S .size, c .before .before .before .before .before .before .before .pre .1, c .before .from-u8 .ensures)
+    omega (arith, S .pages, S .size, c .before .before .before .before .before .before .before .pre .1, c .before .start .ensures)
 
 returns-2 : tie.Need-returns-2
 returns-2 c =
-    let N = rw (c .before .before .from-u8 .ensures) at (c .note-numbers .ensures) in
+    let N = rw (c .before .before .start .ensures) at (c .note-numbers .ensures) in
     record {
       few = N .few;
       fits = λ e. holds (c .before .before .before .before .before .before .is-fitting .result) (Fits (c .before .before .before .before .before .before .before .before .args .frames .now) (c .before .before .before .before .before .before .before .before .args .count) (c .before .before .before .before .before .before .before .before .args .pages) (c .before .before .before .before .before .before .before .before .args .frame .0) (c .before .before .before .before .before .before .before .before .args .rec) (c .before .before .before .before .before .before .before .before .args .above)) (c .before .before .before .before .before .before .is-fitting .ensures) (not-false _ (c .before .before .before .before .before .if1 .left));
@@ -63,8 +60,7 @@ note-spec =
     (tie.spec
     is-fitting-requires
     returns
-    from-u8-requires
-    mul-start
+    start-requires
     note-numbers-requires
     returns-2
     returns-3)
