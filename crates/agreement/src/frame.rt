@@ -6,21 +6,20 @@ use page::PageNumber;
 use seen::Seen;
 ghost use Prim.Native.Nat.{_+_, _*_, _<_, _≤_};
 ghost use lib.ListN.{length};
-ghost use Rattle.page.specs.Figures.{pageSize, wordSize, mostFrames};
+ghost use Rattle.page.specs.Figures.{pageSize, slotCount, mostFrames};
 ghost use Rattle.agreement.specs.Sizes.{Sizes};
 ghost use Rattle.agreement.specs.Deciding.{Decides};
 ghost use Rattle.agreement.specs.Fit.{Linked, Fits, FrameNoted};
 
 // Is the frame's parent occupied (`above`), and its word swizzled to the frame.
 fn is_linked(frames: &[u8], frame: FrameIndex, rec: FrameRecord, above: bool) -> bool
-    requires { ⌜ (frame .0 < mostFrames) × (pageSize * rec .parent .0 + (wordSize * rec .slot + wordSize) ≤ length (now frames)) ⌝ }
+    requires { ⌜ (frame .0 < mostFrames) × (pageSize * rec .parent .0 + pageSize ≤ length (now frames)) × (rec .slot < slotCount) ⌝ }
     ensures { λ r. ⌜ Decides r (Linked (now (frames .entry)) (frame .0) rec above) ⌝ }
 {
     if above {
-        let at = PageNumber::SIZE * crate::wide::from_u8(rec.parent.0)
-            + page::word::SIZE * crate::wide::from_u8(rec.slot);
-        let w = page::word::word_at(frames, at);
-        return w == FrameIndex::word(frame);
+        let slot = page::wide::from_u8(rec.slot);
+        let name = page::slot::slot_name(frames, rec.parent, slot);
+        return name == FrameIndex::word(frame);
     }
     false
 }
@@ -40,7 +39,7 @@ fn is_fitting(
     if frame.0 == 0 {
         return crate::record::root_fits(rec);
     }
-    if rec.used {
+    if rec.used == 1 {
         if !crate::record::resident_fits(rec, count, pages) {
             return false;
         }
@@ -68,8 +67,8 @@ pub fn note(
             fits: false,
         };
     }
-    if rec.used {
-        let start = PageNumber::SIZE * crate::wide::from_u8(frame.0);
+    if rec.used == 1 {
+        let start = FrameIndex::start(frame);
         return crate::words::note_numbers(frames, start, rec.page, pages, seen);
     }
     Noted {

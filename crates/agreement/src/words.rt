@@ -45,7 +45,7 @@ fn word_sum(frames: &[u8], start: usize, pages: u32) -> u32
     let mut sum: u32 = 0;
     let mut k: usize = 0;
     while k < PageNumber::SLOTS {
-        let w = page::word::word_at(frames, start + page::word::SIZE * k);
+        let w = page::word::name_at(frames, start + page::word::SIZE * k);
         sum += word_weight(last, w);
         k += 1;
     }
@@ -60,7 +60,7 @@ fn numbers_below(frames: &[u8], start: usize, pages: u32) -> [u32; PageNumber::S
     let mut numbers: [u32; PageNumber::SLOTS] = [0; PageNumber::SLOTS];
     let mut k: usize = 0;
     while k < PageNumber::SLOTS {
-        let w = page::word::word_at(frames, start + page::word::SIZE * k);
+        let w = page::word::name_at(frames, start + page::word::SIZE * k);
         numbers[k] = number_below(pages, w);
         k += 1;
     }
@@ -98,7 +98,7 @@ pub fn note_numbers(
     requires { ⌜ (page .0 + 1 ≤ pages) × (pages ≤ mostPages) × (start + payloadStart ≤ length (now frames)) ⌝ }
     ensures { λ r. ⌜ NumbersNoted (now (frames .entry)) pages start (page .0) (now (seen .entry)) (now (seen .exit)) (r .over) (r .fits) ⌝ }
 {
-    let x = crate::wide::from_u16(page.0);
+    let x = page::wide::from_u16(page.0);
     if seen[x] {
         return Noted {
             over: 0,

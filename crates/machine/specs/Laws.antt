@@ -2,6 +2,7 @@
 pub mod TestLaws
 pub mod PlainLaws
 pub mod AgreementFacts
+pub mod Flags
 pub mod Parents
 pub mod FoundLaws
 pub mod SweepLaws
@@ -9,3 +10,4 @@ pub mod MoveLaws
 pub mod Ready
 pub mod RuleLaws
 pub mod ResidentWords
+pub mod ByName

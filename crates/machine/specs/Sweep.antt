@@ -6,14 +6,14 @@ use lib.Dec.{eqb, ltb}
 use lib.ListN.{set}
 use Rattle.page.specs.Figures.{slotCount}
 use Rattle.page.specs.Word.{isNumber}
-use Rattle.page.specs.Page.{slot}
+use Rattle.page.specs.Page.{name}
 use Rattle.page.specs.declared.FrameIndex.{FrameIndex}
 use Rattle.machine.specs.declared.FrameRecord.{FrameRecord}
 use Rattle.machine.specs.declared.Pool.{Pool}
 use Rattle.machine.specs.declared.Standing.{Standing}
 use Rattle.machine.specs.declared.Standing.the-variants.{Root, Pinned, Parent, Evictable}
 use Rattle.machine.specs.Tests.{pick, _and_, every}
-use Rattle.machine.specs.Machine.{recordAt, frameIndex, isRoot, cooled, warmed}
+use Rattle.machine.specs.Machine.{isUsed, recordAt, frameIndex, isRoot, cooled, warmed}
 
 -- what a sweep ends with: whether a frame was taken and which, the looks, and the records and the hand after it
 pub record Swept : Type 0 where
@@ -30,7 +30,7 @@ after F h = pick (ltb (h + 1) F) (h + 1) 0
 -- the first empty frame of the n from h on, going round, or F
 unfoldable pub emptyFrom : List FrameRecord → ℕ → ℕ → ℕ → ℕ
 emptyFrom rs F zero h = F
-emptyFrom rs F (suc n) h = pick (recordAt rs h .used) (emptyFrom rs F n (after F h)) h
+emptyFrom rs F (suc n) h = pick (isUsed (recordAt rs h)) (emptyFrom rs F n (after F h)) h
 
 -- "the first empty one at or after the hand, going round", or F
 abbrev pub firstEmpty : Pool → ℕ
@@ -38,7 +38,7 @@ firstEmpty p = emptyFrom (p .records) (p .count) (p .count) (p .hand .0)
 
 -- no word of frame f is swizzled
 unfoldable pub childless : List ℕ → ℕ → Bool
-childless fs f = every slotCount (λ k. isNumber (slot fs f k))
+childless fs f = every slotCount (λ k. isNumber (name fs f k))
 
 -- where the page in frame f, with record r, stands: "The root, a pinned page and a page with a swizzled word are passed over." Any other is open to eviction.
 unfoldable pub standing : FrameRecord → List ℕ → ℕ → Standing

@@ -17,7 +17,7 @@ fn page_has(buffer: &[u8], at: usize, w: u32) -> bool
     let mut hit = false;
     let mut k: usize = 0;
     while k < PageNumber::SLOTS {
-        if word::word_at(buffer, at + word::SIZE * k) == w {
+        if word::name_at(buffer, at + word::SIZE * k) == w {
             hit = true;
         }
         k += 1;

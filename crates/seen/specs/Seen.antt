@@ -6,12 +6,12 @@ use mathlib.Core.List.{List}
 use lib.Dec.{eqb, ltb}
 use lib.ListN.{length, getD}
 use Rattle.page.specs.Figures.{pageSize, slotCount, wordSize, mostPages}
-use Rattle.page.specs.Word.{wordAt}
+use Rattle.page.specs.Word.{nameAt}
 use Rattle.machine.specs.Tests.{_and_, _or_, every, some}
 
 -- the row of the words from byte a on
 abbrev pub wordsFrom : List ℕ → ℕ → ℕ → ℕ
-wordsFrom b a k = wordAt b (a + wordSize * k)
+wordsFrom b a k = nameAt b (a + wordSize * k)
 
 -- the words of page p
 abbrev pub pageWords : List ℕ → ℕ → ℕ → ℕ

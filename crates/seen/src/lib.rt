@@ -20,7 +20,7 @@ pub fn has_word(buffer: &[u8], at: usize) -> bool
     let mut hit = false;
     let mut k: usize = 0;
     while k < PageNumber::SLOTS {
-        if word::word_at(buffer, at + word::SIZE * k) != 0 {
+        if word::name_at(buffer, at + word::SIZE * k) != 0 {
             hit = true;
         }
         k += 1;
@@ -35,7 +35,7 @@ pub fn mark_page(buffer: &[u8], at: usize, limit: usize, seen: &mut Seen) -> boo
 {
     let mut k: usize = 0;
     while k < PageNumber::SLOTS {
-        let w = word::word_at(buffer, at + word::SIZE * k) as usize;
+        let w = word::name_at(buffer, at + word::SIZE * k) as usize;
         if w != 0 {
             if limit <= w {
                 return false;

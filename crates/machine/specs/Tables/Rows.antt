@@ -4,14 +4,14 @@ use mathlib.Core.List.{List, [], _∷_, _++_, map, foldr}
 use Prim.Native.Nat.{ℕ, _-_, _*_}
 use lib.Dec.{eqb}
 use lib.ListN.{length, replicate}
-use Rattle.page.specs.Word.{wordAt, putWord}
+use Rattle.page.specs.Word.{wordAt, putWord, nameOf, renamed, givesPage}
 use Rattle.page.specs.Page.{slot, putSlot, pageOf, putPage, putPayload, bytesFrom}
 use Rattle.machine.specs.declared.FrameRecord.{FrameRecord}
 use Rattle.machine.specs.declared.Handle.{Handle}
 use Rattle.machine.specs.declared.Place.{Place}
 use Rattle.machine.specs.Tests.{pick, _and_, _or_, _⇒_, every, some, firstBroken, verdict}
 use Rattle.machine.specs.Machine.{State, state, frameIndex, pageNumber, zeroPool, openedPool, occupied, foundFrom}
-use Rattle.machine.specs.Agreement.{isBlank, rootInPlace, pagesApart, handInRange, fieldsInRange, allInRange, emptyBlank, parentsName, pointsBack, swizzledPointBack, absent, numbersAbsent, givesPage, numbersOnce, reachesRoot, allReachRoot, agree}
+use Rattle.machine.specs.Agreement.{isBlank, rootInPlace, pagesApart, handInRange, fieldsInRange, allInRange, emptyBlank, parentsName, pointsBack, swizzledPointBack, absent, numbersAbsent, numbersOnce, reachesRoot, allReachRoot, agree}
 use Rattle.machine.specs.Soundness.{wordsBelow, wordsOnce, sound}
 use Rattle.machine.specs.Moves.{plain, imageTo, writtenOutBy, writtenOutTo, cleanedTo, settled, evicted, loaded}
 use Rattle.machine.specs.Sweep.{after, emptyFrom, childless, standing, lookLeaves, lookTakes, sweepFrom}
@@ -26,23 +26,23 @@ joined = foldr (λ (x y : List ℕ). x ++ y) []
 -- ---- small machines
 
 -- a record by its fields: used, dirty, usage count (heat), slot, parent, pins, page
-abbrev made : Bool → Bool → ℕ → ℕ → ℕ → ℕ → ℕ → FrameRecord
+abbrev pub made : ℕ → ℕ → ℕ → ℕ → ℕ → ℕ → ℕ → FrameRecord
 made used dirty usage slot parent pins page =
     record { used = used; dirty = dirty; usage = usage; slot = slot; parent = frameIndex parent; pins = pins; page = pageNumber page }
 
 abbrev pub empty : FrameRecord
-empty = made false false 0 0 0 0 0
+empty = made 0 0 0 0 0 0 0
 
 -- page p, clean, with its pins and usage count, by slot k of frame f; and by the root's slot p − 1, the root itself by none
 abbrev pub child : ℕ → ℕ → ℕ → ℕ → ℕ → FrameRecord
-child f k p pins usage = made true false usage k f pins p
+child f k p pins usage = made 1 0 usage k f pins p
 
 abbrev pub resident : ℕ → ℕ → ℕ → FrameRecord
 resident p pins usage = child 0 (p - 1) p pins usage
 
 -- the same, dirty
 abbrev pub changed : ℕ → ℕ → ℕ → FrameRecord
-changed p pins usage = made true true usage (p - 1) 0 pins p
+changed p pins usage = made 1 1 usage (p - 1) 0 pins p
 
 -- a word: a page number below 256, a frame index with bit 31, or nothing
 abbrev pub names : ℕ → List ℕ
@@ -90,12 +90,12 @@ which (number p) = 5
 which (frame f) = 6
 which nowhere = 7
 
+abbrev fields : FrameRecord → List ℕ
+fields r = r .used ∷ r .dirty ∷ r .usage ∷ r .slot ∷ r .parent .0 ∷ r .pins ∷ r .page .0 ∷ []
+
 abbrev flag : Bool → ℕ
 flag false = 0
 flag true = 1
-
-abbrev fields : FrameRecord → List ℕ
-fields r = flag (r .used) ∷ flag (r .dirty) ∷ r .usage ∷ r .slot ∷ r .parent .0 ∷ r .pins ∷ r .page .0 ∷ []
 
 -- a place's fields: the refusal, whether it is in the store, start and size
 abbrev pub placed : Place → List ℕ
@@ -142,6 +142,6 @@ sameNumbers (x ∷ xs) (y ∷ ys) = eqb x y && sameNumbers xs ys
 
 -- every row gives what document 01 says. To unfold it unfolds the definitions that the rows are computed by.
 unfoldable pub allHold : List Case → Bool
-unfolding sameNumbers openCall rootCall fixCall missOut unfixCall showCall payloadPlace peekCall wordCall writeCall linkCall unlinkCall evictCall settleCall foundAnswer findCall decide verdict firstBroken pick _and_ _or_ _⇒_ every some lengthsFit handleFits rangeFits agree rootInPlace pagesApart handInRange allInRange fieldsInRange emptyBlank isBlank parentsName pointsBack swizzledPointBack absent numbersAbsent givesPage numbersOnce reachesRoot allReachRoot sound wordsBelow wordsOnce zeroPool openedPool occupied foundFrom slot wordAt putSlot putWord pageOf putPage putPayload bytesFrom plain imageTo writtenOutBy writtenOutTo cleanedTo settled evicted loaded after emptyFrom childless standing lookLeaves lookTakes sweepFrom currentWord named namedByResident repeated wordLoadable loadable doneAnswer cut
+unfolding sameNumbers openCall rootCall fixCall missOut unfixCall showCall payloadPlace peekCall wordCall writeCall linkCall unlinkCall evictCall settleCall foundAnswer findCall decide verdict firstBroken pick _and_ _or_ _⇒_ every some lengthsFit handleFits rangeFits agree rootInPlace pagesApart handInRange allInRange fieldsInRange emptyBlank isBlank parentsName pointsBack swizzledPointBack absent numbersAbsent givesPage numbersOnce reachesRoot allReachRoot sound wordsBelow wordsOnce zeroPool openedPool occupied foundFrom nameOf renamed slot wordAt putSlot putWord pageOf putPage putPayload bytesFrom plain imageTo writtenOutBy writtenOutTo cleanedTo settled evicted loaded after emptyFrom childless standing lookLeaves lookTakes sweepFrom currentWord named namedByResident repeated wordLoadable loadable doneAnswer cut
 allHold [] = true
 allHold (c ∷ cs) = sameNumbers (c .gives) (c .says) && allHold cs

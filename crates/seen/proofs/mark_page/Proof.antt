@@ -19,21 +19,21 @@ abbrev μ-loop : tie.MeasureT-loop
 loop-holds : tie.Need-loop-holds Inv-loop μ-loop
 loop-holds c = (omega arith, going-start _ _ _ (c .before .pre .2))
 
-mul-word-at : tie.Need-mul-word-at Inv-loop μ-loop
-mul-word-at c = search needs
+mul-name-at : tie.Need-mul-name-at Inv-loop μ-loop
+mul-name-at c = search needs
 
-add-word-at : tie.Need-add-word-at Inv-loop μ-loop
-add-word-at c = search needs
+add-name-at : tie.Need-add-name-at Inv-loop μ-loop
+add-name-at c = search needs
 
-word-at-requires : tie.Need-word-at-requires Inv-loop μ-loop
-word-at-requires c κs = search needs
+name-at-requires : tie.Need-name-at-requires Inv-loop μ-loop
+name-at-requires c κs = search needs
 
 cast-w : tie.Need-cast-w Inv-loop μ-loop
 cast-w c = search needs
 
 returns : tie.Need-returns Inv-loop μ-loop
 returns c =
-    stop-large _ _ _ _ _ _ (sym (c .before .before .word-at .ensures)) (c .before .before .before .before .loop .inv .1)
+    stop-large _ _ _ _ _ _ (sym (c .before .before .name-at .ensures)) (c .before .before .before .before .loop .inv .1)
     (c .before .if1 .taken) (omega arith) _ (c .if2 .taken)
 
 element-copy-out-if3 : tie.Need-element-copy-out-if3 Inv-loop μ-loop
@@ -41,7 +41,7 @@ element-copy-out-if3 c = search needs
 
 returns-2 : tie.Need-returns-2 Inv-loop μ-loop
 returns-2 c =
-    stop-seen _ _ _ _ _ _ (sym (c .before .before .before .before .word-at .ensures)) (c .before .before .before .before .before .before .loop .inv .1)
+    stop-seen _ _ _ _ _ _ (sym (c .before .before .before .before .name-at .ensures)) (c .before .before .before .before .before .before .loop .inv .1)
     (c .before .before .before .if1 .taken) (omega arith) (c .before .before .if2 .left) (omega arith) _ (c .if3 .taken)
 
 element-write-seen : tie.Need-element-write-seen Inv-loop μ-loop
@@ -57,9 +57,9 @@ loop-again : tie.Need-loop-again Inv-loop μ-loop
 loop-again c = (
   omega arith,
   ⊎-elim
-      (λ a. going-new _ _ _ _ _ _ (sym (c .before .word-at .ensures)) (c .before .before .before .loop .inv .1)
+      (λ a. going-new _ _ _ _ _ _ (sym (c .before .name-at .ensures)) (c .before .before .before .loop .inv .1)
       (a .0 .taken) (omega arith) (a .1 .left) (omega arith) _ (a .3 .left) (a .4))
-      (λ a. going-zero _ _ _ _ _ _ (sym (c .before .word-at .ensures)) (c .before .before .before .loop .inv .1) _ (a .0 .left) (a .1))
+      (λ a. going-zero _ _ _ _ _ _ (sym (c .before .name-at .ensures)) (c .before .before .before .loop .inv .1) _ (a .0 .left) (a .1))
       (c .if1 .came),
 )
 
@@ -75,9 +75,9 @@ mark-page-spec =
     Inv-loop
     μ-loop
     loop-holds
-    mul-word-at
-    add-word-at
-    word-at-requires
+    mul-name-at
+    add-name-at
+    name-at-requires
     cast-w
     returns
     element-copy-out-if3

@@ -5,7 +5,7 @@ use mathlib.Core.Path.{_≡_, refl, _∙_, ap}
 use native.Mathlib.Omega.{arith}
 use lib.ListN.{length, length-set}
 use Rattle.page.specs.Figures.{slotCount, wordSize}
-use Rattle.page.specs.Word.{wordAt}
+use Rattle.page.specs.Word.{nameAt}
 use Rattle.agreement.specs.Fit.{numberBelow, Entries}
 use Rattle.agreement.specs.FitLaws.{entries-more}
 use Rattle.agreement.proofs.words.numbers_below.Statement.{statement}
@@ -13,7 +13,7 @@ use Rattle.agreement.proofs.words.numbers_below.Tie as tie
 
 abbrev Inv-loop : tie.InvT-loop
 Inv-loop frames start pages numbers₀ k₀ numbers k =
-    (k ≤ slotCount) × (length numbers ≡ slotCount) × Entries (λ j. numberBelow pages (wordAt frames (start + wordSize * j))) k numbers
+    (k ≤ slotCount) × (length numbers ≡ slotCount) × Entries (λ j. numberBelow pages (nameAt frames (start + wordSize * j))) k numbers
 
 abbrev μ-loop : tie.MeasureT-loop
 μ-loop frames start pages numbers₀ k₀ numbers k = slotCount - k
@@ -21,14 +21,14 @@ abbrev μ-loop : tie.MeasureT-loop
 loop-holds : tie.Need-loop-holds Inv-loop μ-loop
 loop-holds c = (omega arith, refl, λ j l. absurd (omega arith))
 
-mul-word-at : tie.Need-mul-word-at Inv-loop μ-loop
-mul-word-at c = search needs
+mul-name-at : tie.Need-mul-name-at Inv-loop μ-loop
+mul-name-at c = search needs
 
-add-word-at : tie.Need-add-word-at Inv-loop μ-loop
-add-word-at c = search needs
+add-name-at : tie.Need-add-name-at Inv-loop μ-loop
+add-name-at c = search needs
 
-word-at-requires : tie.Need-word-at-requires Inv-loop μ-loop
-word-at-requires c κs = search needs
+name-at-requires : tie.Need-name-at-requires Inv-loop μ-loop
+name-at-requires c κs = search needs
 
 number-below-requires : tie.Need-number-below-requires Inv-loop μ-loop
 number-below-requires c κs = search needs
@@ -48,7 +48,7 @@ loop-less c = search needs
 loop-again : tie.Need-loop-again Inv-loop μ-loop
 loop-again c =
     let l = c .before .before .before .loop in
-    let e = c .number-below .ensures ∙ ap (numberBelow (c .before .before .before .before .before .args .pages)) (c .before .word-at .ensures) in
+    let e = c .number-below .ensures ∙ ap (numberBelow (c .before .before .before .before .before .args .pages)) (c .before .name-at .ensures) in
     (omega arith, simp length-set (l .inv .1), entries-more _ (l .numbers) (l .k) _ (omega arith) e (l .inv .2))
 
 returns : tie.Need-returns Inv-loop μ-loop
@@ -61,9 +61,9 @@ numbers-below-spec =
     Inv-loop
     μ-loop
     loop-holds
-    mul-word-at
-    add-word-at
-    word-at-requires
+    mul-name-at
+    add-name-at
+    name-at-requires
     number-below-requires
     mul-numbers
     array-write-numbers

@@ -19,14 +19,14 @@ sub-last c = search needs
 loop-holds : tie.Need-loop-holds Inv-loop μ-loop
 loop-holds c = (omega arith, sums-none _ _ _)
 
-mul-word-at : tie.Need-mul-word-at Inv-loop μ-loop
-mul-word-at c = search needs
+mul-name-at : tie.Need-mul-name-at Inv-loop μ-loop
+mul-name-at c = search needs
 
-add-word-at : tie.Need-add-word-at Inv-loop μ-loop
-add-word-at c = search needs
+add-name-at : tie.Need-add-name-at Inv-loop μ-loop
+add-name-at c = search needs
 
-word-at-requires : tie.Need-word-at-requires Inv-loop μ-loop
-word-at-requires c κs = search needs
+name-at-requires : tie.Need-name-at-requires Inv-loop μ-loop
+name-at-requires c κs = search needs
 
 word-weight-requires : tie.Need-word-weight-requires Inv-loop μ-loop
 word-weight-requires c κs = search needs
@@ -34,7 +34,7 @@ word-weight-requires c κs = search needs
 add-sum : tie.Need-add-sum Inv-loop μ-loop
 add-sum c =
     let k : c .before .before .before .loop .k + 1 ≤ 16 = omega arith in
-    omega (arith, sums-few _ _ _ _ _ k (sums-more _ _ _ (c .before .before .before .before .before .pre .0) (c .before .before .before .before .before .pre .1) _ _ _ _ (c .before .word-at .ensures) (c .word-weight .ensures) (c .before .before .before .loop .inv .1)))
+    omega (arith, sums-few _ _ _ _ _ k (sums-more _ _ _ (c .before .before .before .before .before .pre .0) (c .before .before .before .before .before .pre .1) _ _ _ _ (c .before .name-at .ensures) (c .word-weight .ensures) (c .before .before .before .loop .inv .1)))
 
 add-k : tie.Need-add-k Inv-loop μ-loop
 add-k c = search needs
@@ -43,7 +43,7 @@ loop-less : tie.Need-loop-less Inv-loop μ-loop
 loop-less c = search needs
 
 loop-again : tie.Need-loop-again Inv-loop μ-loop
-loop-again c = (omega arith, sums-more _ _ _ (c .before .before .before .before .before .pre .0) (c .before .before .before .before .before .pre .1) _ _ _ _ (c .before .word-at .ensures) (c .word-weight .ensures) (c .before .before .before .loop .inv .1))
+loop-again c = (omega arith, sums-more _ _ _ (c .before .before .before .before .before .pre .0) (c .before .before .before .before .before .pre .1) _ _ _ _ (c .before .name-at .ensures) (c .word-weight .ensures) (c .before .before .before .loop .inv .1))
 
 returns : tie.Need-returns Inv-loop μ-loop
 returns c = let e : c .before .loop .k ≡ 16 = omega arith in sums-all _ _ _ _ (rw e at (c .before .loop .inv .1))
@@ -56,9 +56,9 @@ word-sum-spec =
     μ-loop
     sub-last
     loop-holds
-    mul-word-at
-    add-word-at
-    word-at-requires
+    mul-name-at
+    add-name-at
+    name-at-requires
     word-weight-requires
     add-sum
     add-k

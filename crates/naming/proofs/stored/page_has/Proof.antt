@@ -19,14 +19,14 @@ abbrev μ-loop : tie.MeasureT-loop
 loop-holds : tie.Need-loop-holds Inv-loop μ-loop
 loop-holds c = (omega arith, sym (among-zero _ _))
 
-mul-word-at : tie.Need-mul-word-at Inv-loop μ-loop
-mul-word-at c = search needs
+mul-name-at : tie.Need-mul-name-at Inv-loop μ-loop
+mul-name-at c = search needs
 
-add-word-at : tie.Need-add-word-at Inv-loop μ-loop
-add-word-at c = search needs
+add-name-at : tie.Need-add-name-at Inv-loop μ-loop
+add-name-at c = search needs
 
-word-at-requires : tie.Need-word-at-requires Inv-loop μ-loop
-word-at-requires c κs = search needs
+name-at-requires : tie.Need-name-at-requires Inv-loop μ-loop
+name-at-requires c κs = search needs
 
 add-k : tie.Need-add-k Inv-loop μ-loop
 add-k c = search needs
@@ -38,8 +38,8 @@ loop-again : tie.Need-loop-again Inv-loop μ-loop
 loop-again c = (
   omega arith,
   ⊎-elim
-      (λ a. a .1 ∙ sym (among-hit _ _ _ (sym (c .before .word-at .ensures) ∙ a .0 .taken)))
-      (λ a. a .1 ∙ c .before .before .before .loop .inv .1 ∙ sym (among-none _ _ _ (λ z. a .0 .left (c .before .word-at .ensures ∙ z))))
+      (λ a. a .1 ∙ sym (among-hit _ _ _ (sym (c .before .name-at .ensures) ∙ a .0 .taken)))
+      (λ a. a .1 ∙ c .before .before .before .loop .inv .1 ∙ sym (among-none _ _ _ (λ z. a .0 .left (c .before .name-at .ensures ∙ z))))
       (c .if1 .came),
 )
 
@@ -55,9 +55,9 @@ page-has-spec =
     Inv-loop
     μ-loop
     loop-holds
-    mul-word-at
-    add-word-at
-    word-at-requires
+    mul-name-at
+    add-name-at
+    name-at-requires
     add-k
     loop-less
     loop-again
