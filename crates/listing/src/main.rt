@@ -27,7 +27,7 @@ fn list_next(pool: Pool, frames: &mut [u8; FRAMES], store: &mut [u8; STORE]) -> 
         return Turn { more: false, pool };
     }
     let line = recording::list_record(pool, frames, store, &entry);
-    text::print_line(line.call, line.refusal, line.frame, line.page);
+    text::print_line(line.call, line.refusal, line.frame.0, line.page.0);
     let next = line.pool;
     Turn {
         more: true,
