@@ -1,5 +1,5 @@
 /*
- * The page pool for C99 or later and for C++, on x86-64.
+ * The page pool for C99 or later and C++11 or later, on x86-64.
  *
  * `./install PREFIX` copies this header, the archive and a pkg-config file below PREFIX:
  *     cc program.c $(PKG_CONFIG_PATH=PREFIX/lib/pkgconfig pkg-config --cflags --libs pagepool)
@@ -247,9 +247,9 @@ struct pool_found pool_find(struct pool pool, const uint8_t *frames, size_t fram
 
 /* ---- the layout of these structs, as the archive has it */
 
-#if defined(__cplusplus) && __cplusplus >= 201103L
+#if defined(__cplusplus)
 #define POOL_ASSERT(name, condition) static_assert(condition, #name)
-#elif !defined(__cplusplus) && defined(__STDC_VERSION__) && __STDC_VERSION__ >= 201112L
+#elif __STDC_VERSION__ >= 201112L
 #define POOL_ASSERT(name, condition) _Static_assert(condition, #name)
 #else
 #define POOL_ASSERT(name, condition) typedef char pool_assert_##name[(condition) ? 1 : -1]

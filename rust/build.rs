@@ -5,38 +5,37 @@ use std::env;
 use std::path::{Path, PathBuf};
 use std::process::{exit, Command};
 
-/// The tree that this package is part of.
-const TREE: &str = concat!(env!("CARGO_MANIFEST_DIR"), "/..");
-
 fn main() {
-    let own = Path::new(TREE).join("target/staticlib");
+    let tree =
+        Path::new(concat!(env!("CARGO_MANIFEST_DIR"), "/..")).canonicalize().expect("the package's folder");
+    let own = tree.join("target/staticlib");
     let folder = env::var_os("POOL_ARCHIVES").map_or_else(|| own.clone(), PathBuf::from);
     println!("cargo::rerun-if-env-changed=POOL_ARCHIVES");
     println!("cargo::rerun-if-changed={}", folder.join("libpagepool.a").display());
     if is_same(&folder, &own) {
-        check_own();
+        check_own(&tree);
     } else if !folder.join("libpagepool.a").is_file() {
-        fail(&format!("POOL_ARCHIVES has no libpagepool.a: {}", folder.display()));
+        fail(&format!("POOL_ARCHIVES, {}, has no libpagepool.a", folder.display()));
     }
     println!("cargo::rustc-link-search=native={}", folder.display());
     println!("cargo::rustc-link-lib=static=pagepool");
 }
 
-/// Whether two paths lead to the same place, if only once that is there.
+/// Whether two paths lead to the same folder, which need not be there yet.
 fn is_same(a: &Path, b: &Path) -> bool {
     a == b || matches!((a.canonicalize(), b.canonicalize()), (Ok(a), Ok(b)) if a == b)
 }
 
 /// Asks the tree's script, again after each edit of a source.
-fn check_own() {
+fn check_own(tree: &Path) {
     for source in ["archive", "crates", "crates.txt"] {
-        println!("cargo::rerun-if-changed={TREE}/{source}");
+        println!("cargo::rerun-if-changed={}", tree.join(source).display());
     }
-    match Command::new(format!("{TREE}/archive")).arg("--check").output() {
+    match Command::new(tree.join("archive")).arg("--check").output() {
         Ok(check) if check.status.success() => (),
         Ok(check) => fail(&String::from_utf8_lossy(&check.stderr)),
         Err(error) => {
-            fail(&format!("{TREE}/archive: {error}; POOL_ARCHIVES names the folder of an archive elsewhere"))
+            fail(&format!("no script archive, {error}; POOL_ARCHIVES names a folder with an archive"))
         }
     }
 }

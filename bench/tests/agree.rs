@@ -140,13 +140,14 @@ impl Trial {
         }
     }
 
-    /// Alters a field, a word or a length.
+    /// Alters a field, a word, a length or who is whose parent.
     fn damage(&mut self, state: &mut State) {
         let (frames, pages) = (state.frames.len() / PAGE_SIZE, state.store.len() / PAGE_SIZE);
-        match self.random.below(8) {
+        match self.random.below(9) {
             0 => self.damage_sizes(state),
             1..=3 => self.damage_record(state),
-            4 | 5 => self.damage_word(state, frames, |state| &mut state.frames),
+            4 => self.damage_parents(state),
+            5 | 6 => self.damage_word(state, frames, |state| &mut state.frames),
             _ => {
                 for _ in 0..pages {
                     self.damage_word(state, pages, |state| &mut state.store);
@@ -180,6 +181,20 @@ impl Trial {
         }
     }
 
+    /// Makes a resident page the child of another, or of itself: rule 2 is broken by nothing else where they are in a circle.
+    fn damage_parents(&mut self, state: &mut State) {
+        let used: Vec<usize> = (1..64).filter(|frame| state.pool.records[*frame].is_used()).collect();
+        if used.is_empty() {
+            return;
+        }
+        let [child, parent] = [0; 2].map(|_| used[self.random.below(used.len())]);
+        let record = &mut state.pool.records[child];
+        let (named, slot) = (usize::from(record.parent), usize::from(record.slot));
+        (record.parent, record.slot) = (FrameIndex(parent as u8), 15);
+        put_word(state, named, slot, 0);
+        put_word(state, parent, 15, 1 << 31 | child as u32);
+    }
+
     /// Puts any word into a slot of one of the pages of a buffer.
     fn damage_word(&mut self, state: &mut State, pages: usize, buffer: fn(&mut State) -> &mut Vec<u8>) {
         let word = match self.random.below(3) {
@@ -190,6 +205,12 @@ impl Trial {
         let at = PAGE_SIZE * self.random.below(pages) + 4 * self.random.below(SLOTS);
         buffer(state)[at..at + 4].copy_from_slice(&word.to_le_bytes());
     }
+}
+
+/// Puts a word into a slot of the page in a frame.
+fn put_word(state: &mut State, frame: usize, slot: usize, word: u32) {
+    let at = PAGE_SIZE * frame + 4 * slot;
+    state.frames[at..at + 4].copy_from_slice(&word.to_le_bytes());
 }
 
 #[test]

@@ -57,8 +57,9 @@ pub fn root(pool: &mut Pool, frames: &[u8], store: &[u8]) -> Result<Fixed, Refus
     call!(pool_root(*pool, frames.as_ptr, store.as_ptr)).answer(pool)
 }
 
-/// Pins the page that a slot of the handle's page names, and loads it first if it isn't resident. Refused: 1, 2, 3, 4, 7; 13
-/// if it is resident, 14 and 15 if not.
+/// Pins the page that a slot of the handle's page names, and loads it first if it isn't resident. After
+/// [`NoFrame`](Refusal::NoFrame), unfix a page without resident children and fix again, or open with more frames. Refused: 1,
+/// 2, 3, 4, 7; 13 if it is resident, 14 and 15 if not.
 pub fn fix(
     pool: &mut Pool,
     frames: &mut [u8],

@@ -1,25 +1,47 @@
 //! Rule 2 in one pass over the frames. Where each record's parent word is swizzled to its frame, and there are no more words
 //! of N or above than such records, every swizzled word points back and every other word is a number below N.
-use super::page::{swizzled_to, word, words, Page};
+use super::page::{overlaid, swizzled_to, word, words, Page};
 use super::seen::Seen;
 use pagepool::{FrameIndex, FrameRecord, PageNumber, Pool, MAX_USAGE, SLOTS};
 
-/// Whether records and frames agree. Adds the resident pages but the root, and the numbers in their words, to an empty table.
-pub fn agrees(pool: &Pool, frames: &[Page], seen: &mut Seen) -> bool {
+/// How many frames are occupied, where records and frames agree. Adds the resident pages but the root, and the numbers in their
+/// words, to an empty table.
+pub fn occupied<const MOST: usize>(pool: &Pool, frames: &[Page], seen: &mut Seen<MOST>) -> Option<usize> {
     let (records, rest) = pool.records.split_at(frames.len());
-    let pages = u32::from(pool.pages);
-    usize::from(pool.hand) < frames.len()
-        && root_fits(&records[0])
-        && rest.iter().map(weight).sum::<u64>() == 0
-        && frames_fit(records, frames, pages, seen)
-        && lead_to_root(records)
+    let fits = usize::from(pool.hand) < frames.len() && root_fits(&records[0]) && are_empty(rest);
+    if fits {
+        occupied_below(records, frames, pool.pages.into(), seen)
+    } else {
+        None
+    }
 }
 
-/// A number that is 0 for the all-zero record alone.
-fn weight(record: &FrameRecord) -> u64 {
-    let small = u32::from_le_bytes([record.used, record.dirty, record.usage, record.slot]);
-    let large = u32::from(record.pins) | u32::from(record.page) << 16;
-    u64::from(small) + u64::from(large) + u64::from(record.parent.0)
+/// The fields of records that should be all zero, overlaid: in three numbers, so that one field needn't wait for another.
+#[derive(Default)]
+struct Empties {
+    small: u32,
+    parent: u8,
+    large: u32,
+}
+
+impl Empties {
+    #[inline(always)]
+    fn add(&mut self, record: &FrameRecord) {
+        self.small |= u32::from_le_bytes([record.used, record.dirty, record.usage, record.slot]);
+        self.parent |= record.parent.0;
+        self.large |= u32::from(record.pins) | u32::from(record.page) << 16;
+    }
+
+    /// Whether the records are all zero.
+    fn fit(&self) -> bool {
+        self.small | u32::from(self.parent) | self.large == 0
+    }
+}
+
+fn are_empty(records: &[FrameRecord]) -> bool {
+    let mut empties = Empties::default();
+    records.iter().for_each(|record| empties.add(record));
+    empties.fit()
 }
 
 fn root_fits(root: &FrameRecord) -> bool {
@@ -27,24 +49,32 @@ fn root_fits(root: &FrameRecord) -> bool {
     root.is_used() && root.dirty <= 1 && root.page == PageNumber(0) && parentless && root.usage <= MAX_USAGE
 }
 
-/// Whether each record fits by itself and its parent's word names its frame, and no page or number stands twice.
-fn frames_fit(records: &[FrameRecord], frames: &[Page], pages: u32, seen: &mut Seen) -> bool {
+/// The same for the records of the F frames alone: whether each fits by itself and its parent's word names its frame, and no
+/// page or number stands twice.
+fn occupied_below<const MOST: usize>(
+    records: &[FrameRecord],
+    frames: &[Page],
+    pages: u32,
+    seen: &mut Seen<MOST>,
+) -> Option<usize> {
     let mut tally = Tally::default();
     tally.add_page(&frames[0], pages, seen);
-    let mut others = 0;
+    let (mut others, mut empties, mut in_order) = (0, Empties::default(), true);
     for (frame, record) in records.iter().enumerate().skip(1) {
         if record.is_used() {
             if !in_range(record, frames.len(), pages) || !is_linked(record, frame, records, frames) {
-                return false;
+                return None;
             }
+            in_order &= usize::from(record.parent) < frame;
             tally.repeated |= seen.add(record.page.into());
             tally.add_page(&frames[frame], pages, seen);
             others += 1;
-        } else if weight(record) != 0 {
-            return false;
+        } else {
+            empties.add(record);
         }
     }
-    tally.over == others && !tally.repeated
+    let agree = tally.over == others && !tally.repeated && empties.fit();
+    (agree && (in_order || lead_to_root(records))).then_some(others + 1)
 }
 
 fn in_range(record: &FrameRecord, count: usize, pages: u32) -> bool {
@@ -62,41 +92,34 @@ fn is_linked(record: &FrameRecord, frame: usize, records: &[FrameRecord], frames
         && word(&frames[parent], record.slot.into()) == swizzled_to(FrameIndex(frame as u8))
 }
 
-/// How many words are N or above, and whether a page or a number below N stood twice.
+/// How many words are N or above, and whether a page or a number below N stood twice. Pages without words are passed over.
 #[derive(Default)]
 struct Tally {
-    over: u32,
+    over: usize,
     repeated: bool,
 }
 
 impl Tally {
-    fn add_page(&mut self, page: &Page, pages: u32, seen: &mut Seen) {
-        let sum = sum_of_words(page, pages);
-        self.over += sum / OVER;
-        if !sum.is_multiple_of(OVER) {
-            self.repeated |= add_numbers(page, pages, seen);
+    #[inline(always)]
+    fn add_page<const MOST: usize>(&mut self, page: &Page, pages: u32, seen: &mut Seen<MOST>) {
+        if overlaid(page) != 0 {
+            self.add_words(page, pages, seen);
+        }
+    }
+
+    fn add_words<const MOST: usize>(&mut self, page: &Page, pages: u32, seen: &mut Seen<MOST>) {
+        for word in words(page) {
+            if word >= pages {
+                self.over += 1;
+            } else if word != 0 {
+                self.repeated |= seen.add(word);
+            }
         }
     }
 }
 
-/// What a word of N or above counts in a sum: more than the numbers of a page together.
-const OVER: u32 = 1 << 16;
-
-/// The sum of the numbers below N in a page, and of what its other words count. Not inlined, or the words aren't compared side
-/// by side.
-#[inline(never)]
-fn sum_of_words(page: &Page, pages: u32) -> u32 {
-    words(page).iter().map(|word| if *word < pages { *word } else { OVER }).sum()
-}
-
-/// Adds the numbers below N in a page to the table: whether one was there. Not inlined, or its loads are shared with the sum.
-#[inline(never)]
-fn add_numbers(page: &Page, pages: u32, seen: &mut Seen) -> bool {
-    let numbers = words(page).map(|word| if word < pages { word } else { 0 });
-    numbers.iter().fold(false, |known, number| known | seen.add_unless_zero(*number))
-}
-
 /// Whether following parents leads each occupied frame to frame 0. A walk stops at a frame that is known to.
+#[inline(never)]
 fn lead_to_root(records: &[FrameRecord]) -> bool {
     let mut known: u64 = 1;
     for frame in (1..records.len()).filter(|frame| records[*frame].is_used()) {

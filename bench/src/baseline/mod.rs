@@ -9,17 +9,17 @@ mod seen;
 
 use page::{pages_of, pages_of_mut, SWIZZLE_BIT};
 use pagepool::{
-    Fixed, FrameIndex, FrameRecord, Handle, PageNumber, Pool, Refusal, MAX_PINS, MAX_USAGE, PAGE_SIZE,
-    PAYLOAD_SIZE, PAYLOAD_START,
+    Fixed, FrameIndex, FrameRecord, Handle, PageNumber, Pool, Refusal, MAX_PINS, MAX_USAGE, MOST_PAGES,
+    PAGE_SIZE, PAYLOAD_SIZE, PAYLOAD_START,
 };
 use rules::rule;
-use seen::Seen;
+use seen::{Seen, FEW};
 
 #[inline(never)]
 pub fn open(frames: &mut [u8], store: &[u8]) -> Result<Pool, Refusal> {
     let (count, pages) = (frames.len() / PAGE_SIZE, store.len() / PAGE_SIZE);
-    rule(1, rules::lengths_fit(count, pages, frames, store))?;
-    rule(16, naming::is_sound(pages_of(store)))?;
+    rule(Refusal::WrongLength, rules::lengths_fit(count, pages, frames, store))?;
+    rule(Refusal::UnsoundStore, naming::is_sound(pages_of(store)))?;
     frames[..PAGE_SIZE].copy_from_slice(&store[..PAGE_SIZE]);
     let mut pool = Pool { count: count as u16, pages: pages as u16, ..Pool::ZERO };
     pool.records[0].used = 1;
@@ -40,18 +40,35 @@ pub fn fix(
     handle: Handle,
     slot: usize,
 ) -> Result<Fixed, Refusal> {
-    let mut seen = Seen::new();
-    rules::state_with(pool, frames, store, &mut seen)?;
+    if usize::from(pool.pages) <= FEW {
+        fix_with(pool, frames, store, handle, slot, &mut Seen::<FEW>::new())
+    } else {
+        fix_with(pool, frames, store, handle, slot, &mut Seen::<MOST_PAGES>::new())
+    }
+}
+
+fn fix_with<const MOST: usize>(
+    pool: &mut Pool,
+    frames: &mut [u8],
+    store: &mut [u8],
+    handle: Handle,
+    slot: usize,
+    seen: &mut Seen<MOST>,
+) -> Result<Fixed, Refusal> {
+    let occupied = rules::state_with(pool, frames, store, seen)?;
     rules::handle(pool, handle)?;
     rules::slot(slot)?;
     let word = page::word(&pages_of(frames)[usize::from(handle.frame)], slot);
-    rule(7, word != 0)?;
+    rule(Refusal::EmptySlot, word != 0)?;
     if word >= SWIZZLE_BIT {
         return pin(pool, FrameIndex((word - SWIZZLE_BIT) as u8));
     }
     let page = PageNumber(word as u16);
-    rule(14, naming::may_come_in(&pages_of(store)[usize::from(page)], PageNumber(pool.pages), &mut seen))?;
-    let (frame, looks) = moves::frame_for_load(pool, frames, store)?;
+    rule(
+        Refusal::BadStoredPage,
+        naming::may_come_in(&pages_of(store)[usize::from(page)], PageNumber(pool.pages), seen),
+    )?;
+    let (frame, looks) = moves::frame_for_load(pool, frames, store, occupied)?;
     moves::load(pool, frames, store, handle.frame, slot, frame, page);
     Ok(Fixed { handle: Handle { frame, page }, looks })
 }
@@ -113,7 +130,7 @@ pub fn write(
 ) -> Result<(), Refusal> {
     rules::state(pool, frames, store)?;
     rules::handle(pool, handle)?;
-    rule(5, offset <= PAYLOAD_SIZE && bytes.len() <= PAYLOAD_SIZE - offset)?;
+    rule(Refusal::BadRange, offset <= PAYLOAD_SIZE && bytes.len() <= PAYLOAD_SIZE - offset)?;
     if !bytes.is_empty() {
         let start = PAGE_SIZE * usize::from(handle.frame) + PAYLOAD_START + offset;
         frames[start..start + bytes.len()].copy_from_slice(bytes);
@@ -131,13 +148,28 @@ pub fn link(
     slot: usize,
     page: PageNumber,
 ) -> Result<(), Refusal> {
-    let mut seen = Seen::new();
-    rules::state_with(pool, frames, store, &mut seen)?;
+    if usize::from(pool.pages) <= FEW {
+        link_with(pool, frames, store, handle, slot, page, &mut Seen::<FEW>::new())
+    } else {
+        link_with(pool, frames, store, handle, slot, page, &mut Seen::<MOST_PAGES>::new())
+    }
+}
+
+fn link_with<const MOST: usize>(
+    pool: &mut Pool,
+    frames: &mut [u8],
+    store: &[u8],
+    handle: Handle,
+    slot: usize,
+    page: PageNumber,
+    seen: &mut Seen<MOST>,
+) -> Result<(), Refusal> {
+    rules::state_with(pool, frames, store, seen)?;
     rules::handle(pool, handle)?;
     rules::slot(slot)?;
-    rule(6, page != PageNumber(0) && page.0 < pool.pages)?;
-    rule(8, page::word(&pages_of(frames)[usize::from(handle.frame)], slot) == 0)?;
-    rule(9, !seen.has(page) && !naming::is_stored(pool, pages_of(store), page))?;
+    rule(Refusal::BadPage, page != PageNumber(0) && page.0 < pool.pages)?;
+    rule(Refusal::FullSlot, page::word(&pages_of(frames)[usize::from(handle.frame)], slot) == 0)?;
+    rule(Refusal::AlreadyNamed, !seen.has(page) && !naming::is_stored(pool, pages_of(store), page))?;
     put_link(pool, frames, handle, slot, page.into());
     Ok(())
 }
@@ -154,8 +186,8 @@ pub fn unlink(
     rules::handle(pool, handle)?;
     rules::slot(slot)?;
     let word = page::word(&pages_of(frames)[usize::from(handle.frame)], slot);
-    rule(7, word != 0)?;
-    rule(10, word < SWIZZLE_BIT)?;
+    rule(Refusal::EmptySlot, word != 0)?;
+    rule(Refusal::Resident, word < SWIZZLE_BIT)?;
     put_link(pool, frames, handle, slot, 0);
     Ok(())
 }
@@ -166,7 +198,7 @@ pub fn evict(pool: &mut Pool, frames: &mut [u8], store: &mut [u8], page: PageNum
     rules::page(pool, page)?;
     let frame = frame_of(pool, page).ok_or(Refusal::NotResident)?;
     let closed = frame == FrameIndex(0) || pool.record(frame).pins > 0;
-    rule(12, !closed && !page::has_swizzled(&pages_of(frames)[usize::from(frame)]))?;
+    rule(Refusal::NotOpen, !closed && !page::has_swizzled(&pages_of(frames)[usize::from(frame)]))?;
     moves::evict(pool, frames, store, frame);
     Ok(())
 }
@@ -204,7 +236,7 @@ fn frame_of(pool: &Pool, page: PageNumber) -> Option<FrameIndex> {
 /// One pin and one usage more for the page in a frame.
 fn pin(pool: &mut Pool, frame: FrameIndex) -> Result<Fixed, Refusal> {
     let record = pool.record_mut(frame);
-    rule(13, record.pins < MAX_PINS)?;
+    rule(Refusal::TooManyPins, record.pins < MAX_PINS)?;
     record.pins += 1;
     record.usage = MAX_USAGE.min(record.usage + 1);
     Ok(Fixed { handle: Handle { frame, page: record.page }, looks: 0 })

@@ -72,39 +72,57 @@ pub fn frame_for_load(
     pool: &mut Pool,
     frames: &mut [u8],
     store: &mut [u8],
+    occupied: usize,
 ) -> Result<(FrameIndex, u16), Refusal> {
-    if let Some(frame) = first_empty(pool) {
-        return Ok((frame, 0));
+    if occupied < usize::from(pool.count) {
+        return Ok((first_empty(pool), 0));
     }
     let (victim, looks) = sweep(pool).ok_or(Refusal::NoFrame)?;
     evict(pool, frames, store, victim);
     Ok((victim, looks))
 }
 
-/// The first empty frame at or after the hand, going round.
-fn first_empty(pool: &Pool) -> Option<FrameIndex> {
+/// The first empty frame at or after the hand, going round. There is one.
+fn first_empty(pool: &Pool) -> FrameIndex {
     let (before, after) = records(pool).split_at(pool.hand.into());
     let empty = |records: &[FrameRecord]| records.iter().position(|record| !record.is_used());
     let frame = empty(after).map(|at| at + before.len()).or_else(|| empty(before));
-    frame.map(|frame| FrameIndex(frame as u8))
+    FrameIndex(frame.unwrap_or(0) as u8)
 }
 
 /// The clock sweep, worked out and not walked: the open frame of least usage that comes first from the hand on is taken, after
 /// as many whole rounds as that usage. Gives it with the looks.
 fn sweep(pool: &mut Pool) -> Option<(FrameIndex, u16)> {
     let (count, hand) = (usize::from(pool.count), usize::from(pool.hand));
-    let ahead = |frame| if frame < hand { frame + count - hand } else { frame - hand };
     let open = open_frames(records(pool));
     let rounds = (0..=MAX_USAGE).find(|usage| open[usize::from(*usage)] != 0)?;
     let victim = first_from(hand, open[usize::from(rounds)]);
-    let distance = ahead(victim);
     let any = open.iter().fold(0, |any, mask| any | mask);
-    for (frame, record) in pool.records[..count].iter_mut().enumerate() {
-        let lost = rounds + u8::from(ahead(frame) < distance);
-        record.usage -= if any >> frame & 1 == 1 { lost } else { 0 };
+    if rounds > 0 {
+        lose_usage(pool, any, rounds);
     }
+    lose_usage(pool, any & passed(hand, victim), 1);
     pool.hand = FrameIndex(if victim + 1 < count { victim as u8 + 1 } else { 0 });
+    let distance = if victim < hand { victim + count - hand } else { victim - hand };
     Some((FrameIndex(victim as u8), u16::from(rounds) * pool.count + distance as u16 + 1))
+}
+
+/// Takes so much off the usage of the frames of a mask.
+fn lose_usage(pool: &mut Pool, mut mask: u64, lost: u8) {
+    while mask != 0 {
+        pool.records[mask.trailing_zeros() as usize].usage -= lost;
+        mask &= mask - 1;
+    }
+}
+
+/// The frames from the hand on, going round, that come before the victim, as a mask.
+fn passed(hand: usize, victim: usize) -> u64 {
+    let below = |frame: usize| (1 << frame) - 1;
+    if victim < hand {
+        below(victim) | !below(hand)
+    } else {
+        below(victim) & !below(hand)
+    }
 }
 
 /// The first frame of a mask at or after the hand, going round. The mask isn't empty.
@@ -114,14 +132,14 @@ fn first_from(hand: usize, mask: u64) -> usize {
     from.trailing_zeros() as usize
 }
 
-/// The frames open to eviction, as a mask for each usage: not the root's, not pinned, with no swizzled word.
+/// The frames open to eviction, as a mask for each usage: not the root's, not pinned, with no swizzled word. None is empty.
 fn open_frames(records: &[FrameRecord]) -> [u64; MAX_USAGE as usize + 1] {
-    let (mut unpinned, mut low, mut high) = (0, 0, 0);
+    let (mut closed, mut low, mut high) = (1, 0, 0);
     for (frame, record) in records.iter().enumerate() {
-        unpinned |= u64::from(record.is_used() & (record.pins == 0)) << frame;
+        closed |= u64::from(record.pins != 0) << frame;
         low |= u64::from(record.usage & 1) << frame;
         high |= u64::from(record.usage >> 1) << frame;
     }
-    let open = unpinned & !parents(records) & !1;
+    let open = !(closed | parents(records)) & u64::MAX >> (64 - records.len());
     [open & !low & !high, open & low & !high, open & !low & high, open & low & high]
 }

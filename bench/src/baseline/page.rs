@@ -33,7 +33,12 @@ pub fn swizzled_to(frame: FrameIndex) -> u32 {
 
 /// The words of a page, overlaid.
 pub fn overlaid(page: &Page) -> u32 {
-    words(page).iter().fold(0, |bits, word| bits | word)
+    overlay(&words(page))
+}
+
+/// Words overlaid: 0 where each is.
+pub fn overlay(words: &[u32]) -> u32 {
+    words.iter().fold(0, |bits, word| bits | word)
 }
 
 /// Whether a word of the page is swizzled.

@@ -1,27 +1,23 @@
 //! A table of page numbers.
-use pagepool::{PageNumber, MOST_PAGES};
+use pagepool::PageNumber;
 
-/// Whether each number was added. 0 never is.
-pub struct Seen([bool; MOST_PAGES]);
+/// The pages that a small table has room for, which takes next to no time to clear.
+pub const FEW: usize = 256;
 
-impl Seen {
-    pub fn new() -> Seen {
-        Seen([false; MOST_PAGES])
+/// Whether each number below `MOST` was added.
+pub struct Seen<const MOST: usize>([bool; MOST]);
+
+impl<const MOST: usize> Seen<MOST> {
+    pub fn new() -> Seen<MOST> {
+        Seen([false; MOST])
     }
 
     pub fn has(&self, page: PageNumber) -> bool {
         self.0[usize::from(page)]
     }
 
-    /// Adds a number other than 0: whether it was there.
+    /// Adds a number: whether it was there.
     pub fn add(&mut self, number: u32) -> bool {
-        std::mem::replace(&mut self.0[number as usize % MOST_PAGES], true)
-    }
-
-    /// Adds a number, unless it is 0: whether it was there. Without a branch.
-    pub fn add_unless_zero(&mut self, number: u32) -> bool {
-        let was = self.add(number);
-        self.0[0] = false;
-        was
+        std::mem::replace(&mut self.0[number as usize % MOST], true)
     }
 }
