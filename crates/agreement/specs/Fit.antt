@@ -6,10 +6,10 @@ use mathlib.Core.Bool.{Bool, true, false}
 use mathlib.Core.List.{List}
 use mir.Val.{boolByte}
 use lib.Dec.{eqb, ltb, leb}
-use lib.ListN.{length, getD}
+use lib.ListN.{length, getD, set}
 use Rattle.page.specs.Figures.{pageSize, slotCount, mostFrames, recordCount, maxUsage, maxPins, wordSize}
-use Rattle.page.specs.Word.{wordAt, frameWord}
-use Rattle.page.specs.Page.{slot}
+use Rattle.page.specs.Word.{nameAt, frameWord}
+use Rattle.page.specs.Page.{name}
 use Rattle.machine.specs.declared.FrameRecord.{FrameRecord}
 use Rattle.machine.specs.declared.Pool.{Pool}
 use Rattle.machine.specs.Tests.{pick, _and_}
@@ -74,7 +74,7 @@ pub record Resident (F N : ℕ) (r : FrameRecord) : Type 0 where
 -- frame f's parent is occupied (`above`), and its word is swizzled to f
 pub record Linked (fs : List ℕ) (f : ℕ) (r : FrameRecord) (above : Bool) : Type 0 where
   pub occupied : above ≡ true
-  pub word : slot fs (r .parent .0) (r .slot) ≡ frameWord f
+  pub word : name fs (r .parent .0) (r .slot) ≡ frameWord f
 
 -- the record of frame f, and the word that names it
 pub record Fits (fs : List ℕ) (F N f : ℕ) (r : FrameRecord) (above : Bool) : Type 0 where
@@ -99,7 +99,7 @@ perFrame = 17
 
 -- number j of an occupied frame f
 unfoldable pub numberIn : List FrameRecord → List ℕ → ℕ → ℕ → ℕ → ℕ
-numberIn rs fs N f j = pick (eqb j 0) (pageIn rs f) (numberBelow N (slot fs f (j - 1)))
+numberIn rs fs N f j = pick (eqb j 0) (pageIn rs f) (numberBelow N (name fs f (j - 1)))
 
 -- the numbers of the frames one after the other, 0 for an empty frame's
 unfoldable pub numbers : List FrameRecord → List ℕ → ℕ → ℕ → ℕ
@@ -109,11 +109,11 @@ numbers rs fs N i = pick (recordAt rs (i / perFrame) .used) (numberIn rs fs N (i
 
 -- the word in slot k from `at` on is not below N
 unfoldable pub overFrom : List ℕ → ℕ → ℕ → ℕ → Bool
-overFrom fs N at k = leb N (wordAt fs (at + wordSize * k))
+overFrom fs N at k = leb N (nameAt fs (at + wordSize * k))
 
 -- word j, slot j % 16 of frame j / 16, is in an occupied frame and not below N
 unfoldable pub isOver : List FrameRecord → List ℕ → ℕ → ℕ → Bool
-isOver rs fs N j = recordAt rs (j / slotCount) .used and leb N (slot fs (j / slotCount) (j % slotCount))
+isOver rs fs N j = recordAt rs (j / slotCount) .used and leb N (name fs (j / slotCount) (j % slotCount))
 
 -- frame f's record is in use
 abbrev pub isUsed : List FrameRecord → ℕ → Bool
@@ -136,6 +136,10 @@ pub record FramesFit (rs : List FrameRecord) (fs : List ℕ) (F N : ℕ) : Type 
 abbrev pub entry : List ℕ → ℕ → ℕ
 entry t f = getD t f 0
 
+-- the row's number k put at its place
+abbrev pub fill : (ℕ → ℕ) → ℕ → List ℕ → List ℕ
+fill row k t = set t k (row k)
+
 -- the table has the row's numbers at its first n places
 abbrev pub Entries : (ℕ → ℕ) → ℕ → List ℕ → Type 0
 Entries row n t = (f : ℕ) → f < n → entry t f ≡ row f
@@ -144,12 +148,12 @@ Entries row n t = (f : ℕ) → f < n → entry t f ≡ row f
 
 -- the row has the numbers of the words from `at` on, from place i on
 abbrev pub HasWords : List ℕ → ℕ → ℕ → (ℕ → ℕ) → ℕ → Type 0
-HasWords fs N at row i = (k : ℕ) → k < slotCount → row (i + k) ≡ numberBelow N (wordAt fs (at + wordSize * k))
+HasWords fs N at row i = (k : ℕ) → k < slotCount → row (i + k) ≡ numberBelow N (nameAt fs (at + wordSize * k))
 
 -- the numbers of the words from `at` on, one after the other
 pub record BelowOf (fs : List ℕ) (N at : ℕ) (ns : List ℕ) : Type 0 where
   pub size : length ns ≡ slotCount
-  pub right : (k : ℕ) → k < slotCount → getD ns k 0 ≡ numberBelow N (wordAt fs (at + wordSize * k))
+  pub right : (k : ℕ) → k < slotCount → getD ns k 0 ≡ numberBelow N (nameAt fs (at + wordSize * k))
 
 -- the page and then the words of an occupied frame were noted: in any row that has them, the row goes on
 abbrev pub NotesNumbers : List ℕ → ℕ → ℕ → ℕ → Seen → Seen → Bool → Type 0
@@ -158,15 +162,18 @@ NotesNumbers fs N at page seen seen' fresh =
 
 -- none of the words from `at` on is a number below N
 abbrev pub NoNumber : List ℕ → ℕ → ℕ → Type 0
-NoNumber fs N at = (k : ℕ) → k < slotCount → numberBelow N (wordAt fs (at + wordSize * k)) ≡ 0
+NoNumber fs N at = (k : ℕ) → k < slotCount → numberBelow N (nameAt fs (at + wordSize * k)) ≡ 0
 
--- what a word counts for in a sum
+-- what a word counts for in a sum: a number up to N − 1, the last, for itself, any other for more than 16 numbers below 4,096 add up to
 abbrev pub overWeight : ℕ
 overWeight = 65536
 
-pub record WordWeighs (last w r : ℕ) : Type 0 where
-  pub low : w ≤ last → r ≡ w
-  pub high : last < w → r ≡ overWeight
+unfoldable pub weight : ℕ → ℕ → ℕ
+weight last w = pick (leb w last) w overWeight
+
+-- the sum of words goes on by the one in slot k from `at` on
+abbrev pub addWord : List ℕ → ℕ → ℕ → ℕ → ℕ → ℕ
+addWord fs N at k sum = sum + weight (N - 1) (nameAt fs (at + wordSize * k))
 
 -- what the sum of the words from `at` on tells
 pub record SumsWords (fs : List ℕ) (N at sum : ℕ) : Type 0 where

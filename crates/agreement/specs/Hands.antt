@@ -5,8 +5,9 @@ use mathlib.Core.Logic.{_≢_}
 use mathlib.Core.Bool.{Bool, true}
 use mathlib.Core.List.{List, []}
 use native.Mathlib.Omega.{arith}
-use Rattle.page.specs.Figures.{slotCount, mostPages, swizzleBit}
-use Rattle.page.specs.Page.{slot}
+use Rattle.page.specs.Figures.{slotCount, mostPages}
+use Rattle.page.specs.Word.{Number}
+use Rattle.page.specs.Page.{name}
 use Rattle.machine.specs.declared.Pool.{Pool}
 use Rattle.machine.specs.Tests.{_or_}
 use Rattle.machine.specs.Laws.TestLaws.{case, on, off, same, or-left, or-right, or-second}
@@ -42,9 +43,9 @@ module _ (p : Pool) (fs : List ℕ) (S : Sizes (p .count) (p .pages) fs) (A : Ag
   row-page : (f x : ℕ) → occupied p f ≡ true → pageIn (p .records) f ≡ x → inRow x ≡ true
   row-page f x o e = row-at (perFrame * f) x (omega (arith, occupied-lt p f o)) (numbers-page (p .records) fs (p .pages) f (occupied-used p f o) ∙ e)
 
-  row-word : (f k x : ℕ) → occupied p f ≡ true → k < slotCount → slot fs f k ≡ x → x < swizzleBit → x ≢ 0 → inRow x ≡ true
+  row-word : (f k x : ℕ) → occupied p f ≡ true → k < slotCount → name fs f k ≡ x → Number x → x ≢ 0 → inRow x ≡ true
   row-word f k x o h e l n =
-      let b : slot fs f k < p .pages = A .below f k o h (omega arith) (λ z. n (sym e ∙ z)) in
+      let b : name fs f k < p .pages = A .below f k o h (omega arith) (λ z. n (sym e ∙ z)) in
       row-at (perFrame * f + (1 + k)) x (omega (arith, occupied-lt p f o)) (numbers-word (p .records) fs (p .pages) f k h (occupied-used p f o) ∙ below-low _ _ b ∙ e)
 
   -- ---- and what is named

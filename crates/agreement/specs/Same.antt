@@ -8,9 +8,9 @@ use native.Mathlib.Omega.{arith}
 use native.Mathlib.Nat.{le-refl}
 use native.Mathlib.Decide.{ℕ-discrete, decLt}
 use borrow.Author.Tests.{le-leb, leb-true}
-use Rattle.page.specs.Figures.{slotCount, recordCount, swizzleBit}
-use Rattle.page.specs.Word.{frameIn, frameWord}
-use Rattle.page.specs.Page.{slot}
+use Rattle.page.specs.Figures.{slotCount, recordCount}
+use Rattle.page.specs.Word.{frameIn, frameWord, Number, Swizzled, high, low, reading}
+use Rattle.page.specs.Page.{name}
 use Rattle.machine.specs.declared.FrameRecord.{FrameRecord}
 use Rattle.machine.specs.declared.Pool.{Pool}
 use Rattle.machine.specs.Tests.{_and_}
@@ -27,17 +27,17 @@ use Rattle.agreement.specs.Fit.{Blank, RootFits, Resident, Linked, Fits,
 use Rattle.agreement.specs.FitLaws.{blank-of, of-blank, below-low, below-high, numbers-page, numbers-word, numbers-empty}
 use Rattle.agreement.specs.Steps.{Below, climb-same}
 
-over-of : (rs : List FrameRecord) (fs : List ℕ) (N j : ℕ) → isOver rs fs N j ≡ true → (recordAt rs (j / slotCount) .used ≡ true) × (N ≤ slot fs (j / slotCount) (j % slotCount))
+over-of : (rs : List FrameRecord) (fs : List ℕ) (N j : ℕ) → isOver rs fs N j ≡ true → (recordAt rs (j / slotCount) .used ≡ true) × (N ≤ name fs (j / slotCount) (j % slotCount))
 unfolding isOver
 over-of rs fs N j t = let a = and-true (recordAt rs (j / slotCount) .used) _ t in (a .0, leb-true N _ (a .1))
 
 -- the word in slot k of frame f
-of-over : (rs : List FrameRecord) (fs : List ℕ) (N f k : ℕ) → k < slotCount → recordAt rs f .used ≡ true → N ≤ slot fs f k → isOver rs fs N (slotCount * f + k) ≡ true
+of-over : (rs : List FrameRecord) (fs : List ℕ) (N f k : ℕ) → k < slotCount → recordAt rs f .used ≡ true → N ≤ name fs f k → isOver rs fs N (slotCount * f + k) ≡ true
 unfolding isOver
 of-over rs fs N f k h u l =
     let a : (slotCount * f + k) / slotCount ≡ f = omega arith in
     let b : (slotCount * f + k) % slotCount ≡ k = omega arith in
-    rw (a, b) (both _ _ u (le-leb N (slot fs f k) l))
+    rw (a, b) (both _ _ u (le-leb N (name fs f k) l))
 
 module _ (p : Pool) (fs : List ℕ) (S : Sizes (p .count) (p .pages) fs) where
   -- each frame's record, and the word that names it
@@ -78,13 +78,13 @@ module _ (p : Pool) (fs : List ℕ) (S : Sizes (p .count) (p .pages) fs) where
           let b = resident g (q .0) m (q .1) in
           let x : parentOf p f ≡ parentOf p g = omega (arith, a .slot, b .slot) in
           let y : parentSlotOf p f ≡ parentSlotOf p g = omega (arith, a .slot, b .slot) in
-          let w : frameWord f ≡ frameWord g = sym (linked f (o .0) l (o .1) .word) ∙ ap (λ (i : ℕ). slot fs i (parentSlotOf p f)) x ∙ ap (slot fs (parentOf p g)) y ∙ linked g (q .0) m (q .1) .word in
+          let w : frameWord f ≡ frameWord g = sym (linked f (o .0) l (o .1) .word) ∙ ap (λ (i : ℕ). name fs i (parentSlotOf p f)) x ∙ ap (name fs (parentOf p g)) y ∙ linked g (q .0) m (q .1) .word in
           omega arith;
     }
 
     -- where there are no more such words, each names a frame that points back to it
     over-named : countIf (slotCount * p .count) (isOver (p .records) fs (p .pages)) + 1 ≡ countIf (p .count) (isUsed (p .records))
-        → (f k : ℕ) → occupied p f ≡ true → k < slotCount → p .pages ≤ slot fs f k → (g : ℕ) × Points p g f k × (slot fs f k ≡ frameWord g)
+        → (f k : ℕ) → occupied p f ≡ true → k < slotCount → p .pages ≤ name fs f k → (g : ℕ) × Points p g f k × (name fs f k ≡ frameWord g)
     unfolding place isOther
     over-named even f k o h l =
         let all : countIf (p .count) (isUsed (p .records)) ≡ countIf (p .count) isOther + 1 = count-without (p .count) 0 (isUsed (p .records)) (omega (arith, S .least)) (root-fits .used) in
@@ -99,7 +99,7 @@ module _ (p : Pool) (fs : List ℕ) (S : Sizes (p .count) (p .pages) fs) where
         let w = linked (r .0) (t .0) (r .1) (t .1) .word in (
           r .0,
           record { at = make-occupied p (r .0) (r .1) (t .1); other = t .0; parent = x; parentSlot = y },
-          sym (ap (λ (i : ℕ). slot fs i k) x) ∙ sym (ap (slot fs (parentOf p (r .0))) y) ∙ w,
+          sym (ap (λ (i : ℕ). name fs i k) x) ∙ sym (ap (name fs (parentOf p (r .0))) y) ∙ w,
         )
 
   -- ================ from the code's tests to the facts
@@ -125,9 +125,9 @@ module _ (p : Pool) (fs : List ℕ) (S : Sizes (p .count) (p .pages) fs) where
     unfolding row
     row-page f o = numbers-page (p .records) fs (p .pages) f (occupied-used p f o)
 
-    row-word : (f k : ℕ) → occupied p f ≡ true → k < slotCount → slot fs f k < p .pages → row (perFrame * f + (1 + k)) ≡ slot fs f k
+    row-word : (f k : ℕ) → occupied p f ≡ true → k < slotCount → name fs f k < p .pages → row (perFrame * f + (1 + k)) ≡ name fs f k
     unfolding row
-    row-word f k o h l = numbers-word (p .records) fs (p .pages) f k h (occupied-used p f o) ∙ below-low (p .pages) (slot fs f k) l
+    row-word f k o h l = numbers-word (p .records) fs (p .pages) f k h (occupied-used p f o) ∙ below-low (p .pages) (name fs f k) l
 
     root-occupied : occupied p 0 ≡ true
     root-occupied = make-occupied p 0 (omega (arith, S .least)) (root .used)
@@ -168,14 +168,14 @@ module _ (p : Pool) (fs : List ℕ) (S : Sizes (p .count) (p .pages) fs) where
           fit .fits f m .empty u
     ]
 
-    points-back : (f k : ℕ) → occupied p f ≡ true → k < slotCount → swizzleBit ≤ slot fs f k → Points p (frameIn (slot fs f k)) f k
+    points-back : (f k : ℕ) → occupied p f ≡ true → k < slotCount → Swizzled (name fs f k) → Points p (frameIn (name fs f k)) f k
     points-back f k o h l =
         let r = over-named (fit .fits) (fit .even) f k o h (omega (arith, S .pages)) in
-        let e : frameIn (slot fs f k) ≡ r .0 = omega (arith, r .2) in
+        let e : frameIn (name fs f k) ≡ r .0 = omega (arith, r .2) in
         rw e (r .1)
 
-    word-below : (f k : ℕ) → occupied p f ≡ true → k < slotCount → slot fs f k < swizzleBit → slot fs f k < p .pages
-    word-below f k o h l = elim (decLt (slot fs f k) (p .pages)) [
+    word-below : (f k : ℕ) → occupied p f ≡ true → k < slotCount → Number (name fs f k) → name fs f k < p .pages
+    word-below f k o h l = elim (decLt (name fs f k) (p .pages)) [
       | yes m ↦ m
       | no m ↦ let r = over-named (fit .fits) (fit .even) f k o h (omega arith) in absurd (omega (arith, r .2))
     ]
@@ -199,13 +199,13 @@ module _ (p : Pool) (fs : List ℕ) (S : Sizes (p .count) (p .pages) fs) where
       back = points-back;
       below = λ f k o h l n. word-below f k o h l;
       away = λ f k o h l n g og e.
-          let m : slot fs f k < p .pages = word-below f k o h l in
+          let m : name fs f k < p .pages = word-below f k o h l in
           let q : perFrame * g ≡ perFrame * f + (1 + k) = one-place (perFrame * g) (perFrame * f + (1 + k)) (omega (arith, occupied-lt p g og)) (omega (arith, occupied-lt p f o))
           (row-page g og ∙ e ∙ sym (row-word f k o h m)) (λ z. n (sym e ∙ sym (row-page g og) ∙ z)) in
           omega arith;
       once = λ f k g j of hk og hj n l e.
-          let a : slot fs f k < p .pages = word-below f k of hk l in
-          let b : slot fs g j < p .pages = omega arith in
+          let a : name fs f k < p .pages = word-below f k of hk l in
+          let b : name fs g j < p .pages = omega arith in
           let q : perFrame * f + (1 + k) ≡ perFrame * g + (1 + j) = one-place (perFrame * f + (1 + k)) (perFrame * g + (1 + j)) (omega (arith, occupied-lt p f of)) (omega (arith, occupied-lt p g og))
           (row-word f k of hk a ∙ e ∙ sym (row-word g j og hj b)) (λ z. n (sym (row-word f k of hk a) ∙ z)) in
           (omega arith, omega arith);
@@ -252,16 +252,16 @@ module _ (p : Pool) (fs : List ℕ) (S : Sizes (p .count) (p .pages) fs) where
     pub data At (i : ℕ) : Type 0 where
       nothing : numbers (p .records) fs (p .pages) i ≡ 0 → At i
       page : (f : ℕ) → occupied p f ≡ true → i ≡ perFrame * f → numbers (p .records) fs (p .pages) i ≡ pageIn (p .records) f → At i
-      loose : (f k : ℕ) → occupied p f ≡ true → k < slotCount → i ≡ perFrame * f + (1 + k) → slot fs f k < swizzleBit → slot fs f k ≢ 0 → numbers (p .records) fs (p .pages) i ≡ slot fs f k → At i
+      loose : (f k : ℕ) → occupied p f ≡ true → k < slotCount → i ≡ perFrame * f + (1 + k) → Number (name fs f k) → name fs f k ≢ 0 → numbers (p .records) fs (p .pages) i ≡ name fs f k → At i
 
     at-word : (i f k : ℕ) → i ≡ perFrame * f + (1 + k) → k < slotCount → occupied p f ≡ true → At i
     at-word i f k e h o =
-        let w : numbers (p .records) fs (p .pages) i ≡ numberBelow (p .pages) (slot fs f k) = ap (numbers (p .records) fs (p .pages)) e ∙ numbers-word (p .records) fs (p .pages) f k h (occupied-used p f o) in
-        elim (decLt (slot fs f k) (p .pages)) [
-          | no b ↦ nothing (w ∙ below-high (p .pages) (slot fs f k) (omega arith))
+        let w : numbers (p .records) fs (p .pages) i ≡ numberBelow (p .pages) (name fs f k) = ap (numbers (p .records) fs (p .pages)) e ∙ numbers-word (p .records) fs (p .pages) f k h (occupied-used p f o) in
+        elim (decLt (name fs f k) (p .pages)) [
+          | no b ↦ nothing (w ∙ below-high (p .pages) (name fs f k) (omega arith))
           | yes b ↦
-              let v : numbers (p .records) fs (p .pages) i ≡ slot fs f k = w ∙ below-low (p .pages) (slot fs f k) b in
-              elim (ℕ-discrete (slot fs f k) 0) [
+              let v : numbers (p .records) fs (p .pages) i ≡ name fs f k = w ∙ below-low (p .pages) (name fs f k) b in
+              elim (ℕ-discrete (name fs f k) 0) [
                 | yes z ↦ nothing (v ∙ z)
                 | no z ↦ loose f k o h e (omega (arith, S .pages)) z v
               ]
@@ -292,19 +292,19 @@ module _ (p : Pool) (fs : List ℕ) (S : Sizes (p .count) (p .pages) fs) where
         absurd (omega (arith, r .0, r .1))
 
     -- a word that is not below N is swizzled
-    swizzled : (j : ℕ) → j < slotCount * p .count → isOver (p .records) fs (p .pages) j ≡ true → Points p (frameIn (slot fs (j / slotCount) (j % slotCount))) (j / slotCount) (j % slotCount)
+    swizzled : (j : ℕ) → j < slotCount * p .count → isOver (p .records) fs (p .pages) j ≡ true → Points p (frameIn (name fs (j / slotCount) (j % slotCount))) (j / slotCount) (j % slotCount)
     swizzled j l t =
         let v = over-of (p .records) fs (p .pages) j t in
         let o = make-occupied p (j / slotCount) (omega arith) (v .0) in
         let h : j % slotCount < slotCount = omega arith in
-        A .back (j / slotCount) (j % slotCount) o h (elim (decLt (slot fs (j / slotCount) (j % slotCount)) swizzleBit) [
-          | no m ↦ omega arith
-          | yes m ↦ let z : slot fs (j / slotCount) (j % slotCount) ≢ 0 = λ e. omega (arith, v .1, S .some) in
+        A .back (j / slotCount) (j % slotCount) o h (elim (reading (name fs (j / slotCount) (j % slotCount))) [
+          | high g e ↦ omega arith
+          | low m ↦ let z : name fs (j / slotCount) (j % slotCount) ≢ 0 = λ e. omega (arith, v .1, S .some) in
               absurd (omega (arith, A .below (j / slotCount) (j % slotCount) o h m z, v .1))
         ])
 
     -- every such word names a frame of its own
-    frames-of : Into (slotCount * p .count) (p .count) (isOver (p .records) fs (p .pages)) (isOther is-fit) (λ j. frameIn (slot fs (j / slotCount) (j % slotCount)))
+    frames-of : Into (slotCount * p .count) (p .count) (isOver (p .records) fs (p .pages)) (isOther is-fit) (λ j. frameIn (name fs (j / slotCount) (j % slotCount)))
     unfolding isOther
     frames-of = record {
       below = λ j l t. occupied-lt p _ (swizzled j l t .at);

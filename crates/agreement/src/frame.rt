@@ -6,7 +6,7 @@ use page::PageNumber;
 use seen::Seen;
 ghost use Prim.Native.Nat.{_+_, _*_, _<_, _≤_};
 ghost use lib.ListN.{length};
-ghost use Rattle.page.specs.Figures.{pageSize, wordSize, mostFrames};
+ghost use Rattle.page.specs.Figures.{pageSize, slotCount, mostFrames};
 ghost use Rattle.seen.specs.Seen.{Table};
 ghost use Rattle.agreement.specs.Sizes.{Sizes};
 ghost use Rattle.agreement.specs.Deciding.{Decides};
@@ -14,14 +14,13 @@ ghost use Rattle.agreement.specs.Fit.{Linked, Fits, FrameNoted};
 
 // Is the frame's parent occupied (`above`), and its word swizzled to the frame.
 fn is_linked(frames: &[u8], frame: FrameIndex, rec: FrameRecord, above: bool) -> bool
-    requires { ⌜ (frame .0 < mostFrames) × (pageSize * rec .parent .0 + (wordSize * rec .slot + wordSize) ≤ length (now frames)) ⌝ }
+    requires { ⌜ (frame .0 < mostFrames) × (pageSize * rec .parent .0 + pageSize ≤ length (now frames)) × (rec .slot < slotCount) ⌝ }
     ensures { λ r. ⌜ Decides r (Linked (now (frames .entry)) (frame .0) rec above) ⌝ }
 {
     if above {
-        let at = PageNumber::SIZE * crate::wide::from_u8(rec.parent.0)
-            + page::word::SIZE * crate::wide::from_u8(rec.slot);
-        let w = page::word::word_at(frames, at);
-        return w == FrameIndex::word(frame);
+        let slot = page::wide::from_u8(rec.slot);
+        let name = page::slot::slot_name(frames, rec.parent, slot);
+        return name == FrameIndex::word(frame);
     }
     false
 }
@@ -70,7 +69,7 @@ pub fn note(
         };
     }
     if rec.used {
-        let start = PageNumber::SIZE * crate::wide::from_u8(frame.0);
+        let start = FrameIndex::start(frame);
         return crate::words::note_numbers(frames, start, rec.page, pages, seen);
     }
     Noted {

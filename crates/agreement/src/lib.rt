@@ -2,7 +2,6 @@
 mod frame;
 mod record;
 mod steps;
-mod wide;
 mod words;
 
 use machine::Pool;
@@ -21,9 +20,9 @@ pub fn agrees(pool: Pool, frames: &[u8], residents: &mut Residents, seen: &mut S
     ensures { λ r. ⌜ (r ≡ agree pool (now (frames .entry))) × (r ≡ true → Handed pool (now (frames .entry)) (now (residents .exit)) (now (seen .exit))) ⌝ }
 {
     let records = pool.records;
-    let count = wide::from_u16(pool.count);
+    let count = page::wide::from_u16(pool.count);
     let n = pool.pages as u32;
-    if count <= wide::from_u8(pool.hand.0) {
+    if count <= page::wide::from_u8(pool.hand.0) {
         return false;
     }
     let mut parents = [0u8; FrameIndex::MOST];
@@ -33,7 +32,7 @@ pub fn agrees(pool: Pool, frames: &[u8], residents: &mut Residents, seen: &mut S
     let mut f: usize = 0;
     while f < count {
         let rec = records[f];
-        let above = records[wide::from_u8(rec.parent.0) % FrameIndex::MOST];
+        let above = records[page::wide::from_u8(rec.parent.0) % FrameIndex::MOST];
         let frame = FrameIndex(f as u8);
         let noted = frame::note(frames, frame, rec, above.used, count, n, seen);
         if !noted.fits {

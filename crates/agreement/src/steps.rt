@@ -15,7 +15,7 @@ fn jump(table: &mut [u8; FrameIndex::MOST], count: usize) -> bool
     let mut at_root = true;
     let mut f: usize = 0;
     while f < count {
-        let x = table[crate::wide::from_u8(table[f])];
+        let x = table[page::wide::from_u8(table[f])];
         table[f] = x;
         if x != 0 {
             at_root = false;

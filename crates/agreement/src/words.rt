@@ -6,7 +6,7 @@ ghost use Prim.Native.Nat.{_+_, _≤_};
 ghost use lib.ListN.{length};
 ghost use Rattle.page.specs.Figures.{payloadStart, mostPages};
 ghost use Rattle.seen.specs.Seen.{Table};
-ghost use Rattle.agreement.specs.Fit.{numberBelow, WordWeighs, SumsWords, BelowOf, NumbersNoted};
+ghost use Rattle.agreement.specs.Fit.{numberBelow, weight, SumsWords, BelowOf, NumbersNoted};
 
 // What a word that isn't below N counts for in a sum of words: more than 16 numbers below 4,096 add up to.
 const OVER: u32 = 65536;
@@ -29,7 +29,7 @@ fn number_below(pages: u32, w: u32) -> u32
 
 // What a word counts for: a number up to N − 1, the last, for itself, any other for OVER.
 fn word_weight(last: u32, w: u32) -> u32
-    ensures { λ r. ⌜ WordWeighs last w r ⌝ }
+    ensures { λ r. ⌜ r ≡ weight last w ⌝ }
 {
     if w <= last {
         return w;
@@ -46,7 +46,7 @@ fn word_sum(frames: &[u8], start: usize, pages: u32) -> u32
     let mut sum: u32 = 0;
     let mut k: usize = 0;
     while k < PageNumber::SLOTS {
-        let w = page::word::word_at(frames, start + page::word::SIZE * k);
+        let w = page::word::name_at(frames, start + page::word::SIZE * k);
         sum += word_weight(last, w);
         k += 1;
     }
@@ -61,7 +61,7 @@ fn numbers_below(frames: &[u8], start: usize, pages: u32) -> [u32; PageNumber::S
     let mut numbers: [u32; PageNumber::SLOTS] = [0; PageNumber::SLOTS];
     let mut k: usize = 0;
     while k < PageNumber::SLOTS {
-        let w = page::word::word_at(frames, start + page::word::SIZE * k);
+        let w = page::word::name_at(frames, start + page::word::SIZE * k);
         numbers[k] = number_below(pages, w);
         k += 1;
     }
@@ -79,7 +79,7 @@ pub fn note_numbers(
     requires { ⌜ (page .0 + 1 ≤ pages) × (pages ≤ mostPages) × (start + payloadStart ≤ length (now frames)) × Table (now seen) ⌝ }
     ensures { λ r. ⌜ NumbersNoted (now (frames .entry)) pages start (page .0) (now (seen .entry)) (now (seen .exit)) (r .over) (r .fits) ⌝ }
 {
-    let x = crate::wide::from_u16(page.0);
+    let x = page::wide::from_u16(page.0);
     if !seen::note(seen, x) {
         return Noted {
             over: 0,

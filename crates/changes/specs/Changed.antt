@@ -1,5 +1,5 @@
 -- What write, link and unlink leave, from what the code put where. Assumes nothing.
-use Prim.Native.Nat.{ℕ, _+_, _-_, _≤_, _<_}
+use Prim.Native.Nat.{ℕ, _+_, _*_, _-_, _≤_, _<_}
 use mathlib.Core.Path.{_≡_, refl, sym, _∙_, ap}
 use mathlib.Core.List.{List, [], _∷_, append-assoc}
 use native.Mathlib.Omega.{arith}
@@ -10,7 +10,7 @@ use lib.Dec.{leb}
 use lib.ListN.{length, take, drop}
 use lib.Seq.{take-all, drop-drop, set-getD}
 use Rattle.page.specs.declared.PageNumber.{PageNumber}
-use Rattle.page.specs.Figures.{payloadSize, mostFrames}
+use Rattle.page.specs.Figures.{pageSize, payloadStart, payloadSize, mostFrames}
 use Rattle.page.specs.Page.{payloadAt, putPayload, putPayload-none, putSlot}
 use Rattle.machine.specs.declared.FrameRecord.{FrameRecord}
 use Rattle.machine.specs.declared.Handle.{Handle}
@@ -60,15 +60,15 @@ put-dirty p h {at} m l e d =
     let i : at ≡ h .frame .0 = omega arith in
     ap (withRecord p at) d ∙ ap (madeDirty p) i
 
--- the part of the frames from a payload offset on, lent for n bytes and come back as ys
-pub put-back : (fs : List ℕ) (f offset : ℕ) (ys bytes : List ℕ) → ys ≡ bytes
-    → putMid (payloadAt f + offset) (payloadAt f + offset + length bytes - (payloadAt f + offset)) fs ys ≡ putPayload fs f offset bytes
+-- the part of the frames from a payload offset of frame f on, lent for n bytes and come back as ys
+pub put-back : (fs : List ℕ) (f start offset : ℕ) (ys bytes : List ℕ) → start ≡ pageSize * f → ys ≡ bytes
+    → putMid (start + payloadStart + offset) (start + payloadStart + offset + length bytes - (start + payloadStart + offset)) fs ys ≡ putPayload fs f offset bytes
 unfolding putPayload
-put-back fs f offset ys bytes e =
+put-back fs f start offset ys bytes s e =
     let a : ℕ = payloadAt f + offset in
     let k : a + length bytes - a ≡ length bytes = omega arith in
     let t : take (length bytes) bytes ≡ bytes = take-all (length bytes) bytes (le-refl _) in
-    rw (e, k, drop-drop (length bytes) a fs, t, append-assoc (take a fs) bytes (drop (a + length bytes) fs))
+    rw (s, e, k, drop-drop (length bytes) a fs, t, append-assoc (take a fs) bytes (drop (a + length bytes) fs))
 
 -- no bytes, at whatever frame
 nothing-written : (s : State) (f offset : ℕ) (bytes : List ℕ) → length bytes ≡ 0 → s ≡ written s f offset bytes

@@ -8,10 +8,6 @@ use machine::Pool;
 use page::FrameIndex;
 use page::PageNumber;
 ghost use mathlib.Core.Path.{_≡_};
-ghost use Prim.Native.Nat.{_+_, _*_, _≤_, _<_};
-ghost use lib.ListN.{length};
-ghost use Rattle.page.specs.Figures.{pageSize, slotCount};
-ghost use Rattle.page.specs.Page.{putSlot};
 ghost use Rattle.machine.specs.Machine.{state, dirtied as dirty};
 ghost use Rattle.machine.specs.Answers.{out, doneAnswer};
 ghost use Rattle.machine.specs.Calls.{writeCall, linkCall, unlinkCall};
@@ -59,23 +55,13 @@ pub fn write(
     if n == 0 {
         return Done { pool, refusal: 0 };
     }
-    let f = handle.frame.0 as usize;
-    let start = PageNumber::SIZE * f + PageNumber::PAYLOAD_START + offset;
+    let start = FrameIndex::start(handle.frame) + PageNumber::PAYLOAD_START + offset;
     page::copy::copy_into(&mut frames[start..start + n], bytes);
     next.records[at] = dirtied(held);
     Done {
         pool: next,
         refusal: 0,
     }
-}
-
-// Puts a word into a slot of a frame.
-fn put_in_slot(frames: &mut [u8], frame: FrameIndex, slot: usize, w: u32)
-    requires { ⌜ (pageSize * frame .0 + pageSize ≤ length (now frames)) × (slot < slotCount) ⌝ }
-    ensures { λ _. ⌜ now (frames .exit) ≡ putSlot (now (frames .entry)) (frame .0) slot w ⌝ }
-{
-    let f = frame.0 as usize;
-    page::word::put_word(frames, PageNumber::SIZE * f + page::word::SIZE * slot, w);
 }
 
 // Stores a page number, unswizzled, in an empty slot of the handle's page.
@@ -108,7 +94,7 @@ pub fn link(
     if refusal != 0 {
         return Done { pool, refusal };
     }
-    put_in_slot(frames, handle.frame, slot, PageNumber::word(page));
+    page::slot::put_in_slot(frames, handle.frame, slot, PageNumber::word(page));
     next.records[at] = dirtied(held);
     Done {
         pool: next,
@@ -138,7 +124,7 @@ pub fn unlink(pool: Pool, frames: &mut [u8], store: &[u8], handle: Handle, slot:
     if refusal != 0 {
         return Done { pool, refusal };
     }
-    put_in_slot(frames, handle.frame, slot, 0);
+    page::slot::put_in_slot(frames, handle.frame, slot, 0);
     next.records[at] = dirtied(held);
     Done {
         pool: next,

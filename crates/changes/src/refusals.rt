@@ -74,7 +74,7 @@ pub fn link_refusal(
     if n <= page.0 as usize {
         return 6;
     }
-    if guard::slot_word(frames, handle.frame, slot) != 0 {
+    if page::slot::slot_name(frames, handle.frame, slot) != 0 {
         return 8;
     }
     if naming::is_named(residents, seen, store, n, page) {
@@ -101,11 +101,11 @@ pub fn unlink_refusal(
     if refusal != 0 {
         return refusal;
     }
-    let w = guard::slot_word(frames, handle.frame, slot);
-    if w == 0 {
+    let name = page::slot::slot_name(frames, handle.frame, slot);
+    if name == 0 {
         return 7;
     }
-    if !page::word::is_number(w) {
+    if !page::word::is_number(name) {
         return 10;
     }
     0

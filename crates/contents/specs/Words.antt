@@ -7,14 +7,14 @@ use native.Mathlib.Omega.{arith}
 use native.Mathlib.Decide.{ℕ-discrete}
 use lib.ListN.{length}
 use Rattle.page.specs.declared.PageNumber.{PageNumber}
-use Rattle.page.specs.Figures.{pageSize, slotCount, mostPages, mostFrames, swizzleBit}
-use Rattle.page.specs.Word.{frameIn}
+use Rattle.page.specs.Figures.{pageSize, slotCount, mostPages, mostFrames}
+use Rattle.page.specs.Word.{frameIn, reading, low, high, Number, Swizzled}
 use Rattle.machine.specs.declared.Handle.{Handle}
 use Rattle.machine.specs.Tests.{firstBroken}
 use Rattle.machine.specs.Machine.{State, pageNumber, pageIn}
 use Rattle.machine.specs.Laws.AgreementFacts.{occupied-lt}
 use Rattle.machine.specs.Moves.{plain}
-use Rattle.machine.specs.Laws.PlainLaws.{plain-low, plain-high, reading, low, high}
+use Rattle.machine.specs.Laws.PlainLaws.{plain-low, plain-high}
 use Rattle.machine.specs.Answers.{number}
 use Rattle.machine.specs.Rules.{wordOf}
 use Rattle.machine.specs.Calls.{wordRules, wordCall}
@@ -25,10 +25,10 @@ use Rattle.residents.specs.Handed.{Handed}
 
 -- a page number below the largest N, or swizzled to one of the largest F frames
 pub record Resolvable (w : ℕ) : Type 0 where
-  pub number : w < swizzleBit → w < mostPages
-  pub frame : swizzleBit ≤ w → frameIn w < mostFrames
+  pub number : Number w → w < mostPages
+  pub frame : Swizzled w → frameIn w < mostFrames
 
--- n is the refusal by rules 1 to 4, and w the word that the code read
+-- n is the refusal by rules 1 to 4, and w the name that the code read
 module _ (s : State) (h : Handle) (k : ℕ) {residents : List ℕ} {seen : Seen} {n : ℕ} (e : (n ≡ firstBroken (wordRules s h k)) × (n ≡ 0 → Handed (s .pool) (s .frames) residents seen)) (z : n ≡ 0) where
   kept : SlotKept s h k
   kept = slot-kept s h k (sym (e .0) ∙ z)

@@ -86,16 +86,16 @@ pub fn peek<'a>(
     part::part_at(place, frames, store, number)
 }
 
-// The page number that a word of a resident page stands for, swizzled or not, by the table of the page in each frame.
-fn page_named(residents: &Residents, w: u32) -> PageNumber
-    requires { ⌜ Resolvable w ⌝ }
-    ensures { λ r. ⌜ r ≡ pageNumber (plain (pageBy (now (residents .entry))) w) ⌝ }
+// The page number that the name in a resident page stands for, swizzled or not, by the table of the page in each frame.
+fn page_named(residents: &Residents, name: u32) -> PageNumber
+    requires { ⌜ Resolvable name ⌝ }
+    ensures { λ r. ⌜ r ≡ pageNumber (plain (pageBy (now (residents .entry))) name) ⌝ }
 {
-    if page::word::is_number(w) {
-        let number = w as u16;
+    if page::word::is_number(name) {
+        let number = name as u16;
         return PageNumber(number);
     }
-    let g = page::word::frame_in(w);
+    let g = page::word::frame_in(name);
     PageNumber(residents[g])
 }
 
@@ -120,8 +120,8 @@ pub fn word(pool: Pool, frames: &[u8], store: &[u8], handle: Handle, slot: usize
     if refusal != 0 {
         return WordAnswer::Refused(refusal);
     }
-    let w = guard::slot_word(frames, handle.frame, slot);
-    WordAnswer::Names(page_named(&residents, w))
+    let name = page::slot::slot_name(frames, handle.frame, slot);
+    WordAnswer::Names(page_named(&residents, name))
 }
 
 // The frame that holds a page.

@@ -2,6 +2,7 @@
 use machine::Place;
 use page::FrameIndex;
 use page::PageNumber;
+use page::StorePlace;
 ghost use mathlib.Core.Path.{_≡_};
 ghost use mathlib.Core.Bool.{true, false};
 ghost use Rattle.machine.specs.Answers.{lent, handedBack, placeAnswer};
@@ -26,7 +27,7 @@ pub fn in_frame(frame: FrameIndex) -> Place
     Place {
         refusal: 0,
         in_store: false,
-        start: PageNumber::SIZE * frame.0 as usize + PageNumber::PAYLOAD_START,
+        start: FrameIndex::start(frame) + PageNumber::PAYLOAD_START,
         size: PageNumber::PAYLOAD_SIZE,
     }
 }
@@ -38,7 +39,7 @@ pub fn in_store(page: PageNumber) -> Place
     Place {
         refusal: 0,
         in_store: true,
-        start: PageNumber::SIZE * page.0 as usize + PageNumber::PAYLOAD_START,
+        start: StorePlace::start(PageNumber::place(page)) + PageNumber::PAYLOAD_START,
         size: PageNumber::PAYLOAD_SIZE,
     }
 }

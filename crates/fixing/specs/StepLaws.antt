@@ -5,13 +5,12 @@ use mathlib.Core.Logic.{_≢_}
 use mathlib.Core.Bool.{Bool, true, false, not}
 use mathlib.Core.List.{List, [], _∷_, _++_}
 use native.Mathlib.Omega.{arith}
-use borrow.Author.Tests.{eq-eqb, ne-eqb, lt-ltb, le-ltb, ltb-true, ltb-false}
+use borrow.Author.Tests.{eq-eqb, ne-eqb, lt-ltb, le-ltb}
 use lib.Dec.{ltb}
 use lib.ListN.{length, getD, set}
 use lib.Seq.{set-set}
-use Rattle.page.specs.Figures.{pageSize, slotCount, mostFrames, maxPins, swizzleBit}
-use Rattle.page.specs.Word.{isNumber, frameIn}
-use Rattle.page.specs.Page.{slot}
+use Rattle.page.specs.Figures.{pageSize, slotCount, mostFrames, maxPins}
+use Rattle.page.specs.Word.{isNumber, frameIn, Number, Swizzled, number-yes, number-no}
 use Rattle.machine.specs.declared.FrameRecord.{FrameRecord}
 use Rattle.machine.specs.declared.Pool.{Pool}
 use Rattle.machine.specs.declared.Handle.{Handle}
@@ -230,13 +229,13 @@ module _ (s : State) (h : Handle) (k : ℕ) (K : SlotKept s h k) {w : ℕ} (e : 
   -- a number is that of one of the N pages
   pub number-below : isNumber w ≡ true → w ≢ 0 → w < s .pool .pages
   number-below t z =
-      let l : w < swizzleBit = ltb-true w swizzleBit t in
+      let l : Number w = number-yes w t in
       let b = K .kept .agreed .below (h .frame .0) k (held-occupied (s .pool) h (K .held)) (K .slot) (omega arith) (λ y. z (e ∙ y)) in
       omega arith
 
   -- a swizzled word's frame is one of the 64
   pub frame-below : isNumber w ≡ false → frameIn w < mostFrames
   frame-below t =
-      let l : swizzleBit ≤ w = ltb-false w swizzleBit t in
+      let l : Swizzled w = number-no w t in
       let b = ready s (K .kept) .words (h .frame .0) k (K .held .below) (K .held .used) (K .slot) in
       omega arith

@@ -55,12 +55,12 @@ pub fn fix(pool: Pool, frames: &mut [u8], store: &mut [u8], handle: Handle, slot
         return answer::refused(pool, refusal);
     }
     let parent = handle.frame;
-    let w = guard::slot_word(frames, parent, slot);
-    if w == 0 {
+    let name = page::slot::slot_name(frames, parent, slot);
+    if name == 0 {
         return answer::refused(pool, 7);
     }
-    if word::is_number(w) {
-        let page = PageNumber(w as u16);
+    if word::is_number(name) {
+        let page = PageNumber(name as u16);
         return load::bring_in(
             pool,
             frames,
@@ -72,7 +72,7 @@ pub fn fix(pool: Pool, frames: &mut [u8], store: &mut [u8], handle: Handle, slot
             &mut seen,
         );
     }
-    let g = word::frame_in(w);
+    let g = word::frame_in(name);
     let child = next.records[g];
     if child.pins == FrameIndex::MAX_PINS {
         return answer::refused(pool, 13);

@@ -1,4 +1,4 @@
-// The rules that calls share, tested in their order: the number of the first broken one, 0 for none. And the word that calls with a slot look at.
+// The rules that calls share, tested in their order: the number of the first broken one, 0 for none.
 // Counts are taken from the lengths of frames and store where rule 1 was kept: the records are then passed on and not read, which spares a copy of them.
 // The tables are the caller's: cleared before the caller copies the records, they give the host's own copy the time to arrive.
 use machine::FrameRecord;
@@ -9,10 +9,6 @@ use page::PageNumber;
 use residents::Residents;
 use seen::Seen;
 ghost use mathlib.Core.Path.{_≡_};
-ghost use Prim.Native.Nat.{_+_, _*_, _≤_, _<_};
-ghost use lib.ListN.{length};
-ghost use Rattle.page.specs.Figures.{pageSize, slotCount};
-ghost use Rattle.page.specs.Page.{slot as slotWord};
 ghost use Rattle.machine.specs.Tests.{firstBroken};
 ghost use Rattle.machine.specs.Machine.{state, recordAt};
 ghost use Rattle.machine.specs.Rules.{lengthsFit};
@@ -163,13 +159,4 @@ pub fn page_refusal(
         return 6;
     }
     0
-}
-
-// The word in a slot of a frame, both found to be in range.
-pub fn slot_word(frames: &[u8], frame: FrameIndex, slot: usize) -> u32
-    requires { ⌜ (pageSize * frame .0 + pageSize ≤ length (now frames)) × (slot < slotCount) ⌝ }
-    ensures { λ r. ⌜ r ≡ slotWord (now (frames .entry)) (frame .0) slot ⌝ }
-{
-    let f = frame.0 as usize;
-    page::word::word_at(frames, PageNumber::SIZE * f + page::word::SIZE * slot)
 }

@@ -4,8 +4,8 @@ use mathlib.Core.Bool.{Bool, not}
 use mathlib.Core.List.{List}
 use lib.Dec.{eqb, ltb, leb}
 use Rattle.page.specs.Figures.{slotCount, recordCount, maxUsage, maxPins}
-use Rattle.page.specs.Word.{isNumber, frameIn, frameWord}
-use Rattle.page.specs.Page.{slot}
+use Rattle.page.specs.Word.{isNumber, frameIn, frameWord, givesPage, namesNothing}
+use Rattle.page.specs.Page.{name}
 use Rattle.machine.specs.declared.FrameRecord.{FrameRecord}
 use Rattle.machine.specs.declared.Pool.{Pool}
 use Rattle.machine.specs.Tests.{_and_, _or_, _⇒_, every}
@@ -49,7 +49,7 @@ emptyBlank p = every recordCount (λ f. not (occupied p f) ⇒ isBlank (recordAt
 -- "Every other occupied frame's parent is occupied, and the parent's word at the parent slot is swizzled to it."
 unfoldable pub parentsName : Pool → List ℕ → Bool
 parentsName p fs =
-    every (p .count) (λ f. (occupied p f and not (isRoot f)) ⇒ (occupied p (parentOf p f) and eqb (slot fs (parentOf p f) (parentSlotOf p f)) (frameWord f)))
+    every (p .count) (λ f. (occupied p f and not (isRoot f)) ⇒ (occupied p (parentOf p f) and eqb (name fs (parentOf p f) (parentSlotOf p f)) (frameWord f)))
 
 -- frame g is occupied, not the root's, and its record points back to slot k of frame f
 unfoldable pub pointsBack : Pool → ℕ → ℕ → ℕ → Bool
@@ -58,7 +58,7 @@ pointsBack p g f k = occupied p g and not (isRoot g) and eqb (parentOf p g) f an
 -- "Every swizzled word of an occupied frame names an occupied frame, never the root's, whose record points back to that word."
 unfoldable pub swizzledPointBack : Pool → List ℕ → Bool
 swizzledPointBack p fs =
-    every (p .count) (λ f. occupied p f ⇒ every slotCount (λ k. not (isNumber (slot fs f k)) ⇒ pointsBack p (frameIn (slot fs f k)) f k))
+    every (p .count) (λ f. occupied p f ⇒ every slotCount (λ k. not (isNumber (name fs f k)) ⇒ pointsBack p (frameIn (name fs f k)) f k))
 
 -- page q is in no frame
 unfoldable pub absent : Pool → ℕ → Bool
@@ -67,17 +67,13 @@ absent p q = every (p .count) (λ g. occupied p g ⇒ not (eqb (pageIn (p .recor
 -- "Every other word there is 0 or a number below N of a page that isn't resident."
 unfoldable pub numbersAbsent : Pool → List ℕ → Bool
 numbersAbsent p fs =
-    every (p .count) (λ f. occupied p f ⇒ every slotCount (λ k. isNumber (slot fs f k) ⇒ (eqb (slot fs f k) 0 or (ltb (slot fs f k) (p .pages) and absent p (slot fs f k)))))
-
--- a word that gives a page
-unfoldable pub givesPage : ℕ → Bool
-givesPage w = isNumber w and not (eqb w 0)
+    every (p .count) (λ f. occupied p f ⇒ every slotCount (λ k. isNumber (name fs f k) ⇒ (namesNothing (name fs f k) or (ltb (name fs f k) (p .pages) and absent p (name fs f k)))))
 
 -- "No number stands in two such words."
 unfoldable pub numbersOnce : Pool → List ℕ → Bool
 numbersOnce p fs =
     every (p .count) (λ f. every slotCount (λ k. every (p .count) (λ g. every slotCount (λ j.
-    (occupied p f and occupied p g and givesPage (slot fs f k) and eqb (slot fs f k) (slot fs g j)) ⇒ (eqb f g and eqb k j)))))
+    (occupied p f and occupied p g and givesPage (name fs f k) and eqb (name fs f k) (name fs g j)) ⇒ (eqb f g and eqb k j)))))
 
 -- frame 0 is reached from f in at most n steps to the parent
 unfoldable pub reachesRoot : Pool → ℕ → ℕ → Bool

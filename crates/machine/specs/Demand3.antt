@@ -5,8 +5,8 @@ use mathlib.Core.Logic.{_≢_, _⊎_, _↔_}
 use mathlib.Core.Bool.{true}
 use mathlib.Core.List.{List, [], _∷_, _++_}
 use Rattle.page.specs.Figures.{pageSize, slotCount, payloadStart}
-use Rattle.page.specs.Word.{isNumber, frameWord}
-use Rattle.page.specs.Page.{slot, byte, payloadAt, payloadOf}
+use Rattle.page.specs.Word.{isNumber, frameWord, numberWord, renamed}
+use Rattle.page.specs.Page.{slot, name, byte, payloadAt, payloadOf}
 use Rattle.page.specs.Octets.{Octets}
 use Rattle.machine.specs.declared.Handle.{Handle}
 use Rattle.machine.specs.Tests.{firstBroken}
@@ -30,7 +30,7 @@ Pinned x p = isPinned (x .balance) p ≡ true
 -- slot k of page q in the map names page p
 pub record Names (x : Point) (q k p : ℕ) : Type 0 where
   pub inPage : k < slotCount
-  pub word : slot (x .map) q k ≡ p
+  pub word : name (x .map) q k ≡ p
 
 -- "the page with that word is its parent, and parents lead to the root"
 pub data LeadsToRoot (x : Point) : ℕ → Type 0 where
@@ -48,8 +48,8 @@ pub record NoRoom (x : Point) : Type 0 where
 
 -- "A load is asked for where a page that isn't resident is to come in and no rule tested before 15 is broken."
 pub record LoadAsked (x : Point) (h : Handle) (k : ℕ) : Type 0 where
-  pub absent : Resident x (slot (x .map) (h .page .0) k) → ⊥
-  pub unbroken : firstBroken (fixEntryRules (x .now) h k ++ (rule14 (x .now) (slot (x .map) (h .page .0) k) ∷ [])) ≡ 0
+  pub absent : Resident x (name (x .map) (h .page .0) k) → ⊥
+  pub unbroken : firstBroken (fixEntryRules (x .now) h k ++ (rule14 (x .now) (name (x .map) (h .page .0) k) ∷ [])) ≡ 0
 
 -- the part handed back for an answer is page p's payload in the map, wherever the buffers are lent: "from the frame if resident, otherwise from the store"
 pub record GivesPayload (x : Point) (a : Answer) (p : ℕ) (fs st : ℕ × ℕ) : Type 0 where
@@ -66,9 +66,9 @@ pub record Holds (x : Point) : Type 0 where
   -- "At each accepted call, show gives the map's payload of its handle's page, peek that of its page, word the map's word in its slot of its handle's page."
   pub shown : (h : Handle) (fs st : ℕ × ℕ) → accepted (showCall (x .now) h .answer) ≡ true → GivesPayload x (showCall (x .now) h .answer) (h .page .0) fs st
   pub peeked : (p : ℕ) (fs st : ℕ × ℕ) → accepted (peekCall (x .now) (pageNumber p) .answer) ≡ true → GivesPayload x (peekCall (x .now) (pageNumber p) .answer) p fs st
-  pub worded : (h : Handle) (k : ℕ) → accepted (wordCall (x .now) h k .answer) ≡ true → wordCall (x .now) h k .answer ≡ number (slot (x .map) (h .page .0) k)
+  pub worded : (h : Handle) (k : ℕ) → accepted (wordCall (x .now) h k .answer) ≡ true → wordCall (x .now) h k .answer ≡ number (name (x .map) (h .page .0) k)
   -- "Fix answers a handle of the page that this word names, root one of page 0."
-  pub fixed : (h : Handle) (k : ℕ) → accepted (fixCall (x .now) h k .answer) ≡ true → GivesHandle x (fix h k) (slot (x .map) (h .page .0) k)
+  pub fixed : (h : Handle) (k : ℕ) → accepted (fixCall (x .now) h k .answer) ≡ true → GivesHandle x (fix h k) (name (x .map) (h .page .0) k)
   pub rooted : accepted (rootCall (x .now) .answer) ≡ true → GivesHandle x root 0
   -- "No two share one. A frame that is no page's is empty."
   pub apart : (p q f : ℕ) → InFrame x p f → InFrame x q f → p ≡ q
@@ -82,10 +82,10 @@ pub record Holds (x : Point) : Type 0 where
   pub tree : (p : ℕ) → Resident x p → LeadsToRoot x p
   -- "In its frame a resident page has its bytes in the map, except that a word naming a resident page is swizzled to that page's frame."
   pub payloadBytes : (p f i : ℕ) → InFrame x p f → payloadStart ≤ i → i < pageSize → byte (x .now .frames) f i ≡ byte (x .map) p i
-  pub swizzled : (p f k c g : ℕ) → InFrame x p f → Names x p k c → c ≢ 0 → InFrame x c g → slot (x .now .frames) f k ≡ frameWord g
-  pub unswizzled : (p f k c : ℕ) → InFrame x p f → Names x p k c → (c ≢ 0 → Resident x c → ⊥) → slot (x .now .frames) f k ≡ c
+  pub swizzled : (p f k c g : ℕ) → InFrame x p f → Names x p k c → c ≢ 0 → InFrame x c g → slot (x .now .frames) f k ≡ renamed (slot (x .map) p k) (frameWord g)
+  pub unswizzled : (p f k c : ℕ) → InFrame x p f → Names x p k c → (c ≢ 0 → Resident x c → ⊥) → slot (x .now .frames) f k ≡ renamed (slot (x .map) p k) (numberWord c)
   -- "No word in the store has bit 31 set."
-  pub storePlain : (p k : ℕ) → p < x .now .pool .pages → k < slotCount → isNumber (slot (x .now .store) p k) ≡ true
+  pub storePlain : (p k : ℕ) → p < x .now .pool .pages → k < slotCount → isNumber (name (x .now .store) p k) ≡ true
   -- "Right after an accepted settle the store and the map are equal in every byte."
   pub settled : accepted (settleCall (x .now) .answer) ≡ true → settleCall (x .now) .left .store ≡ x .map
   -- "A load is denied a frame exactly when none is empty and every resident page but the root is pinned or has a resident child." "It is denied a frame when 15 is answered."

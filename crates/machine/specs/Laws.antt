@@ -9,3 +9,4 @@ pub mod MoveLaws
 pub mod Ready
 pub mod RuleLaws
 pub mod ResidentWords
+pub mod ByName

@@ -3,7 +3,7 @@ use Prim.Native.Nat.{ℕ, zero, suc}
 use mathlib.Core.List.{List}
 use lib.ListN.{set}
 use Rattle.page.specs.Figures.{slotCount}
-use Rattle.page.specs.Word.{isNumber, frameIn, frameWord, numberWord}
+use Rattle.page.specs.Word.{nameOf, renamed, isNumber, frameIn, frameWord, numberWord}
 use Rattle.page.specs.Page.{slot, putSlot, pageOf, putPage}
 use Rattle.machine.specs.declared.FrameRecord.{FrameRecord}
 use Rattle.machine.specs.declared.Pool.{Pool}
@@ -12,14 +12,18 @@ use Rattle.machine.specs.Machine.{State, state, blank, loadedRecord, cle
 
 -- ---- "The image of a resident page is its bytes with each swizzled word replaced by the number of the page in that frame."
 
--- the page number that a word stands for, where frame g holds page `page g`
+-- the page number that a name stands for, where frame g holds page `page g`
 unfoldable pub plain : (ℕ → ℕ) → ℕ → ℕ
-plain page w = pick (isNumber w) w (page (frameIn w))
+plain page n = pick (isNumber n) n (page (frameIn n))
+
+-- the word w in the image
+abbrev pub imaged : (ℕ → ℕ) → ℕ → ℕ
+imaged page w = renamed w (plain page (nameOf w))
 
 -- the bytes g with the first n words replaced
 unfoldable pub imageTo : (ℕ → ℕ) → List ℕ → ℕ → List ℕ
 imageTo page g zero = g
-imageTo page g (suc n) = putSlot (imageTo page g n) 0 n (plain page (slot g 0 n))
+imageTo page g (suc n) = putSlot (imageTo page g n) 0 n (imaged page (slot g 0 n))
 
 abbrev pub imageOf : List FrameRecord → List ℕ → ℕ → List ℕ
 imageOf rs fs f = imageTo (pageIn rs) (pageOf fs f) slotCount
@@ -61,10 +65,12 @@ unfoldable pub evicted : State → ℕ → State
 evicted s f =
     let r = recordAt (s .pool .records) f in
     state (vacate (s .pool) f)
-    (putSlot (s .frames) (r .parent .0) (r .slot) (numberWord (r .page .0)))
+    (putSlot (s .frames) (r .parent .0) (r .slot) (renamed (slot (s .frames) (r .parent .0) (r .slot)) (numberWord (r .page .0))))
     (writtenOut (s .pool .records) (s .frames) (s .store) f)
 
 -- "the page is loaded with pins 1, heat 1, clean, its parent recorded and the parent's word swizzled": page q into frame e, for slot k of frame f
 unfoldable pub loaded : State → ℕ → ℕ → ℕ → ℕ → State
 loaded s f k e q =
-    state (occupy (s .pool) e (loadedRecord q f k)) (putSlot (putPage (s .frames) e (pageOf (s .store) q)) f k (frameWord e)) (s .store)
+    state (occupy (s .pool) e (loadedRecord q f k))
+    (putSlot (putPage (s .frames) e (pageOf (s .store) q)) f k (renamed (slot (s .frames) f k) (frameWord e)))
+    (s .store)

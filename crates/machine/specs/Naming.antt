@@ -4,16 +4,17 @@ use mathlib.Core.Bool.{Bool, not}
 use mathlib.Core.List.{List}
 use lib.Dec.{eqb, ltb}
 use Rattle.page.specs.Figures.{slotCount}
-use Rattle.page.specs.Page.{slot}
+use Rattle.page.specs.Word.{namesNothing}
+use Rattle.page.specs.Page.{name}
 use Rattle.machine.specs.Tests.{pick, _and_, _or_, every, some}
 use Rattle.machine.specs.Machine.{State, pageIn, occupied, found}
 use Rattle.machine.specs.Moves.{plain}
 
--- the word in slot k of page p: "resident pages taken by their images and the others from the store"
+-- what slot k of page p names, by page number: "resident pages taken by their images and the others from the store"
 unfoldable pub currentWord : State → ℕ → ℕ → ℕ
 currentWord s p k =
     let f = found (s .pool) p in
-    pick (ltb f (s .pool .count)) (plain (pageIn (s .pool .records)) (slot (s .frames) f k)) (slot (s .store) p k)
+    pick (ltb f (s .pool .count)) (plain (pageIn (s .pool .records)) (name (s .frames) f k)) (name (s .store) p k)
 
 -- page q is named by a word of any page
 unfoldable pub named : State → ℕ → Bool
@@ -22,17 +23,17 @@ named s q = some (s .pool .pages) (λ p. some slotCount (λ k. eqb (currentWord 
 -- page q is named by a word of a resident page's image
 unfoldable pub namedByResident : State → ℕ → Bool
 namedByResident s q =
-    some (s .pool .count) (λ f. occupied (s .pool) f and some slotCount (λ k. eqb (plain (pageIn (s .pool .records)) (slot (s .frames) f k)) q))
+    some (s .pool .count) (λ f. occupied (s .pool) f and some slotCount (λ k. eqb (plain (pageIn (s .pool .records)) (name (s .frames) f k)) q))
 
--- the number in slot k of the stored page q stands in another slot of it
+-- what slot k of the stored page q names, another slot of it names too
 unfoldable pub repeated : List ℕ → ℕ → ℕ → Bool
-repeated st q k = some slotCount (λ j. not (eqb j k) and eqb (slot st q j) (slot st q k))
+repeated st q k = some slotCount (λ j. not (eqb j k) and eqb (name st q j) (name st q k))
 
--- the word in slot k of the stored page q may come in: it is 0, or it is below N (so bit 31 is clear), once in the page, and names no page that a resident page names
+-- the word in slot k of the stored page q may come in: it names nothing, or a number below N (so bit 31 is clear), once in the page, of a page that no resident page names
 unfoldable pub wordLoadable : State → ℕ → ℕ → Bool
 wordLoadable s q k =
-    let w = slot (s .store) q k in
-    eqb w 0 or (ltb w (s .pool .pages) and not (repeated (s .store) q k) and not (namedByResident s w))
+    let w = name (s .store) q k in
+    namesNothing w or (ltb w (s .pool .pages) and not (repeated (s .store) q k) and not (namedByResident s w))
 
 -- the stored page q may be loaded
 unfoldable pub loadable : State → ℕ → Bool

@@ -5,8 +5,8 @@ use mathlib.Core.List.{List}
 use lib.Dec.{eqb, ltb, leb}
 use lib.ListN.{length}
 use Rattle.page.specs.Figures.{pageSize, slotCount, payloadSize, leastFrames, mostFrames, mostPages, maxPins}
-use Rattle.page.specs.Word.{isNumber}
-use Rattle.page.specs.Page.{slot}
+use Rattle.page.specs.Word.{isNumber, namesNothing}
+use Rattle.page.specs.Page.{name}
 use Rattle.machine.specs.declared.Pool.{Pool}
 use Rattle.machine.specs.declared.Handle.{Handle}
 use Rattle.machine.specs.Tests.{_and_, _or_, Rule}
@@ -31,9 +31,9 @@ handleFits p h =
 unfoldable pub rangeFits : ℕ → ℕ → Bool
 rangeFits offset n = leb offset payloadSize and leb n (payloadSize - offset)
 
--- the word in a slot of the handle's page
+-- what the word in a slot of the handle's page names
 abbrev pub wordOf : State → Handle → ℕ → ℕ
-wordOf s h k = slot (s .frames) (h .frame .0) k
+wordOf s h k = name (s .frames) (h .frame .0) k
 
 -- ---- the table
 
@@ -70,11 +70,11 @@ rule6-link s q = (6, ltb 0 q and ltb q (s .pool .pages))
 
 -- 7. "Fix or unlink meets a word of 0."
 abbrev pub rule7 : ℕ → Rule
-rule7 w = (7, not (eqb w 0))
+rule7 w = (7, not (namesNothing w))
 
 -- 8. "Link meets a word that isn't 0."
 abbrev pub rule8 : ℕ → Rule
-rule8 w = (8, eqb w 0)
+rule8 w = (8, namesNothing w)
 
 -- 9. "Link's page is already named by a word of any page, resident pages taken by their images and the others from the store."
 abbrev pub rule9 : State → ℕ → Rule

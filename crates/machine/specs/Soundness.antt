@@ -4,17 +4,18 @@ use mathlib.Core.Bool.{Bool, not}
 use mathlib.Core.List.{List}
 use lib.Dec.{eqb, ltb}
 use Rattle.page.specs.Figures.{slotCount}
-use Rattle.page.specs.Page.{slot}
+use Rattle.page.specs.Word.{namesNothing}
+use Rattle.page.specs.Page.{name}
 use Rattle.machine.specs.Tests.{_and_, _⇒_, every}
 
 -- every word is 0 or a page number from 1 to N − 1
 unfoldable pub wordsBelow : List ℕ → ℕ → Bool
-wordsBelow st N = every N (λ p. every slotCount (λ k. ltb (slot st p k) N))
+wordsBelow st N = every N (λ p. every slotCount (λ k. ltb (name st p k) N))
 
 -- no number stands in two words
 unfoldable pub wordsOnce : List ℕ → ℕ → Bool
 wordsOnce st N =
-    every N (λ p. every slotCount (λ k. every N (λ q. every slotCount (λ j. (not (eqb (slot st p k) 0) and eqb (slot st p k) (slot st q j)) ⇒ (eqb p q and eqb k j)))))
+    every N (λ p. every slotCount (λ k. every N (λ q. every slotCount (λ j. (not (namesNothing (name st p k)) and eqb (name st p k) (name st q j)) ⇒ (eqb p q and eqb k j)))))
 
 unfoldable pub sound : List ℕ → ℕ → Bool
 sound st N = wordsBelow st N and wordsOnce st N

@@ -6,7 +6,7 @@ use lib.Dec.{eqb, ltb}
 use lib.ListN.{set}
 use Rattle.page.specs.Figures.{slotCount}
 use Rattle.page.specs.Word.{isNumber}
-use Rattle.page.specs.Page.{slot}
+use Rattle.page.specs.Page.{name}
 use Rattle.page.specs.declared.FrameIndex.{FrameIndex}
 use Rattle.machine.specs.declared.FrameRecord.{FrameRecord}
 use Rattle.machine.specs.declared.Pool.{Pool}
@@ -38,7 +38,7 @@ firstEmpty p = emptyFrom (p .records) (p .count) (p .count) (p .hand .0)
 
 -- no word of frame f is swizzled
 unfoldable pub childless : List ℕ → ℕ → Bool
-childless fs f = every slotCount (λ k. isNumber (slot fs f k))
+childless fs f = every slotCount (λ k. isNumber (name fs f k))
 
 -- where the page in frame f, with record r, stands: "The root, a pinned page and a page with a swizzled word are passed over." Any other is open to eviction.
 unfoldable pub standing : FrameRecord → List ℕ → ℕ → Standing

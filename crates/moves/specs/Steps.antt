@@ -6,12 +6,11 @@ use mathlib.Core.List.{List}
 use native.Mathlib.Omega.{arith}
 use native.Mathlib.Numerals.{add-one}
 use lib.ListN.{length, take, drop}
-use borrow.Author.Tests.{ltb-true}
 use borrow.Rule.Slice.PartMut.{putMid}
-use Rattle.page.specs.Figures.{pageSize, slotCount, wordSize, swizzleBit}
-use Rattle.page.specs.Word.{putWord, isNumber}
+use Rattle.page.specs.Figures.{pageSize, slotCount}
+use Rattle.page.specs.Word.{renamed, isNumber, number-yes}
 use Rattle.page.specs.Octets.{Octets}
-use Rattle.page.specs.Page.{slot, pageOf, putSlot, putPage, slot-pageOf, pageOf-whole, part-is-page, put-part}
+use Rattle.page.specs.Page.{slot, name, pageOf, putSlot, putPage, slot-pageOf, pageOf-whole, part-is-page, put-part}
 use Rattle.machine.specs.declared.FrameRecord.{FrameRecord}
 use Rattle.machine.specs.declared.Pool.{Pool}
 use Rattle.machine.specs.Laws.TestLaws.{every-true, pick-yes, pick-no}
@@ -30,22 +29,23 @@ pub own-image : (page : ℕ → ℕ) (fs : List ℕ) (f : ℕ) → pageSize * f 
 unfolding childless
 own-image page fs f h o c =
     image-own page (pageOf fs f) (pageOf-whole fs f h) o
-    (λ k l. rw (slot-pageOf fs f k l) (ltb-true _ swizzleBit (every-true slotCount (λ j. isNumber (slot fs f j)) c k l)))
+    (λ k l. rw (slot-pageOf fs f k l) (number-yes _ (every-true slotCount (λ j. isNumber (name fs f j)) c k l)))
 
-pub part-named : (fs : List ℕ) (f : ℕ) → Named fs f → Named (take (pageSize * f + pageSize - pageSize * f) (drop (pageSize * f) fs)) 0
-part-named fs f h k l = rw (part-is-page fs f, slot-pageOf fs f k l) (h k l)
+-- frame f from `from` on
+pub part-named : (fs : List ℕ) (f from : ℕ) → from ≡ pageSize * f → Named fs f → Named (take (from + pageSize - from) (drop from fs)) 0
+part-named fs f from e h k l = rw (e, part-is-page fs f, slot-pageOf fs f k l) (h k l)
 
-pub image-back : (page : ℕ → ℕ) (fs st ys : List ℕ) (f q : ℕ) → pageSize * f + pageSize ≤ length fs
-    → ys ≡ imageTo page (take (pageSize * f + pageSize - pageSize * f) (drop (pageSize * f) fs)) slotCount
-    → putMid (pageSize * q) (pageSize * q + pageSize - pageSize * q) st ys ≡ putPage st q (imageTo page (pageOf fs f) slotCount)
-image-back page fs st ys f q h e =
-    put-part st q ys (imageTo page (pageOf fs f) slotCount) (e ∙ ap (λ (g : List ℕ). imageTo page g slotCount) (part-is-page fs f))
-    (image-length page (pageOf fs f) slotCount ∙ pageOf-whole fs f h)
+-- and page q of the store from `to` on
+pub image-back : (page : ℕ → ℕ) (fs st ys : List ℕ) (f q from to : ℕ) → from ≡ pageSize * f → to ≡ pageSize * q → pageSize * f + pageSize ≤ length fs
+    → ys ≡ imageTo page (take (from + pageSize - from) (drop from fs)) slotCount → putMid to (to + pageSize - to) st ys ≡ putPage st q (imageTo page (pageOf fs f) slotCount)
+image-back page fs st ys f q from to a b h e =
+    let part : take (from + pageSize - from) (drop from fs) ≡ pageOf fs f = rw a (part-is-page fs f) in
+    rw b (put-part st q ys (imageTo page (pageOf fs f) slotCount) (e ∙ ap (λ (g : List ℕ). imageTo page g slotCount) part)
+    (image-length page (pageOf fs f) slotCount ∙ pageOf-whole fs f h))
 
--- a parent's word that code put
-pub word-put : (b c d : List ℕ) (f k w v : ℕ) → c ≡ b → w ≡ v → d ≡ putWord c (pageSize * f + wordSize * k) w → d ≡ putSlot b f k v
-unfolding putSlot
-word-put b c d f k w v same e p = rw (p, same, e)
+-- a parent's word that code put: renamed from the word o, which was read in the frames fs
+pub renamed-put : (b fs c d : List ℕ) (f k j o n m w : ℕ) → c ≡ b → k ≡ j → o ≡ slot fs f k → n ≡ m → w ≡ renamed o n → d ≡ putSlot c f k w → d ≡ putSlot b f j (renamed (slot fs f j) m)
+renamed-put b fs c d f k j o n m w hc hk ho hn hw hd = rw (hd, hw, ho, hn, hc, hk)
 
 -- ---- writing out
 

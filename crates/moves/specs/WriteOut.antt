@@ -4,14 +4,15 @@ use mathlib.Core.Bool.{true}
 use mathlib.Core.List.{List}
 use mathlib.Core.Path.{_≡_}
 use lib.ListN.{length}
-use Rattle.page.specs.Figures.{pageSize, slotCount, mostFrames, swizzleBit}
-use Rattle.page.specs.Page.{slot, pageOf, putPage}
+use Rattle.page.specs.Figures.{pageSize, slotCount, mostFrames}
+use Rattle.page.specs.Word.{frameWord}
+use Rattle.page.specs.Page.{name, pageOf, putPage}
 use Rattle.machine.specs.declared.FrameRecord.{FrameRecord}
 use Rattle.machine.specs.Moves.{imageTo, writtenOutBy}
 
 -- every swizzled word of frame f names one of 64 frames
 abbrev pub Named : List ℕ → ℕ → Type 0
-Named b f = (k : ℕ) → k < slotCount → slot b f k < swizzleBit + mostFrames
+Named b f = (k : ℕ) → k < slotCount → name b f k < frameWord mostFrames
 
 -- frame f and page q lie within the frames and the store
 pub record Placed (q : ℕ) (fs st : List ℕ) (f : ℕ) : Type 0 where

@@ -3,19 +3,20 @@ use page::PageNumber;
 use residents::Residents;
 ghost use mathlib.Core.Path.{_≡_};
 ghost use lib.ListN.{length};
-ghost use Rattle.page.specs.Figures.{pageSize, slotCount};
-ghost use Rattle.page.specs.Word.{isNumber};
+ghost use Prim.Native.Nat.{_+_, _<_};
+ghost use Rattle.page.specs.Figures.{pageSize, slotCount, mostFrames};
+ghost use Rattle.page.specs.Word.{isNumber, frameWord};
 ghost use Rattle.machine.specs.Tests.{pick};
 ghost use Rattle.machine.specs.Moves.{imageTo};
 ghost use Rattle.residents.specs.Residents.{pageBy};
 ghost use Rattle.moves.specs.WriteOut.{Named};
 
-// The page number that a word stands for, where `held` is what the frame that it may name holds.
-fn plain_word(w: u32, held: PageNumber) -> u32
-    ensures { λ r. ⌜ r ≡ pick (isNumber w) w (held .0) ⌝ }
+// The page number that a name stands for, where `held` is what the frame that it may give holds.
+fn plain_name(name: u32, held: PageNumber) -> u32
+    ensures { λ r. ⌜ (r ≡ pick (isNumber name) name (held .0)) × (r < frameWord mostFrames) ⌝ }
 {
-    if page::word::is_number(w) {
-        return w;
+    if page::word::is_number(name) {
+        return name;
     }
     PageNumber::word(held)
 }
@@ -28,10 +29,11 @@ pub fn put_image(dst: &mut [u8], src: &[u8], residents: &Residents)
     page::copy::copy_into(dst, src);
     let mut k = 0;
     while k < PageNumber::SLOTS {
-        let w = page::word::word_at(src, page::word::SIZE * k);
-        let held = PageNumber(residents[page::word::frame_in(w)]);
-        let number = plain_word(w, held);
-        page::word::put_word(dst, page::word::SIZE * k, number);
+        let old = page::word::word_at(src, page::word::SIZE * k);
+        let name = page::word::name_of(old);
+        let held = PageNumber(residents[page::word::frame_in(name)]);
+        let number = plain_name(name, held);
+        page::word::put_word(dst, page::word::SIZE * k, page::word::renamed(old, number));
         k += 1;
     }
 }

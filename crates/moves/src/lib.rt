@@ -35,9 +35,12 @@ pub fn take_out(rec: FrameRecord, frames: &mut [u8], store: &mut [u8], frame: Fr
     ensures { λ _. ⌜ TakenOut rec (now (frames .entry)) (now (store .entry)) (frame .0) (now (frames .exit)) (now (store .exit)) ⌝ }
 {
     out::write_bytes_out(rec, frames, store, frame);
-    let at = PageNumber::SIZE * rec.parent.0 as usize + page::word::SIZE * rec.slot as usize;
+    let parent = rec.parent;
+    let slot = page::wide::from_u8(rec.slot);
+    let old = page::slot::slot_word(frames, parent, slot);
     let page = rec.page;
-    page::word::put_word(frames, at, PageNumber::word(page));
+    let word = page::word::renamed(old, PageNumber::word(page));
+    page::slot::put_in_slot(frames, parent, slot, word);
 }
 
 // Loads a page into a frame, for a slot of its parent's frame, and gives its record.
@@ -52,9 +55,10 @@ pub fn load_page(
     requires { ⌜ Fitting (now frames) (now store) (parent .0) slot (frame .0) (page .0) ⌝ }
     ensures { λ r. ⌜ (r ≡ loadedRecord (page .0) (parent .0) slot) × (now (frames .exit) ≡ broughtIn (now (frames .entry)) (now (store .entry)) (parent .0) slot (frame .0) (page .0)) ⌝ }
 {
-    page::copy::copy_page(frames, frame.0 as usize, store, page.0 as usize);
-    let at = PageNumber::SIZE * parent.0 as usize + page::word::SIZE * slot;
-    page::word::put_word(frames, at, FrameIndex::word(frame));
+    let old = page::slot::slot_word(frames, parent, slot);
+    page::copy::to_frame(frames, frame, store, PageNumber::place(page));
+    let word = page::word::renamed(old, FrameIndex::word(frame));
+    page::slot::put_in_slot(frames, parent, slot, word);
     FrameRecord {
         used: true,
         dirty: false,

@@ -3,6 +3,7 @@ use crate::image;
 use machine::FrameRecord;
 use page::FrameIndex;
 use page::PageNumber;
+use page::StorePlace;
 use residents::Residents;
 use scan::look;
 ghost use mathlib.Core.Path.{_≡_};
@@ -19,7 +20,7 @@ fn store_bytes(page: PageNumber, frames: &[u8], store: &mut [u8], frame: FrameIn
     requires { ⌜ Placed (page .0) (now frames) (now store) (frame .0) × (childless (now frames) (frame .0) ≡ true) ⌝ }
     ensures { λ _. ⌜ StoredAsIs (page .0) (now (frames .entry)) (frame .0) (now (store .entry)) (now (store .exit)) ⌝ }
 {
-    page::copy::copy_page(store, page.0 as usize, frames, frame.0 as usize);
+    page::copy::to_store(store, PageNumber::place(page), frames, frame);
 }
 
 // Writes the image of the page in a frame to its place in the store. The table gives each frame's page.
@@ -37,8 +38,8 @@ fn store_image(
         store_bytes(page, frames, store, frame);
         return;
     }
-    let to = PageNumber::SIZE * page.0 as usize;
-    let from = PageNumber::SIZE * frame.0 as usize;
+    let to = StorePlace::start(PageNumber::place(page));
+    let from = FrameIndex::start(frame);
     image::put_image(
         &mut store[to..to + PageNumber::SIZE],
         &frames[from..from + PageNumber::SIZE],

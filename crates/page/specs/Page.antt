@@ -10,13 +10,17 @@ use lib.ListN.{length, take, drop, getD, length-take, length-drop, List·getD-ap
 use lib.Seq.{ext-getD, getD-take, getD-drop, paste, length-paste, getD-append-add, length-take-le, length-paste-head, paste-zero, take-all, drop-drop}
 use borrow.Rule.Slice.PartMut.{putMid}
 use Rattle.page.specs.Figures.{pageSize, slotCount, payloadStart, payloadSize, wordSize, wordRadix}
-use Rattle.page.specs.Word.{wordAt, putWord, putWord-length, putWord-before, putWord-after, wordAt-same, wordAt-before, wordAt-after, wordAt-ext}
+use Rattle.page.specs.Word.{nameOf, wordAt, putWord, putWord-length, putWord-before, putWord-after, wordAt-same, wordAt-before, wordAt-after, wordAt-ext}
 
 -- ---- "A page is 16 words of 4 bytes, little-endian, in slots 0 to 15, then 192 payload bytes." Page p starts at byte 256 × p.
 
 -- the word in slot s of page p
 unfoldable pub slot : List ℕ → ℕ → ℕ → ℕ
 slot b p s = wordAt b (pageSize * p + wordSize * s)
+
+-- what it names
+abbrev pub name : List ℕ → ℕ → ℕ → ℕ
+name b p s = nameOf (slot b p s)
 
 -- the byte i of page p
 unfoldable pub byte : List ℕ → ℕ → ℕ → ℕ

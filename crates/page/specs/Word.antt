@@ -1,15 +1,17 @@
--- The word: its four bytes, its two readings, and what is read after one was put. Assumes nothing.
-use mathlib.Core.Path.{_≡_, sym, ap, _∙_}
+-- The word: its four bytes, what it names, the two readings of that, and what is read after one was put. Assumes nothing.
+use mathlib.Core.Path.{_≡_, refl, sym, ap, _∙_}
 use mathlib.Core.Logic.{_≢_}
-use mathlib.Core.Bool.{Bool}
+use mathlib.Core.Bool.{Bool, true, false, not, _&&_}
 use mathlib.Core.List.{List}
 use Prim.Native.Nat.{ℕ, _+_, _*_, _-_, _/_, _%_, _≤_, _<_}
 use native.Mathlib.Omega.{arith}
+use native.Mathlib.Decide.{decLt}
 use native.Mathlib.Nat.{div-div-eq-div-mul, div-add-mod', mod-eq-of-lt, add-zero}
-use lib.Dec.{ltb}
+use borrow.Author.Tests.{lt-ltb, le-ltb, ltb-true, ltb-false, ne-eqb, eqb-false, not-true}
+use lib.Dec.{eqb, ltb}
 use lib.ListN.{length, getD, set, length-set}
 use lib.Seq.{lt-length-set, getD-set-same, getD-set-other}
-use Rattle.page.specs.Figures.{byteRadix, wordSize, wordRadix, swizzleBit}
+use Rattle.page.specs.Figures.{mostPages, mostFrames, byteRadix, wordSize, wordRadix, swizzleBit}
 
 -- ---- the four bytes, little-endian
 
@@ -21,25 +23,124 @@ wordAt b a = getD b a 0 + 256 * getD b (a + 1) 0 + 65536 * getD b (a + 2) 0 + 16
 unfoldable pub putWord : List ℕ → ℕ → ℕ → List ℕ
 putWord b a w = set (set (set (set b a (w % 256)) (a + 1) (w / 256 % 256)) (a + 2) (w / 65536 % 256)) (a + 3) (w / 16777216 % 256)
 
--- ---- the two readings
+-- ---- what a word names: 0 (nothing), a page number, or a frame. Every reader goes by this, and not by the word's bits.
+
+-- today the word itself, as no bit of it says anything else
+unfoldable pub nameOf : ℕ → ℕ
+nameOf w = w
+
+-- the word that says n, put in the place of the word `old`: what that says besides its name is kept
+unfoldable pub renamed : ℕ → ℕ → ℕ
+renamed old n = n
+
+-- what the word in the bytes from a on names
+abbrev pub nameAt : List ℕ → ℕ → ℕ
+nameAt b a = nameOf (wordAt b a)
+
+-- ---- the two readings of a name
 
 -- "With bit 31 clear it is a page number" (0 names nothing)
 abbrev pub isNumber : ℕ → Bool
-isNumber w = ltb w swizzleBit
+isNumber n = ltb n swizzleBit
+
+abbrev pub Number : ℕ → Type 0
+Number n = n < swizzleBit
 
 -- "With bit 31 set the page is swizzled, and the low 31 bits are a frame index."
-abbrev pub frameIn : ℕ → ℕ
-frameIn w = w - swizzleBit
+abbrev pub Swizzled : ℕ → Type 0
+Swizzled n = swizzleBit ≤ n
 
--- the word that is swizzled to frame f
+abbrev pub frameIn : ℕ → ℕ
+frameIn n = n - swizzleBit
+
+-- the name of frame f, to which a word is then swizzled; and of page p
 abbrev pub frameWord : ℕ → ℕ
 frameWord f = swizzleBit + f
 
--- the word that gives page p
 abbrev pub numberWord : ℕ → ℕ
 numberWord p = p
 
--- ---- laws
+-- it is no page's and no frame's
+abbrev pub namesNothing : ℕ → Bool
+namesNothing n = eqb n 0
+
+-- it gives a page by its number
+unfoldable pub givesPage : ℕ → Bool
+givesPage n = isNumber n && not (namesNothing n)
+
+-- ---- laws of the readings
+
+pub number-yes : (n : ℕ) → isNumber n ≡ true → Number n
+number-yes n t = ltb-true n swizzleBit t
+
+pub number-no : (n : ℕ) → isNumber n ≡ false → Swizzled n
+number-no n t = ltb-false n swizzleBit t
+
+pub yes-number : (n : ℕ) → Number n → isNumber n ≡ true
+yes-number n h = lt-ltb n swizzleBit h
+
+pub no-number : (n : ℕ) → Swizzled n → isNumber n ≡ false
+no-number n h = le-ltb n swizzleBit h
+
+-- a name is a number or a frame's
+pub data Reading (n : ℕ) : Type 0 where
+  low : Number n → Reading n
+  high : (g : ℕ) → n ≡ frameWord g → Reading n
+
+pub frame-word-inj : (f g : ℕ) → frameWord f ≡ frameWord g → f ≡ g
+frame-word-inj f g e = omega arith
+
+pub reading : (n : ℕ) → Reading n
+reading n = elim (decLt n swizzleBit) [ yes h ↦ low h | no h ↦ high (frameIn n) (omega arith) ]
+
+pub gives-page : (n : ℕ) → Number n → n ≢ 0 → givesPage n ≡ true
+unfolding givesPage
+gives-page n h z = rw (yes-number n h, ne-eqb n 0 z)
+
+and-parts : (a b : Bool) → (a && b) ≡ true → (a ≡ true) × (b ≡ true)
+and-parts true b h = (refl, h)
+and-parts false b h = absurd (let y : _≡_ {A = ℕ} 0 1 = cc in omega arith)
+
+pub page-given : (n : ℕ) → givesPage n ≡ true → Number n × (n ≢ 0)
+unfolding givesPage
+page-given n t = let a = and-parts (isNumber n) (not (namesNothing n)) t in (number-yes n (a .0), eqb-false n 0 (not-true _ (a .1)))
+
+-- ---- laws of names
+
+-- a word that is a page's number names that page
+pub name-number : (p : ℕ) → p < mostPages → nameOf (numberWord p) ≡ p
+unfolding nameOf
+name-number p h = refl
+
+-- a word renamed names what it says: a frame, or a page, and nothing only where it named nothing
+pub name-renamed-frame : (old f : ℕ) → f < mostFrames → nameOf (renamed old (frameWord f)) ≡ frameWord f
+unfolding nameOf renamed
+name-renamed-frame old f h = refl
+
+pub name-renamed-number : (old p : ℕ) → p < mostPages → (p ≡ 0 → nameOf old ≡ 0) → nameOf (renamed old (numberWord p)) ≡ numberWord p
+unfolding nameOf renamed
+name-renamed-number old p h z = refl
+
+-- it is a word
+pub renamed-lt : (old n : ℕ) → n < frameWord mostFrames → renamed old n < wordRadix
+unfolding renamed
+renamed-lt old n h = omega arith
+
+-- a word renamed to its own name stays
+pub renamed-same : (w n : ℕ) → nameOf w ≡ n → w ≡ renamed w n
+unfolding nameOf renamed
+renamed-same w n e = e
+
+-- a word says nothing besides its name
+pub renamed-own : (old w n : ℕ) → nameOf w ≡ n → w ≡ renamed old n
+unfolding nameOf renamed
+renamed-own old w n e = e
+
+pub word-ext : (w u : ℕ) → nameOf w ≡ nameOf u → w ≡ u
+unfolding nameOf
+word-ext w u e = e
+
+-- ---- laws of the four bytes
 
 pub putWord-length : (b : List ℕ) (a w : ℕ) → length (putWord b a w) ≡ length b
 unfolding putWord

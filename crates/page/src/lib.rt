@@ -1,10 +1,13 @@
-// Pages, frames and words: the two kinds of count with their figures, the word that names one of either, and bytes copied.
+// Pages, frames and words: the kinds of count with their figures and places, the word and what it names, the slots of a frame, and bytes copied.
 pub mod copy;
+pub mod slot;
+pub mod wide;
 pub mod word;
 
 ghost use mathlib.Core.Path.{_≡_};
-ghost use Prim.Native.Nat.{_+_};
+ghost use Prim.Native.Nat.{_+_, _*_};
 ghost use Rattle.page.specs.Word.{frameWord, numberWord};
+ghost use Rattle.page.specs.Figures.{pageSize};
 
 // A page number. Its figures are those of a page.
 #[repr(C)]
@@ -13,6 +16,9 @@ pub struct PageNumber(pub u16);
 // A frame index. Its figures are those of a frame and of its record.
 #[repr(C)]
 pub struct FrameIndex(pub u8);
+
+// A page's place in the store, counted in pages.
+pub struct StorePlace(pub u16);
 
 impl PageNumber {
     pub const SIZE: usize = 256;
@@ -26,11 +32,18 @@ impl PageNumber {
     // The largest N.
     pub const MOST: usize = 4096;
 
-    // The word that gives this number.
+    // The name of this page.
     pub fn word(page: PageNumber) -> u32
         ensures { λ r. ⌜ r ≡ numberWord (page .0) ⌝ }
     {
         page.0 as u32
+    }
+
+    // Its place in the store: the pages stand in the order of their numbers.
+    pub fn place(page: PageNumber) -> StorePlace
+        ensures { λ r. ⌜ r .0 ≡ page .0 ⌝ }
+    {
+        StorePlace(page.0)
     }
 }
 
@@ -45,10 +58,26 @@ impl FrameIndex {
 
     pub const MAX_PINS: u16 = 65535;
 
-    // The word that is swizzled to this frame.
+    // The name of this frame, to which a word is then swizzled.
     pub fn word(frame: FrameIndex) -> u32
         ensures { λ r. ⌜ r ≡ frameWord (frame .0) ⌝ }
     {
         word::SWIZZLE_BIT + frame.0 as u32
+    }
+
+    // Where it starts in the frames.
+    pub fn start(frame: FrameIndex) -> usize
+        ensures { λ r. ⌜ r ≡ pageSize * frame .0 ⌝ }
+    {
+        PageNumber::SIZE * wide::from_u8(frame.0)
+    }
+}
+
+impl StorePlace {
+    // Where it starts in the store.
+    pub fn start(place: StorePlace) -> usize
+        ensures { λ r. ⌜ r ≡ pageSize * place .0 ⌝ }
+    {
+        PageNumber::SIZE * wide::from_u16(place.0)
     }
 }

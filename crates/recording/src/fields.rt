@@ -74,24 +74,18 @@ pub fn parent(entry: &[u8; 16]) -> Handle
     Handle { frame, page }
 }
 
-fn wide(x: u8) -> usize
-    ensures { λ r. ⌜ r ≡ x ⌝ }
-{
-    x as usize
-}
-
 // The slot of a record.
 pub fn slot(entry: &[u8; 16]) -> usize
     ensures { λ r. ⌜ r ≡ slotIn (now (entry .entry)) ⌝ }
 {
-    wide(entry[SLOT])
+    page::wide::from_u8(entry[SLOT])
 }
 
 // The payload offset of a record.
 pub fn offset(entry: &[u8; 16]) -> usize
     ensures { λ r. ⌜ r ≡ offsetIn (now (entry .entry)) ⌝ }
 {
-    wide(entry[OFFSET])
+    page::wide::from_u8(entry[OFFSET])
 }
 
 // The data of a record, as many bytes as its length says.
@@ -100,6 +94,6 @@ pub fn bytes(entry: &[u8; 16]) -> &[u8]
     ensures { λ r. ⌜ now r ≡ dataIn (now (entry .entry)) ⌝ }
 {
     let whole: &[u8] = entry;
-    let end = DATA + wide(entry[LENGTH]);
+    let end = DATA + page::wide::from_u8(entry[LENGTH]);
     &whole[DATA..end]
 }

@@ -3,6 +3,7 @@ use machine::Done;
 use machine::Pool;
 use page::FrameIndex;
 use page::PageNumber;
+use page::StorePlace;
 ghost use mathlib.Core.Path.{_≡_};
 ghost use Rattle.machine.specs.Machine.{state, openedPool};
 ghost use Rattle.machine.specs.Answers.{out, doneAnswer};
@@ -50,7 +51,7 @@ pub fn open(frames: &mut [u8], store: &[u8]) -> Done
             refusal: 16,
         };
     }
-    page::copy::copy_page(frames, 0, store, 0);
+    page::copy::to_frame(frames, FrameIndex(0), store, StorePlace(0));
     Done {
         pool: opened_pool(count as u16, pages as u16),
         refusal: 0,

@@ -8,9 +8,9 @@ use native.Mathlib.Omega.{arith}
 use native.Mathlib.Decide.{ℕ-discrete}
 use borrow.Author.Tests.{eq-eqb, ne-eqb, eqb-true, eqb-false, not-true}
 use lib.Dec.{eqb}
-use Rattle.page.specs.Figures.{slotCount, mostFrames, swizzleBit}
-use Rattle.page.specs.Word.{frameIn, frameWord}
-use Rattle.page.specs.Page.{slot}
+use Rattle.page.specs.Figures.{slotCount, mostFrames}
+use Rattle.page.specs.Word.{frameIn, frameWord, reading, low, high, Number}
+use Rattle.page.specs.Page.{slot, name}
 use Rattle.machine.specs.declared.FrameRecord.{FrameRecord}
 use Rattle.machine.specs.Tests.{_and_, _or_}
 use Rattle.machine.specs.Laws.TestLaws.{clash, case, on, off, same, both, and-true, or-left, or-right, or-second, some-true, true-some}
@@ -19,11 +19,11 @@ use Rattle.machine.specs.Agreement.{parentOf, parentSlotOf, isBlank}
 use Rattle.machine.specs.Laws.AgreementFacts.{occupied-lt, Points, Agreed}
 use Rattle.machine.specs.Moves.{plain}
 use Rattle.machine.specs.Naming.{namedByResident}
-use Rattle.machine.specs.Laws.PlainLaws.{plain-low, plain-high, reading, low, high}
+use Rattle.machine.specs.Laws.PlainLaws.{plain-low, plain-high}
 use Rattle.seen.specs.Among.{among, pageWords, is-among, among-is}
 use Rattle.residents.specs.Residents.{pageBy, Residents, inTable, holdsPage, inFrames}
 
-pub slot-word : (b : List ℕ) (p k : ℕ) → slot b p k ≡ pageWords b p k
+pub slot-word : (b : List ℕ) (p k : ℕ) → name b p k ≡ pageWords b p k
 unfolding slot
 slot-word b p k = refl
 
@@ -129,14 +129,14 @@ module _ (s : State) (few : s .pool .count ≤ mostFrames) (A : Agreed (s .pool)
 
   -- ---- a resident page names each resident page but the root, and the numbers in resident pages' words
 
-  module _ (x : ℕ) (positive : 0 < x) (number : x < swizzleBit) where
+  module _ (x : ℕ) (positive : 0 < x) (number : Number x) where
     split : Names s x → (inTable residents x or inFrames residents (s .frames) (s .pool .count) x) ≡ true
     split n = elim (reading (pageWords (s .frames) (n .frame) (n .slot))) [
       | low l ↦ or-right (inTable residents x) (of-held x (record { frame = n .frame; slot = n .slot; at = n .at; inPage = n .inPage; word = sym (plain-low _ _ l) ∙ n .word }))
       | high g e ↦
-          let q : slot (s .frames) (n .frame) (n .slot) ≡ frameWord g = slot-word _ _ _ ∙ e in
-          let b : Points (s .pool) (frameIn (slot (s .frames) (n .frame) (n .slot))) (n .frame) (n .slot) = A .back (n .frame) (n .slot) (n .at) (n .inPage) (omega arith) in
-          let i : frameIn (slot (s .frames) (n .frame) (n .slot)) ≡ g = omega arith in
+          let q : name (s .frames) (n .frame) (n .slot) ≡ frameWord g = slot-word _ _ _ ∙ e in
+          let b : Points (s .pool) (frameIn (name (s .frames) (n .frame) (n .slot))) (n .frame) (n .slot) = A .back (n .frame) (n .slot) (n .at) (n .inPage) (omega arith) in
+          let i : frameIn (name (s .frames) (n .frame) (n .slot)) ≡ g = omega arith in
           or-left _ (in-table g x (rw i at (b .at)) (sym (plain-high (pageIn (s .pool .records)) g) ∙ ap (plain (pageIn (s .pool .records))) (sym e) ∙ n .word))
     ]
 

@@ -13,11 +13,11 @@ pub fn childless(frames: &[u8], frame: FrameIndex) -> bool
     requires { ⌜ pageSize * frame .0 + pageSize ≤ length (now frames) ⌝ }
     ensures { λ r. ⌜ r ≡ noSwizzledWord (now (frames .entry)) (frame .0) ⌝ }
 {
-    let start = PageNumber::SIZE * frame.0 as usize;
+    let start = FrameIndex::start(frame);
     let mut none = true;
     let mut k = 0;
     while k < PageNumber::SLOTS {
-        let w = word::word_at(frames, start + word::SIZE * k);
+        let w = word::name_at(frames, start + word::SIZE * k);
         if !word::is_number(w) {
             none = false;
         }

@@ -41,7 +41,7 @@ pub fn mark_page(buffer: &[u8], at: usize, limit: usize, seen: &mut Seen) -> boo
 {
     let mut k: usize = 0;
     while k < PageNumber::SLOTS {
-        let w = word::word_at(buffer, at + word::SIZE * k) as usize;
+        let w = word::name_at(buffer, at + word::SIZE * k) as usize;
         if w != 0 {
             if limit <= w {
                 return false;

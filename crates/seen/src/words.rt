@@ -15,7 +15,7 @@ pub fn has_word(buffer: &[u8], at: usize) -> bool
     let mut hit = false;
     let mut k: usize = 0;
     while k < PageNumber::SLOTS {
-        if word::word_at(buffer, at + word::SIZE * k) != 0 {
+        if word::name_at(buffer, at + word::SIZE * k) != 0 {
             hit = true;
         }
         k += 1;
@@ -31,7 +31,7 @@ pub fn has(buffer: &[u8], at: usize, w: u32) -> bool
     let mut hit = false;
     let mut k: usize = 0;
     while k < PageNumber::SLOTS {
-        if word::word_at(buffer, at + word::SIZE * k) == w {
+        if word::name_at(buffer, at + word::SIZE * k) == w {
             hit = true;
         }
         k += 1;

@@ -42,11 +42,8 @@ same-length-2 c = search needs
 returns-2 : tie.Need-returns-2
 returns-2 c = let a = c .before .before .before .before .before .before .before .before .before .before .before .args in write-nothing (given (c .before .before .before .before .before .before .before .before .before .before .before)) (a .handle) (a .offset) (a .bytes .now) (c .before .before .write-refusal .ensures) (c .before .if1 .left) (c .if2 .taken)
 
-cast-f : tie.Need-cast-f
-cast-f c = search needs
-
-mul-start : tie.Need-mul-start
-mul-start c = search needs
+start-requires : tie.Need-start-requires
+start-requires c κs = search needs
 
 add-start : tie.Need-add-start
 add-start c = search needs
@@ -72,8 +69,8 @@ copy-into-requires c κs = search needs
 dirtied-requires : tie.Need-dirtied-requires
 dirtied-requires c κs = search needs
 
-mul-t27 : tie.Need-mul-t27
-mul-t27 c = search needs
+mul-t26 : tie.Need-mul-t26
+mul-t26 c = search needs
 
 element-set-from-next : tie.Need-element-set-from-next
 element-set-from-next c = search needs
@@ -85,7 +82,7 @@ returns-3 : tie.Need-returns-3
 returns-3 c =
     let a = c .before .before .before .before .before .before .before .before .before .before .before .before .before .before .before .before .before .args in
     write-bytes (given (c .before .before .before .before .before .before .before .before .before .before .before .before .before .before .before .before .before)) (a .handle) (a .offset) (a .bytes .now) (c .before .before .before .before .before .before .before .before .write-refusal .ensures) (c .before .before .before .before .before .before .before .if1 .left) (c .before .before .before .before .before .before .if2 .left) (c .before .before .before .before .before .before .before .before .before .before .before .before .before .record-place .ensures) (c .dirtied .ensures)
-    (put-back (a .frames .now) (a .handle .frame .0) (a .offset) _ (a .bytes .now) (c .before .before .before .copy-into .ensures .0))
+    (put-back (a .frames .now) (a .handle .frame .0) _ (a .offset) _ (a .bytes .now) (c .before .before .before .before .before .start .ensures) (c .before .before .before .copy-into .ensures .0))
 
 pub write-spec : {M : Type 1} → statement M
 write-spec =
@@ -99,8 +96,7 @@ write-spec =
     returns
     same-length-2
     returns-2
-    cast-f
-    mul-start
+    start-requires
     add-start
     add-start-2
     add-copy-into
@@ -109,7 +105,7 @@ write-spec =
     part-copy-into-end
     copy-into-requires
     dirtied-requires
-    mul-t27
+    mul-t26
     element-set-from-next
     same-length-3
     returns-3)

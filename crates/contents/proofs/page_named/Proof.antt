@@ -2,8 +2,7 @@
 use Prim.Native.Nat.{_<_, _≤_}
 use mathlib.Core.Path.{refl, sym, ap, _∙_}
 use native.Mathlib.Omega.{arith}
-use borrow.Author.Tests.{ltb-true, ltb-false}
-use Rattle.page.specs.Figures.{swizzleBit}
+use Rattle.page.specs.Word.{Number, Swizzled, number-yes, number-no}
 use Rattle.machine.specs.Laws.TestLaws.{pick-yes, pick-no}
 use Rattle.machine.specs.Machine.{pageNumber}
 use Rattle.machine.specs.Moves.{plain}
@@ -11,11 +10,11 @@ use borrow.Author.Needs.{needs}
 use Rattle.contents.proofs.page_named.Statement.{statement}
 use Rattle.contents.proofs.page_named.Tie as tie
 
-low : (c : tie.Then1) → c .before .before .args .w < swizzleBit
-low c = ltb-true _ swizzleBit (sym (c .before .is-number .ensures) ∙ c .if1 .taken)
+low : (c : tie.Then1) → Number (c .before .before .args .name)
+low c = number-yes _ (sym (c .before .is-number .ensures) ∙ c .if1 .taken)
 
-high : (c : tie.Else1) → swizzleBit ≤ c .before .before .args .w
-high c = ltb-false _ swizzleBit (sym (c .before .is-number .ensures) ∙ c .if1 .left)
+high : (c : tie.Else1) → Swizzled (c .before .before .args .name)
+high c = number-no _ (sym (c .before .is-number .ensures) ∙ c .if1 .left)
 
 is-number-requires : tie.Need-is-number-requires
 is-number-requires c κs = search needs

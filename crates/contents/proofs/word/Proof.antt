@@ -24,14 +24,14 @@ returns : tie.Need-returns
 unfolding wordCall
 returns c = answer-no _ _ _ (c .before .slot-refusal .ensures .0) (c .if1 .taken)
 
-slot-word-requires : tie.Need-slot-word-requires
-slot-word-requires c κs = slot-within _ _ _ (c .before .slot-refusal .ensures) (c .if1 .left)
+slot-name-requires : tie.Need-slot-name-requires
+slot-name-requires c κs = slot-within _ _ _ (c .before .slot-refusal .ensures) (c .if1 .left)
 
 page-named-requires : tie.Need-page-named-requires
-page-named-requires c κs = resolvable _ _ _ (c .before .before .before .slot-refusal .ensures) (c .before .before .if1 .left) (c .before .slot-word .ensures)
+page-named-requires c κs = resolvable _ _ _ (c .before .before .before .slot-refusal .ensures) (c .before .before .if1 .left) (c .before .slot-name .ensures)
 
 returns-2 : tie.Need-returns-2
-returns-2 c = word-names _ _ _ (c .before .before .before .before .slot-refusal .ensures) (c .before .before .before .if1 .left) (c .before .before .slot-word .ensures) (c .page-named .ensures)
+returns-2 c = word-names _ _ _ (c .before .before .before .before .slot-refusal .ensures) (c .before .before .before .if1 .left) (c .before .before .slot-name .ensures) (c .page-named .ensures)
 
 pub word-spec : {M : Type 1} → statement M
 word-spec =
@@ -42,6 +42,6 @@ word-spec =
     element-copy-out-held
     slot-refusal-requires
     returns
-    slot-word-requires
+    slot-name-requires
     page-named-requires
     returns-2)

@@ -16,12 +16,12 @@ ok : (c : tie.Else1) → let a = c .before .before .before .before .before .befo
 ok c = slot-kept _ _ _ (sym (c .before .slot-refusal .ensures .0) ∙ c .if1 .left)
 
 -- the number is below N
-number : (c : tie.Then3) → c .before .before .before .slot-word .result < c .before .before .before .before .before .before .before .before .before .before .before .before .before .before .before .before .args .pool .pages
-number c = number-below _ _ _ (ok (c .before .before .before .before .before .before)) (c .before .before .before .slot-word .ensures) (sym (c .before .is-number .ensures) ∙ c .if3 .taken) (c .before .before .if2 .left)
+number : (c : tie.Then3) → c .before .before .before .slot-name .result < c .before .before .before .before .before .before .before .before .before .before .before .before .before .before .before .before .args .pool .pages
+number c = number-below _ _ _ (ok (c .before .before .before .before .before .before)) (c .before .before .before .slot-name .ensures) (sym (c .before .is-number .ensures) ∙ c .if3 .taken) (c .before .before .if2 .left)
 
 -- the frame is below 64
 frame : (c : tie.After-frame-in) → c .frame-in .result < mostFrames
-frame c = let b = frame-below _ _ _ (ok (c .before .before .before .before .before .before .before)) (c .before .before .before .before .slot-word .ensures) (sym (c .before .before .is-number .ensures) ∙ c .before .if3 .left) in let e = c .frame-in .ensures in omega arith
+frame c = let b = frame-below _ _ _ (ok (c .before .before .before .before .before .before .before)) (c .before .before .before .before .slot-name .ensures) (sym (c .before .before .is-number .ensures) ∙ c .before .if3 .left) in let e = c .frame-in .ensures in omega arith
 
 record-place-requires : tie.Need-record-place-requires
 record-place-requires c κs = search needs
@@ -47,8 +47,8 @@ same-length-2 c = search needs
 returns : tie.Need-returns
 returns c = fix-denied _ _ _ (c .before .before .slot-refusal .ensures .0) (c .before .if1 .taken) (c .refused .ensures)
 
-slot-word-requires : tie.Need-slot-word-requires
-slot-word-requires c κs = let h = ok (c .before .before) in omega arith
+slot-name-requires : tie.Need-slot-name-requires
+slot-name-requires c κs = let h = ok (c .before .before) in omega arith
 
 refused-requires-2 : tie.Need-refused-requires-2
 refused-requires-2 c κs = search needs
@@ -60,7 +60,7 @@ same-length-4 : tie.Need-same-length-4
 same-length-4 c = search needs
 
 returns-2 : tie.Need-returns-2
-returns-2 c = fix-nothing _ _ _ (c .before .before .before .before .before .before .slot-refusal .ensures .0) (c .before .before .before .before .before .if1 .left) (c .before .before .slot-word .ensures) (c .before .if2 .taken) (c .refused2 .ensures)
+returns-2 c = fix-nothing _ _ _ (c .before .before .before .before .before .before .slot-refusal .ensures .0) (c .before .before .before .before .before .if1 .left) (c .before .before .slot-name .ensures) (c .before .if2 .taken) (c .refused2 .ensures)
 
 is-number-requires : tie.Need-is-number-requires
 is-number-requires c κs = search needs
@@ -78,7 +78,7 @@ same-length-6 : tie.Need-same-length-6
 same-length-6 c = search needs
 
 returns-3 : tie.Need-returns-3
-returns-3 c = fix-missed _ _ _ (c .before .before .before .before .before .before .before .before .before .before .before .before .before .before .before .before .slot-refusal .ensures .0) (c .before .before .before .before .before .before .before .before .before .before .before .before .before .before .before .if1 .left) (c .before .before .before .before .before .before .before .before .before .before .before .before .slot-word .ensures) (c .before .before .before .before .before .before .before .before .before .before .before .if2 .left) (sym (c .before .before .before .before .before .before .before .before .before .before .is-number .ensures) ∙ c .before .before .before .before .before .before .before .before .before .if3 .taken) (c .before .before .before .before .bring-in .ensures)
+returns-3 c = fix-missed _ _ _ (c .before .before .before .before .before .before .before .before .before .before .before .before .before .before .before .before .slot-refusal .ensures .0) (c .before .before .before .before .before .before .before .before .before .before .before .before .before .before .before .if1 .left) (c .before .before .before .before .before .before .before .before .before .before .before .before .slot-name .ensures) (c .before .before .before .before .before .before .before .before .before .before .before .if2 .left) (sym (c .before .before .before .before .before .before .before .before .before .before .is-number .ensures) ∙ c .before .before .before .before .before .before .before .before .before .if3 .taken) (c .before .before .before .before .bring-in .ensures)
 
 frame-in-requires : tie.Need-frame-in-requires
 frame-in-requires c κs = search needs
@@ -99,7 +99,7 @@ same-length-8 : tie.Need-same-length-8
 same-length-8 c = search needs
 
 returns-4 : tie.Need-returns-4
-returns-4 c = fix-pinned _ _ _ (c .before .before .before .before .before .before .before .before .before .before .before .before .slot-refusal .ensures .0) (c .before .before .before .before .before .before .before .before .before .before .before .if1 .left) (c .before .before .before .before .before .before .before .before .slot-word .ensures) (c .before .before .before .before .before .before .before .if2 .left) (sym (c .before .before .before .before .before .before .is-number .ensures) ∙ c .before .before .before .before .before .if3 .left) (pin-denied _ _ (c .before .if4 .taken) (c .refused3 .ensures) ∙ ap (pinDecided _) (c .before .before .before .before .frame-in .ensures))
+returns-4 c = fix-pinned _ _ _ (c .before .before .before .before .before .before .before .before .before .before .before .before .slot-refusal .ensures .0) (c .before .before .before .before .before .before .before .before .before .before .before .if1 .left) (c .before .before .before .before .before .before .before .before .slot-name .ensures) (c .before .before .before .before .before .before .before .if2 .left) (sym (c .before .before .before .before .before .before .is-number .ensures) ∙ c .before .before .before .before .before .if3 .left) (pin-denied _ _ (c .before .if4 .taken) (c .refused3 .ensures) ∙ ap (pinDecided _) (c .before .before .before .before .frame-in .ensures))
 
 pinned-requires : tie.Need-pinned-requires
 pinned-requires c κs = search needs
@@ -123,7 +123,7 @@ same-length-10 : tie.Need-same-length-10
 same-length-10 c = search needs
 
 returns-5 : tie.Need-returns-5
-returns-5 c = fix-pinned _ _ _ (c .before .before .before .before .before .before .before .before .before .before .before .before .before .before .slot-refusal .ensures .0) (c .before .before .before .before .before .before .before .before .before .before .before .before .before .if1 .left) (c .before .before .before .before .before .before .before .before .before .before .slot-word .ensures) (c .before .before .before .before .before .before .before .before .before .if2 .left) (sym (c .before .before .before .before .before .before .before .before .is-number .ensures) ∙ c .before .before .before .before .before .before .before .if3 .left) (pin-given _ _ (c .before .before .before .if4 .left) (c .before .pinned .ensures) (c .given .ensures) ∙ ap (pinDecided _) (c .before .before .before .before .before .before .frame-in .ensures))
+returns-5 c = fix-pinned _ _ _ (c .before .before .before .before .before .before .before .before .before .before .before .before .before .before .slot-refusal .ensures .0) (c .before .before .before .before .before .before .before .before .before .before .before .before .before .if1 .left) (c .before .before .before .before .before .before .before .before .before .before .slot-name .ensures) (c .before .before .before .before .before .before .before .before .before .if2 .left) (sym (c .before .before .before .before .before .before .before .before .is-number .ensures) ∙ c .before .before .before .before .before .before .before .if3 .left) (pin-given _ _ (c .before .before .before .if4 .left) (c .before .pinned .ensures) (c .given .ensures) ∙ ap (pinDecided _) (c .before .before .before .before .before .before .frame-in .ensures))
 
 pub fix-spec : {M : Type 1} → statement M
 fix-spec =
@@ -137,7 +137,7 @@ fix-spec =
     same-length
     same-length-2
     returns
-    slot-word-requires
+    slot-name-requires
     refused-requires-2
     same-length-3
     same-length-4

@@ -4,17 +4,17 @@ use mathlib.Core.Path.{_≡_, ap}
 use mathlib.Core.Logic.{_≢_}
 use mathlib.Core.Bool.{Bool, true, false, not}
 use mathlib.Core.List.{List}
-use borrow.Author.Tests.{eq-eqb, ne-eqb, lt-ltb, le-ltb, le-leb, eqb-true, eqb-false, ltb-true, ltb-false, leb-true, not-true}
+use borrow.Author.Tests.{eq-eqb, ne-eqb, lt-ltb, le-leb, eqb-true, eqb-false, ltb-true, leb-true, not-true}
 use lib.Dec.{eqb, ltb, leb}
-use Rattle.page.specs.Figures.{slotCount, recordCount, maxUsage, maxPins, swizzleBit}
-use Rattle.page.specs.Word.{frameIn, frameWord}
-use Rattle.page.specs.Page.{slot}
+use Rattle.page.specs.Figures.{slotCount, recordCount, maxUsage, maxPins}
+use Rattle.page.specs.Word.{frameIn, frameWord, Number, Swizzled, number-yes, number-no, yes-number, no-number, givesPage, gives-page, page-given}
+use Rattle.page.specs.Page.{name}
 use Rattle.machine.specs.declared.FrameRecord.{FrameRecord}
 use Rattle.machine.specs.declared.Pool.{Pool}
 use Rattle.machine.specs.Tests.{_and_, _or_, _⇒_}
 use Rattle.machine.specs.Laws.TestLaws.{case, on, off, use⇒, make⇒, both, and-true, or-second, or-left, or-right, every-true, true-every}
 use Rattle.machine.specs.Machine.{recordAt, pageIn, occupied}
-use Rattle.machine.specs.Agreement.{parentOf, parentSlotOf, isBlank, rootInPlace, pagesApart, handInRange, fieldsInRange, allInRange, emptyBlank, parentsName, pointsBack, swizzledPointBack, absent, numbersAbsent, givesPage, numbersOnce, reachesRoot, allReachRoot, agree}
+use Rattle.machine.specs.Agreement.{parentOf, parentSlotOf, isBlank, rootInPlace, pagesApart, handInRange, fieldsInRange, allInRange, emptyBlank, parentsName, pointsBack, swizzledPointBack, absent, numbersAbsent, numbersOnce, reachesRoot, allReachRoot, agree}
 
 pub occupied-lt : (p : Pool) (f : ℕ) → occupied p f ≡ true → f < p .count
 unfolding occupied
@@ -79,11 +79,11 @@ pub record Agreed (p : Pool) (fs : List ℕ) : Type 0 where
   pub inRange : (f : ℕ) → f < recordCount → InRange p (recordAt (p .records) f)
   pub blank : (f : ℕ) → f < recordCount → occupied p f ≡ false → isBlank (recordAt (p .records) f) ≡ true
   pub parent : (f : ℕ) → occupied p f ≡ true → f ≢ 0 → occupied p (parentOf p f) ≡ true
-  pub parentWord : (f : ℕ) → occupied p f ≡ true → f ≢ 0 → slot fs (parentOf p f) (parentSlotOf p f) ≡ frameWord f
-  pub back : (f k : ℕ) → occupied p f ≡ true → k < slotCount → swizzleBit ≤ slot fs f k → Points p (frameIn (slot fs f k)) f k
-  pub below : (f k : ℕ) → occupied p f ≡ true → k < slotCount → slot fs f k < swizzleBit → slot fs f k ≢ 0 → slot fs f k < p .pages
-  pub away : (f k : ℕ) → occupied p f ≡ true → k < slotCount → slot fs f k < swizzleBit → slot fs f k ≢ 0 → (g : ℕ) → occupied p g ≡ true → pageIn (p .records) g ≢ slot fs f k
-  pub once : (f k g j : ℕ) → occupied p f ≡ true → k < slotCount → occupied p g ≡ true → j < slotCount → slot fs f k ≢ 0 → slot fs f k < swizzleBit → slot fs f k ≡ slot fs g j → (f ≡ g) × (k ≡ j)
+  pub parentWord : (f : ℕ) → occupied p f ≡ true → f ≢ 0 → name fs (parentOf p f) (parentSlotOf p f) ≡ frameWord f
+  pub back : (f k : ℕ) → occupied p f ≡ true → k < slotCount → Swizzled (name fs f k) → Points p (frameIn (name fs f k)) f k
+  pub below : (f k : ℕ) → occupied p f ≡ true → k < slotCount → Number (name fs f k) → name fs f k ≢ 0 → name fs f k < p .pages
+  pub away : (f k : ℕ) → occupied p f ≡ true → k < slotCount → Number (name fs f k) → name fs f k ≢ 0 → (g : ℕ) → occupied p g ≡ true → pageIn (p .records) g ≢ name fs f k
+  pub once : (f k g j : ℕ) → occupied p f ≡ true → k < slotCount → occupied p g ≡ true → j < slotCount → name fs f k ≢ 0 → Number (name fs f k) → name fs f k ≡ name fs g j → (f ≡ g) × (k ≡ j)
   pub reach : (f : ℕ) → occupied p f ≡ true → reachesRoot p (p .count) f ≡ true
 
 module _ (p : Pool) (fs : List ℕ) where
@@ -109,36 +109,36 @@ module _ (p : Pool) (fs : List ℕ) where
   unfolding emptyBlank
   blank-of t f l o = use⇒ _ _ (every-true 64 _ t f l) (ap not o)
 
-  parent-of : parentsName p fs ≡ true → (f : ℕ) → occupied p f ≡ true → f ≢ 0 → (occupied p (parentOf p f) ≡ true) × (slot fs (parentOf p f) (parentSlotOf p f) ≡ swizzleBit + f)
+  parent-of : parentsName p fs ≡ true → (f : ℕ) → occupied p f ≡ true → f ≢ 0 → (occupied p (parentOf p f) ≡ true) × (name fs (parentOf p f) (parentSlotOf p f) ≡ frameWord f)
   unfolding parentsName
   parent-of t f o n =
       let a = and-true (occupied p (parentOf p f)) _ (use⇒ _ _ (every-true _ _ t f (occupied-lt p f o)) (both _ _ o (ap not (ne-eqb f 0 n)))) in
       (a .0, eqb-true _ _ (a .1))
 
-  swizzled-of : swizzledPointBack p fs ≡ true → (f k : ℕ) → occupied p f ≡ true → k < 16 → swizzleBit ≤ slot fs f k → Points p (slot fs f k - swizzleBit) f k
+  swizzled-of : swizzledPointBack p fs ≡ true → (f k : ℕ) → occupied p f ≡ true → k < 16 → Swizzled (name fs f k) → Points p (frameIn (name fs f k)) f k
   unfolding swizzledPointBack
   swizzled-of t f k o h l =
-      points-of p _ f k (use⇒ _ _ (every-true 16 _ (use⇒ _ _ (every-true _ _ t f (occupied-lt p f o)) o) k h) (ap not (le-ltb (slot fs f k) swizzleBit l)))
+      points-of p _ f k (use⇒ _ _ (every-true 16 _ (use⇒ _ _ (every-true _ _ t f (occupied-lt p f o)) o) k h) (ap not (no-number (name fs f k) l)))
 
-  number-of : numbersAbsent p fs ≡ true → (f k : ℕ) → occupied p f ≡ true → k < 16 → slot fs f k < swizzleBit → slot fs f k ≢ 0
-      → (slot fs f k < p .pages) × (absent p (slot fs f k) ≡ true)
+  number-of : numbersAbsent p fs ≡ true → (f k : ℕ) → occupied p f ≡ true → k < 16 → Number (name fs f k) → name fs f k ≢ 0
+      → (name fs f k < p .pages) × (absent p (name fs f k) ≡ true)
   unfolding numbersAbsent
   number-of t f k o h l n =
-      let a = and-true (ltb (slot fs f k) (p .pages)) _ (or-second (eqb (slot fs f k) 0) _
-      (use⇒ _ _ (every-true 16 _ (use⇒ _ _ (every-true _ _ t f (occupied-lt p f o)) o) k h) (lt-ltb (slot fs f k) swizzleBit l)) (ne-eqb _ 0 n)) in
+      let a = and-true (ltb (name fs f k) (p .pages)) _ (or-second (eqb (name fs f k) 0) _
+      (use⇒ _ _ (every-true 16 _ (use⇒ _ _ (every-true _ _ t f (occupied-lt p f o)) o) k h) (yes-number (name fs f k) l)) (ne-eqb _ 0 n)) in
       (ltb-true _ _ (a .0), a .1)
 
   absent-of : (x : ℕ) → absent p x ≡ true → (g : ℕ) → occupied p g ≡ true → pageIn (p .records) g ≢ x
   unfolding absent
   absent-of x t g o = eqb-false _ x (not-true _ (use⇒ _ _ (every-true _ _ t g (occupied-lt p g o)) o))
 
-  single-of : numbersOnce p fs ≡ true → (f k g j : ℕ) → occupied p f ≡ true → k < 16 → occupied p g ≡ true → j < 16 → slot fs f k ≢ 0 → slot fs f k < swizzleBit
-      → slot fs f k ≡ slot fs g j → (f ≡ g) × (k ≡ j)
-  unfolding numbersOnce givesPage
+  single-of : numbersOnce p fs ≡ true → (f k g j : ℕ) → occupied p f ≡ true → k < 16 → occupied p g ≡ true → j < 16 → name fs f k ≢ 0 → Number (name fs f k)
+      → name fs f k ≡ name fs g j → (f ≡ g) × (k ≡ j)
+  unfolding numbersOnce
   single-of t f k g j of hk og hj n l e =
       let a = and-true (eqb f g) (eqb k j) (use⇒ _ _
       (every-true 16 _ (every-true _ _ (every-true 16 _ (every-true _ _ t f (occupied-lt p f of)) k hk) g (occupied-lt p g og)) j hj)
-      (both _ _ of (both _ _ og (both _ _ (both _ _ (lt-ltb _ swizzleBit l) (ap not (ne-eqb _ 0 n))) (eq-eqb _ _ e))))) in
+      (both _ _ of (both _ _ og (both _ _ (gives-page _ l n) (eq-eqb _ _ e))))) in
       (eqb-true f g (a .0), eqb-true k j (a .1))
 
   reach-of : allReachRoot p ≡ true → (f : ℕ) → occupied p f ≡ true → reachesRoot p (p .count) f ≡ true
@@ -211,7 +211,7 @@ module _ (p : Pool) (fs : List ℕ) where
     is-swizzled : swizzledPointBack p fs ≡ true
     unfolding swizzledPointBack
     is-swizzled = true-every _ _ (λ f l. make⇒ _ _ (λ o. true-every 16 _ (λ k h. make⇒ _ _ (λ t.
-        of-points p _ f k (A .back f k o h (ltb-false (slot fs f k) swizzleBit (not-true _ t)))))))
+        of-points p _ f k (A .back f k o h (number-no (name fs f k) (not-true _ t)))))))
 
     is-absent : (x : ℕ) → ((g : ℕ) → occupied p g ≡ true → pageIn (p .records) g ≢ x) → absent p x ≡ true
     unfolding absent
@@ -223,17 +223,17 @@ module _ (p : Pool) (fs : List ℕ) where
     is-numbers : numbersAbsent p fs ≡ true
     unfolding numbersAbsent
     is-numbers = true-every _ _ (λ f l. make⇒ _ _ (λ o. true-every 16 _ (λ k h. make⇒ _ _ (λ t.
-        let w : slot fs f k < swizzleBit = ltb-true (slot fs f k) swizzleBit t in
-        number-or _ (slot fs f k) (λ n. both _ _ (lt-ltb _ _ (A .below f k o h w n)) (is-absent _ (A .away f k o h w n)))))))
+        let w : Number (name fs f k) = number-yes (name fs f k) t in
+        number-or _ (name fs f k) (λ n. both _ _ (lt-ltb _ _ (A .below f k o h w n)) (is-absent _ (A .away f k o h w n)))))))
 
     is-single : numbersOnce p fs ≡ true
-    unfolding numbersOnce givesPage
+    unfolding numbersOnce
     is-single = true-every _ _ (λ f lf. true-every 16 _ (λ k hk. true-every _ _ (λ g lg. true-every 16 _ (λ j hj. make⇒ _ _ (λ t.
         let a = and-true (occupied p f) _ t in
         let b = and-true (occupied p g) _ (a .1) in
-        let c = and-true (ltb (slot fs f k) swizzleBit and not (eqb (slot fs f k) 0)) _ (b .1) in
-        let d = and-true (ltb (slot fs f k) swizzleBit) (not (eqb (slot fs f k) 0)) (c .0) in
-        let r = A .once f k g j (a .0) hk (b .0) hj (eqb-false _ 0 (not-true _ (d .1))) (ltb-true _ swizzleBit (d .0)) (eqb-true _ _ (c .1)) in
+        let c = and-true (givesPage (name fs f k)) _ (b .1) in
+        let d = page-given (name fs f k) (c .0) in
+        let r = A .once f k g j (a .0) hk (b .0) hj (d .1) (d .0) (eqb-true _ _ (c .1)) in
         both _ _ (eq-eqb f g (r .0)) (eq-eqb k j (r .1)))))))
 
     is-rooted : allReachRoot p ≡ true

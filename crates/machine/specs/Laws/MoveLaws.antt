@@ -6,21 +6,20 @@ use mathlib.Core.Bool.{Bool, true, false}
 use mathlib.Core.List.{List}
 use native.Mathlib.Omega.{arith}
 use native.Mathlib.Decide.{decLt, ℕ-discrete}
-use borrow.Author.Tests.{ltb-true}
 use lib.ListN.{length, set}
 use lib.Seq.{ext-getD, getD-set-other}
-use Rattle.page.specs.Figures.{pageSize, slotCount, payloadStart, mostFrames, wordRadix, swizzleBit}
-use Rattle.page.specs.Word.{isNumber, frameIn, frameWord, putWord-before, putWord-after}
-use Rattle.page.specs.Page.{slot, byte, pageOf, putSlot, putPage, putSlot-length, slot-putSlot-same, slot-putSlot-slot, byte-putSlot, pageOf-length, putPage-length, byte-first, byte-pageOf, slot-pageOf, pageOf-putPage}
-use Rattle.page.specs.Octets.{Octets, octets-putSlot, octets-pageOf, buffer-ext}
+use Rattle.page.specs.Figures.{pageSize, slotCount, payloadStart, mostFrames, wordRadix}
+use Rattle.page.specs.Word.{isNumber, frameIn, frameWord, putWord-before, putWord-after, Number, number-yes}
+use Rattle.page.specs.Page.{slot, name, byte, pageOf, putSlot, putPage, putSlot-length, slot-putSlot-same, slot-putSlot-slot, byte-putSlot, pageOf-length, putPage-length, byte-first, byte-pageOf, slot-pageOf, pageOf-putPage}
+use Rattle.page.specs.Octets.{Octets, octets-putSlot, octets-pageOf, slot-lt, buffer-ext}
 use Rattle.machine.specs.declared.FrameRecord.{FrameRecord}
 use Rattle.machine.specs.Tests.{pick}
 use Rattle.machine.specs.Laws.TestLaws.{every-true, pick-yes, pick-either}
 use Rattle.machine.specs.Machine.{State, blank, cleaned, recordAt, pageIn}
-use Rattle.machine.specs.Moves.{plain, imageTo, imageOf, writtenOutBy, writtenOut, writtenOutTo, cleanedTo, settled, evicted, loaded}
+use Rattle.machine.specs.Moves.{plain, imaged, imageTo, imageOf, writtenOutBy, writtenOut, writtenOutTo, cleanedTo, settled, evicted, loaded}
 use Rattle.machine.specs.Sweep.{childless}
 use Rattle.machine.specs.Laws.Ready.{Sized, Ready}
-use Rattle.machine.specs.Laws.PlainLaws.{plain-low}
+use Rattle.machine.specs.Laws.PlainLaws.{imaged-low}
 
 -- ---- the image of the bytes g
 
@@ -29,7 +28,7 @@ module _ (page : ℕ → ℕ) (g : List ℕ) where
   unfolding imageTo
   image-zero = refl
 
-  pub image-suc : (n : ℕ) → imageTo page g (suc n) ≡ putSlot (imageTo page g n) 0 n (plain page (slot g 0 n))
+  pub image-suc : (n : ℕ) → imageTo page g (suc n) ≡ putSlot (imageTo page g n) 0 n (imaged page (slot g 0 n))
   unfolding imageTo
   image-suc n = refl
 
@@ -49,8 +48,8 @@ module _ (page : ℕ → ℕ) (g : List ℕ) where
   image-byte zero i h lo hi = refl
   image-byte (suc n) i h lo hi = byte-putSlot (imageTo page g n) 0 n _ 0 i (omega arith) lo hi ∙ image-byte n i (omega arith) lo hi
 
-  -- each word is the number that it stands for
-  pub image-slot : length g ≡ pageSize → ((k : ℕ) → k < slotCount → plain page (slot g 0 k) < wordRadix) → (n k : ℕ) → n ≤ slotCount → k < n → slot (imageTo page g n) 0 k ≡ plain page (slot g 0 k)
+  -- each word becomes the image's
+  pub image-slot : length g ≡ pageSize → ((k : ℕ) → k < slotCount → imaged page (slot g 0 k) < wordRadix) → (n k : ℕ) → n ≤ slotCount → k < n → slot (imageTo page g n) 0 k ≡ imaged page (slot g 0 k)
   unfolding imageTo
   image-slot l small zero k h lk = absurd (omega arith)
   image-slot l small (suc n) k h lk = elim (ℕ-discrete k n) [
@@ -59,34 +58,34 @@ module _ (page : ℕ → ℕ) (g : List ℕ) where
   ]
 
   -- a page without a swizzled word is its own image
-  pub image-own : length g ≡ pageSize → Octets g → ((k : ℕ) → k < slotCount → slot g 0 k < swizzleBit) → imageTo page g slotCount ≡ g
+  pub image-own : length g ≡ pageSize → Octets g → ((k : ℕ) → k < slotCount → Number (name g 0 k)) → imageTo page g slotCount ≡ g
   image-own l o low =
-      let same : (k : ℕ) → k < slotCount → plain page (slot g 0 k) ≡ slot g 0 k = λ k h. plain-low page (slot g 0 k) (low k h) in
-      let small : (k : ℕ) → k < slotCount → plain page (slot g 0 k) < wordRadix = λ k h. omega (arith, same k h, low k h) in
+      let same : (k : ℕ) → k < slotCount → imaged page (slot g 0 k) ≡ slot g 0 k = λ k h. imaged-low page (slot g 0 k) (low k h) in
+      let small : (k : ℕ) → k < slotCount → imaged page (slot g 0 k) < wordRadix = λ k h. rw (same k h) (slot-lt g 0 k o) in
       buffer-ext (imageTo page g slotCount) g 1 (octets-image slotCount o) o (image-length slotCount ∙ l) l
       (λ p k hp hk. let z : p ≡ 0 = omega arith in rw z (image-slot l small slotCount k (omega arith) hk ∙ same k hk))
       (λ p i hp lo hi. let z : p ≡ 0 = omega arith in rw z (image-byte slotCount i (omega arith) lo hi))
 
 -- an image asks of the frames only what the swizzled words name
-plain-ext : (a b : ℕ → ℕ) (w : ℕ) → w < swizzleBit + mostFrames → ((g : ℕ) → g < mostFrames → a g ≡ b g) → plain a w ≡ plain b w
+plain-ext : (a b : ℕ → ℕ) (w : ℕ) → w < frameWord mostFrames → ((g : ℕ) → g < mostFrames → a g ≡ b g) → plain a w ≡ plain b w
 unfolding plain
 plain-ext a b w h e = ap (pick (isNumber w) w) (e (frameIn w) (omega arith))
 
-pub image-ext : (a b : ℕ → ℕ) (g : List ℕ) (n : ℕ) → n ≤ slotCount → ((k : ℕ) → k < slotCount → slot g 0 k < swizzleBit + mostFrames) → ((j : ℕ) → j < mostFrames → a j ≡ b j)
+pub image-ext : (a b : ℕ → ℕ) (g : List ℕ) (n : ℕ) → n ≤ slotCount → ((k : ℕ) → k < slotCount → name g 0 k < frameWord mostFrames) → ((j : ℕ) → j < mostFrames → a j ≡ b j)
     → imageTo a g n ≡ imageTo b g n
 unfolding imageTo
 image-ext a b g zero l h e = refl
-image-ext a b g (suc n) l h e = rw (image-ext a b g n (omega arith) h e, plain-ext a b (slot g 0 n) (h n (omega arith)) e)
+image-ext a b g (suc n) l h e = rw (image-ext a b g n (omega arith) h e, plain-ext a b (name g 0 n) (h n (omega arith)) e)
 
 -- ---- writing out
 
 -- where a and b give the same pages to 64 frames, and a dirty page's swizzled words name one of those
-pub writtenOutBy-ext : (a b : ℕ → ℕ) (r : FrameRecord) (fs st : List ℕ) (f : ℕ) → (r .dirty ≡ true → (k : ℕ) → k < slotCount → slot fs f k < swizzleBit + mostFrames)
+pub writtenOutBy-ext : (a b : ℕ → ℕ) (r : FrameRecord) (fs st : List ℕ) (f : ℕ) → (r .dirty ≡ true → (k : ℕ) → k < slotCount → name fs f k < frameWord mostFrames)
     → ((j : ℕ) → j < mostFrames → a j ≡ b j) → writtenOutBy a r fs st f ≡ writtenOutBy b r fs st f
 unfolding writtenOutBy pick
 writtenOutBy-ext a b r fs st f h e = by-dirty (r .dirty) h
   where
-    by-dirty : (d : Bool) → (d ≡ true → (k : ℕ) → k < slotCount → slot fs f k < swizzleBit + mostFrames)
+    by-dirty : (d : Bool) → (d ≡ true → (k : ℕ) → k < slotCount → name fs f k < frameWord mostFrames)
         → pick d (putPage st (r .page .0) (imageTo a (pageOf fs f) slotCount)) st ≡ pick d (putPage st (r .page .0) (imageTo b (pageOf fs f) slotCount)) st
     by-dirty true k = ap (λ (g : List ℕ). pick true (putPage st (r .page .0) g) st) (image-ext a b (pageOf fs f) slotCount (omega arith) (λ j l. rw (slot-pageOf fs f j l) (k refl j l)) e)
     by-dirty false k = refl
@@ -214,14 +213,14 @@ unfolding loaded
 loaded-bytes s f k e q z hk he hq ne =
     let lg : length (pageOf (s .store) q) ≡ pageSize = pageOf-length (s .store) q _ (z .store) hq in
     let l : length (putPage (s .frames) e (pageOf (s .store) q)) ≡ pageSize * s .pool .count = putPage-length (s .frames) e (pageOf (s .store) q) _ (z .frames) lg he ∙ z .frames in
-    pageOf-putSlot-other (putPage (s .frames) e (pageOf (s .store) q)) f k (frameWord e) e _ l he hk ne ∙ pageOf-putPage (s .frames) e (pageOf (s .store) q) _ (z .frames) lg he
+    pageOf-putSlot-other (putPage (s .frames) e (pageOf (s .store) q)) f k _ e _ l he hk ne ∙ pageOf-putPage (s .frames) e (pageOf (s .store) q) _ (z .frames) lg he
 
 -- the image of a frame without a swizzled word is its bytes
 pub childless-image : (s : State) (f : ℕ) → Sized s → Octets (s .frames) → f < s .pool .count → childless (s .frames) f ≡ true → imageOf (s .pool .records) (s .frames) f ≡ pageOf (s .frames) f
 unfolding childless
 childless-image s f z o l c =
     image-own (pageIn (s .pool .records)) (pageOf (s .frames) f) (pageOf-length (s .frames) f _ (z .frames) l) (octets-pageOf (s .frames) f o)
-    (λ k h. rw (slot-pageOf (s .frames) f k h) (ltb-true _ swizzleBit (every-true slotCount (λ j. isNumber (slot (s .frames) f j)) c k h)))
+    (λ k h. rw (slot-pageOf (s .frames) f k h) (number-yes _ (every-true slotCount (λ j. isNumber (name (s .frames) f j)) c k h)))
 
 -- the page in frame f leaves it, and comes into frame e for slot k of frame up
 abbrev pub outAndIn : State → ℕ → ℕ → ℕ → ℕ → State

@@ -1,26 +1,27 @@
--- The page number that a word stands for, by its two readings. Assumes nothing.
-use mathlib.Core.Path.{_≡_, ap}
-use Prim.Native.Nat.{ℕ, _-_, _<_}
+-- The page number that a name stands for, by its two readings, and a word's in an image. Assumes nothing.
+use mathlib.Core.Path.{_≡_, sym, ap}
+use Prim.Native.Nat.{ℕ, _<_}
 use native.Mathlib.Omega.{arith}
-use native.Mathlib.Decide.{decLt}
-use borrow.Author.Tests.{lt-ltb, le-ltb}
-use Rattle.page.specs.Figures.{swizzleBit}
-use Rattle.page.specs.Word.{frameIn, frameWord}
+use Rattle.page.specs.Figures.{mostPages, wordRadix}
+use Rattle.page.specs.Word.{nameOf, Number, frameWord, yes-number, no-number, name-renamed-number, renamed-same, renamed-lt}
 use Rattle.machine.specs.Tests.{pick}
-use Rattle.machine.specs.Moves.{plain}
+use Rattle.machine.specs.Moves.{plain, imaged}
 
-pub plain-low : (page : ℕ → ℕ) (w : ℕ) → w < swizzleBit → plain page w ≡ w
+pub plain-low : (page : ℕ → ℕ) (w : ℕ) → Number w → plain page w ≡ w
 unfolding plain pick
-plain-low page w h = rw (lt-ltb w swizzleBit h)
+plain-low page w h = rw (yes-number w h)
 
 pub plain-high : (page : ℕ → ℕ) (g : ℕ) → plain page (frameWord g) ≡ page g
 unfolding plain pick
-plain-high page g = rw (le-ltb (frameWord g) swizzleBit (omega arith)) (ap page (omega arith))
+plain-high page g = rw (no-number (frameWord g) (omega arith)) (ap page (omega arith))
 
--- a word is a number or swizzled to a frame
-pub data Reading (w : ℕ) : Type 0 where
-  low : w < swizzleBit → Reading w
-  high : (g : ℕ) → w ≡ frameWord g → Reading w
+-- a word of an image names the page, where that is one, and nothing only where it named nothing
+pub name-imaged : (page : ℕ → ℕ) (w : ℕ) → plain page (nameOf w) < mostPages → (plain page (nameOf w) ≡ 0 → nameOf w ≡ 0) → nameOf (imaged page w) ≡ plain page (nameOf w)
+name-imaged page w h z = name-renamed-number w (plain page (nameOf w)) h z
 
-pub reading : (w : ℕ) → Reading w
-reading w = elim (decLt w swizzleBit) [ yes h ↦ low h | no h ↦ high (frameIn w) (omega arith) ]
+pub imaged-lt : (page : ℕ → ℕ) (w : ℕ) → plain page (nameOf w) < mostPages → imaged page w < wordRadix
+imaged-lt page w h = renamed-lt w (plain page (nameOf w)) (omega arith)
+
+-- and is itself where it is a number
+pub imaged-low : (page : ℕ → ℕ) (w : ℕ) → Number (nameOf w) → imaged page w ≡ w
+imaged-low page w h = sym (renamed-same w (plain page (nameOf w)) (sym (plain-low page (nameOf w) h)))

@@ -8,9 +8,9 @@ use native.Mathlib.Decide.{decLt}
 use borrow.Author.Tests.{eqb-true, leb-true, le-leb, eq-eqb, not-true}
 use lib.Dec.{eqb, leb}
 use lib.ListN.{length}
-use Rattle.page.specs.Figures.{pageSize, slotCount, leastFrames, mostFrames, mostPages, swizzleBit}
-use Rattle.page.specs.Word.{frameIn}
-use Rattle.page.specs.Page.{slot}
+use Rattle.page.specs.Figures.{pageSize, slotCount, leastFrames, mostFrames, mostPages}
+use Rattle.page.specs.Word.{frameIn, frameWord, high, low, reading}
+use Rattle.page.specs.Page.{name}
 use Rattle.machine.specs.declared.FrameRecord.{FrameRecord}
 use Rattle.machine.specs.Tests.{_and_, firstBroken}
 use Rattle.machine.specs.Laws.TestLaws.{clash, and-true, both, first-kept, case, on, off}
@@ -68,7 +68,7 @@ pub record Ready (s : State) : Type 0 where
   pub hand : s .pool .hand .0 < s .pool .count
   pub inRange : (f : ℕ) → f < s .pool .count → InRange (s .pool) (recordAt (s .pool .records) f)
   pub dirtyUsed : (f : ℕ) → f < s .pool .count → recordAt (s .pool .records) f .dirty ≡ true → recordAt (s .pool .records) f .used ≡ true
-  pub words : (f k : ℕ) → f < s .pool .count → recordAt (s .pool .records) f .used ≡ true → k < slotCount → slot (s .frames) f k < swizzleBit + mostFrames
+  pub words : (f k : ℕ) → f < s .pool .count → recordAt (s .pool .records) f .used ≡ true → k < slotCount → name (s .frames) f k < frameWord mostFrames
 
 blank-clean : (r : FrameRecord) → isBlank r ≡ true → r .dirty ≡ false
 unfolding isBlank
@@ -84,12 +84,12 @@ module _ (s : State) (K : Kept s) where
     | off o ↦ absurd (clash (sym d ∙ blank-clean _ (K .agreed .blank f (omega (arith, most)) o)))
   ]
 
-  low-words : (f k : ℕ) → f < s .pool .count → recordAt (s .pool .records) f .used ≡ true → k < slotCount → slot (s .frames) f k < swizzleBit + mostFrames
-  low-words f k l u h = elim (decLt (slot (s .frames) f k) swizzleBit) [
-    | yes a ↦ omega arith
-    | no a ↦
-        let p : Points (s .pool) (frameIn (slot (s .frames) f k)) f k = K .agreed .back f k (make-occupied (s .pool) f l u) h (omega arith) in
-        let g : frameIn (slot (s .frames) f k) < s .pool .count = occupied-lt (s .pool) _ (p .at) in
+  low-words : (f k : ℕ) → f < s .pool .count → recordAt (s .pool .records) f .used ≡ true → k < slotCount → name (s .frames) f k < frameWord mostFrames
+  low-words f k l u h = elim (reading (name (s .frames) f k)) [
+    | low a ↦ omega arith
+    | high j a ↦
+        let p : Points (s .pool) (frameIn (name (s .frames) f k)) f k = K .agreed .back f k (make-occupied (s .pool) f l u) h (omega arith) in
+        let g : frameIn (name (s .frames) f k) < s .pool .count = occupied-lt (s .pool) _ (p .at) in
         omega (arith, most)
   ]
 

@@ -7,9 +7,9 @@ use mathlib.Core.List.{List, []}
 use native.Mathlib.Omega.{arith}
 use borrow.Author.Tests.{lt-ltb, le-ltb, eqb-false, not-true}
 use lib.Dec.{eqb, ltb}
-use Rattle.page.specs.Figures.{slotCount, swizzleBit}
-use Rattle.page.specs.Word.{isNumber}
-use Rattle.page.specs.Page.{slot}
+use Rattle.page.specs.Figures.{slotCount}
+use Rattle.page.specs.Word.{isNumber, frameIn, yes-number, no-number, high, low, reading}
+use Rattle.page.specs.Page.{name}
 use Rattle.machine.specs.declared.Pool.{Pool}
 use Rattle.machine.specs.declared.Handle.{Handle}
 use Rattle.machine.specs.Tests.{firstBroken}
@@ -20,24 +20,24 @@ use Rattle.machine.specs.Calls.{fixEntryRules}
 use Rattle.machine.specs.Laws.TestLaws.{first-kept}
 use Rattle.machine.specs.Laws.AgreementFacts.{Agreed}
 use Rattle.machine.specs.Laws.FoundLaws.{holds-found, none-found}
-use Rattle.machine.specs.Laws.PlainLaws.{plain-low, plain-high, reading, low, high}
+use Rattle.machine.specs.Laws.PlainLaws.{plain-low, plain-high}
 use Rattle.machine.specs.Laws.RuleLaws.{held-occupied, slot-parts}
 
 -- the page that a word stands for is in no frame
 abbrev notResident : Pool → ℕ → Bool
 notResident p w = not (ltb (found p (plain (pageIn (p .records)) w)) (p .count))
 
-pub number-exactly : (p : Pool) (fs : List ℕ) → Agreed p fs → (f k : ℕ) → occupied p f ≡ true → k < slotCount → slot fs f k ≢ 0 → isNumber (slot fs f k) ≡ notResident p (slot fs f k)
-number-exactly p fs A f k o l n = elim (reading (slot fs f k)) [
+pub number-exactly : (p : Pool) (fs : List ℕ) → Agreed p fs → (f k : ℕ) → occupied p f ≡ true → k < slotCount → name fs f k ≢ 0 → isNumber (name fs f k) ≡ notResident p (name fs f k)
+number-exactly p fs A f k o l n = elim (reading (name fs f k)) [
   | low h ↦
-      let e : found p (slot fs f k) ≡ p .count = none-found p (slot fs f k) (A .away f k o l h n) in
-      lt-ltb (slot fs f k) swizzleBit h
-      ∙ sym (ap (λ (q : ℕ). not (ltb (found p q) (p .count))) (plain-low (pageIn (p .records)) (slot fs f k) h) ∙ ap not (le-ltb (found p (slot fs f k)) (p .count) (omega arith)))
+      let e : found p (name fs f k) ≡ p .count = none-found p (name fs f k) (A .away f k o l h n) in
+      yes-number (name fs f k) h
+      ∙ sym (ap (λ (q : ℕ). not (ltb (found p q) (p .count))) (plain-low (pageIn (p .records)) (name fs f k) h) ∙ ap not (le-ltb (found p (name fs f k)) (p .count) (omega arith)))
   | high g e ↦
-      let w : ℕ = slot fs f k in
-      let o : occupied p (w - swizzleBit) ≡ true = A .back f k o l (omega arith) .at in
-      let q : plain (pageIn (p .records)) w ≡ pageIn (p .records) (w - swizzleBit) = ap (plain (pageIn (p .records))) e ∙ plain-high (pageIn (p .records)) g ∙ ap (pageIn (p .records)) (omega arith) in
-      le-ltb w swizzleBit (omega arith) ∙ sym (ap not (lt-ltb (found p (plain (pageIn (p .records)) w)) (p .count) (holds-found p _ (w - swizzleBit) o (sym q))))
+      let w : ℕ = name fs f k in
+      let o : occupied p (frameIn w) ≡ true = A .back f k o l (omega arith) .at in
+      let q : plain (pageIn (p .records)) w ≡ pageIn (p .records) (frameIn w) = ap (plain (pageIn (p .records))) e ∙ plain-high (pageIn (p .records)) g ∙ ap (pageIn (p .records)) (omega arith) in
+      no-number w (omega arith) ∙ sym (ap not (lt-ltb (found p (plain (pageIn (p .records)) w)) (p .count) (holds-found p _ (frameIn w) o (sym q))))
 ]
 
 -- 10. "Unlink's page is resident.", where no rule tested before it is broken

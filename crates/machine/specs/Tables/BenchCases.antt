@@ -4,7 +4,7 @@ use mathlib.Core.Bool.{true}
 use mathlib.Core.List.{List, [], _∷_, _++_}
 use Prim.Native.Nat.{ℕ}
 use lib.ListN.{replicate}
-use Rattle.page.specs.Word.{wordAt, isNumber, frameIn}
+use Rattle.page.specs.Word.{wordAt, nameOf, isNumber, frameIn}
 use Rattle.page.specs.Page.{slot}
 use Rattle.machine.specs.declared.FrameRecord.{FrameRecord}
 use Rattle.machine.specs.declared.Handle.{Handle}
@@ -17,7 +17,7 @@ use Rattle.machine.specs.Tables.Rows.{empty, resident, names, swizzledTo
 
 -- what a word names: 0 and a page number, or 1 and a frame index
 abbrev reading : ℕ → List ℕ
-reading w = pick (isNumber w) (0 ∷ w ∷ []) (1 ∷ frameIn w ∷ [])
+reading w = let n = nameOf w in pick (isNumber n) (0 ∷ n ∷ []) (1 ∷ frameIn n ∷ [])
 
 -- an answer with the hand after it
 abbrev withHandAfter : Out → List ℕ

@@ -4,13 +4,13 @@ use mathlib.Core.List.{List, [], _∷_, _++_, map, foldr}
 use Prim.Native.Nat.{ℕ, _-_, _*_}
 use lib.Dec.{eqb}
 use lib.ListN.{length, replicate}
-use Rattle.page.specs.Word.{wordAt, putWord}
+use Rattle.page.specs.Word.{wordAt, putWord, nameOf, renamed, givesPage}
 use Rattle.page.specs.Page.{slot, putSlot, pageOf, putPage, putPayload, bytesFrom}
 use Rattle.machine.specs.declared.FrameRecord.{FrameRecord}
 use Rattle.machine.specs.declared.Handle.{Handle}
 use Rattle.machine.specs.Tests.{pick, _and_, _or_, _⇒_, every, some, firstBroken, verdict}
 use Rattle.machine.specs.Machine.{State, state, frameIndex, pageNumber, zeroPool, openedPool, occupied, foundFrom}
-use Rattle.machine.specs.Agreement.{isBlank, rootInPlace, pagesApart, handInRange, fieldsInRange, allInRange, emptyBlank, parentsName, pointsBack, swizzledPointBack, absent, numbersAbsent, givesPage, numbersOnce, reachesRoot, allReachRoot, agree}
+use Rattle.machine.specs.Agreement.{isBlank, rootInPlace, pagesApart, handInRange, fieldsInRange, allInRange, emptyBlank, parentsName, pointsBack, swizzledPointBack, absent, numbersAbsent, numbersOnce, reachesRoot, allReachRoot, agree}
 use Rattle.machine.specs.Soundness.{wordsBelow, wordsOnce, sound}
 use Rattle.machine.specs.Moves.{plain, imageTo, writtenOutBy, writtenOutTo, cleanedTo, settled, evicted, loaded}
 use Rattle.machine.specs.Sweep.{after, emptyFrom, childless, standing, lookLeaves, lookTakes, sweepFrom}
@@ -137,6 +137,6 @@ sameNumbers (x ∷ xs) (y ∷ ys) = eqb x y && sameNumbers xs ys
 
 -- every row gives what document 01 says. To unfold it unfolds the definitions that the rows are computed by.
 unfoldable pub allHold : List Case → Bool
-unfolding sameNumbers openCall rootCall fixCall missOut unfixCall showCall payloadPlace peekCall wordCall writeCall linkCall unlinkCall evictCall settleCall foundAnswer findCall decide verdict firstBroken pick _and_ _or_ _⇒_ every some lengthsFit handleFits rangeFits agree rootInPlace pagesApart handInRange allInRange fieldsInRange emptyBlank isBlank parentsName pointsBack swizzledPointBack absent numbersAbsent givesPage numbersOnce reachesRoot allReachRoot sound wordsBelow wordsOnce zeroPool openedPool occupied foundFrom slot wordAt putSlot putWord pageOf putPage putPayload bytesFrom plain imageTo writtenOutBy writtenOutTo cleanedTo settled evicted loaded after emptyFrom childless standing lookLeaves lookTakes sweepFrom currentWord named namedByResident repeated wordLoadable loadable doneAnswer placeAnswer cut
+unfolding sameNumbers openCall rootCall fixCall missOut unfixCall showCall payloadPlace peekCall wordCall writeCall linkCall unlinkCall evictCall settleCall foundAnswer findCall decide verdict firstBroken pick _and_ _or_ _⇒_ every some lengthsFit handleFits rangeFits agree rootInPlace pagesApart handInRange allInRange fieldsInRange emptyBlank isBlank parentsName pointsBack swizzledPointBack absent numbersAbsent givesPage numbersOnce reachesRoot allReachRoot sound wordsBelow wordsOnce zeroPool openedPool occupied foundFrom nameOf renamed slot wordAt putSlot putWord pageOf putPage putPayload bytesFrom plain imageTo writtenOutBy writtenOutTo cleanedTo settled evicted loaded after emptyFrom childless standing lookLeaves lookTakes sweepFrom currentWord named namedByResident repeated wordLoadable loadable doneAnswer placeAnswer cut
 allHold [] = true
 allHold (c ∷ cs) = sameNumbers (c .gives) (c .says) && allHold cs

@@ -8,7 +8,7 @@ use borrow.Author.Tests.{lt-ltb, le-ltb}
 use lib.ListN.{length, take, drop, getD, length-take, length-drop}
 use lib.Seq.{getD-take, getD-drop, ext-getD}
 use Rattle.page.specs.Figures.{pageSize, payloadStart, payloadSize}
-use Rattle.page.specs.Page.{slot, byte, bytesFrom, payloadAt, payloadOf}
+use Rattle.page.specs.Page.{name, byte, bytesFrom, payloadAt, payloadOf}
 use Rattle.machine.specs.declared.Handle.{Handle}
 use Rattle.machine.specs.Laws.TestLaws.{pick-either}
 use Rattle.machine.specs.Tests.{pick}
@@ -92,7 +92,7 @@ module _ (x : Point) (I : Invariant x) where
       rw (r .1) (place-gives p fs st (r .0))
 
   -- ---- words
-  pub word-gives : (h : Handle) (k : ℕ) → accepted (wordCall (x .now) h k .answer) ≡ true → wordCall (x .now) h k .answer ≡ number (slot (x .map) (h .page .0) k)
+  pub word-gives : (h : Handle) (k : ℕ) → accepted (wordCall (x .now) h k .answer) ≡ true → wordCall (x .now) h k .answer ≡ number (name (x .map) (h .page .0) k)
   word-gives h k t =
       let r = granted-of _ _ _ _ (word-case x I h k) t in
       ap answerOf (r .1) ∙ ap number (plain-word x I (h .page .0) (h .frame .0) k (record { at = r .0 .handle .at; page = r .0 .handle .page }) (r .0 .inPage))

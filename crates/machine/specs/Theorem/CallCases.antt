@@ -9,9 +9,9 @@ use borrow.Author.Tests.{eqb-true, eqb-false, ltb-true, leb-true, not-true}
 use lib.Dec.{eqb, ltb, leb}
 use lib.ListN.{length}
 use Rattle.page.specs.declared.PageNumber.{PageNumber}
-use Rattle.page.specs.Figures.{pageSize, slotCount, payloadSize, maxPins, swizzleBit}
-use Rattle.page.specs.Word.{numberWord}
-use Rattle.page.specs.Page.{slot}
+use Rattle.page.specs.Figures.{pageSize, slotCount, payloadSize, maxPins}
+use Rattle.page.specs.Word.{numberWord, Number, number-yes}
+use Rattle.page.specs.Page.{name}
 use Rattle.machine.specs.declared.Handle.{Handle}
 use Rattle.machine.specs.Tests.{_and_, Rule, firstBroken}
 use Rattle.machine.specs.Laws.TestLaws.{and-true, first-kept, kept-then}
@@ -52,12 +52,12 @@ pub record MayLink (x : Point) (h : Handle) (k q : ℕ) : Type 0 where
   pub inPage : k < slotCount
   pub vacant : wordOf (x .now) h k ≡ 0
   pub below : q < x .now .pool .pages
-  pub fresh : (p j : ℕ) → p < x .now .pool .pages → j < slotCount → slot (x .map) p j ≢ q
+  pub fresh : (p j : ℕ) → p < x .now .pool .pages → j < slotCount → name (x .map) p j ≢ q
 
 pub record MayUnlink (s : State) (h : Handle) (k : ℕ) : Type 0 where
   pub handle : Handled (view s) h
   pub inPage : k < slotCount
-  pub number : wordOf s h k < swizzleBit
+  pub number : Number (wordOf s h k)
 
 pub record MayEvict (s : State) (q : ℕ) : Type 0 where
   pub holder : Holder (view s) q (found (s .pool) q)
@@ -150,7 +150,7 @@ module _ (x : Point) (I : Invariant x) where
   unfolding unlinkCall usual lacks _and_
   unlink-case h k = by-rules (rule3 (x .now) h ∷ rule4 k ∷ rule7 (wordOf (x .now) h k) ∷ rule10 (wordOf (x .now) h k) ∷ []) _ _ refl (λ e.
       let a = name-rules (x .now) h k (rule10 (wordOf (x .now) h k) ∷ []) e in
-      record { handle = a .0 .handle; inPage = a .0 .inPage; number = ltb-true _ swizzleBit (first-kept 9 _ [] (a .1) .0) })
+      record { handle = a .0 .handle; inPage = a .0 .inPage; number = number-yes _ (first-kept 9 _ [] (a .1) .0) })
 
   pub evict-case : (q : PageNumber) → Cases (x .now) (MayEvict (x .now) (q .0)) (out done (evicted (x .now) (found (x .now .pool) (q .0)))) (evictCall (x .now) q)
   unfolding evictCall usual lacks _and_

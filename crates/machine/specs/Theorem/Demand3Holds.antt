@@ -17,7 +17,7 @@ use Rattle.machine.specs.Demand3.{Holds, Demand3}
 use Rattle.machine.specs.Theorem.Invariant.{Invariant}
 use Rattle.machine.specs.Theorem.Keeps.{open-keeps}
 use Rattle.machine.specs.Theorem.Outcomes.{Outcome, kept, broken, outcome}
-use Rattle.machine.specs.Theorem.PointHolds.{pages-apart, other-empty, kept-frame, root-resident, named-by, named-once, leads-to-root, same-payload, swizzled-word, number-word, store-plain}
+use Rattle.machine.specs.Theorem.PointHolds.{pages-apart, other-empty, kept-frame, root-resident, named-by, named-once, leads-to-root, same-payload, swizzled-whole, number-whole, store-plain}
 use Rattle.machine.specs.Theorem.AnswersHold.{show-gives, peek-gives, word-gives}
 use Rattle.machine.specs.Theorem.DeniedHolds.{denied-exactly}
 use Rattle.machine.specs.Theorem.Steps.{step-keeps}
@@ -39,8 +39,8 @@ holds x I = record {
   namedOnce = named-once x I;
   tree = leads-to-root x I;
   payloadBytes = same-payload x I;
-  swizzled = swizzled-word x I;
-  unswizzled = number-word x I;
+  swizzled = swizzled-whole x I;
+  unswizzled = number-whole x I;
   storePlain = store-plain x I;
   settled = settle-gives x I;
   denied = denied-exactly x I;

@@ -6,10 +6,9 @@ use mathlib.Core.Bool.{true, false}
 use mathlib.Core.List.{List, [], _∷_, _++_}
 use native.Mathlib.Omega.{arith}
 use native.Mathlib.Decide.{ℕ-discrete}
-use borrow.Author.Tests.{lt-ltb, ltb-true}
-use Rattle.page.specs.Figures.{slotCount, swizzleBit}
-use Rattle.page.specs.Word.{isNumber, frameIn, frameWord}
-use Rattle.page.specs.Page.{slot}
+use Rattle.page.specs.Figures.{slotCount}
+use Rattle.page.specs.Word.{isNumber, frameIn, frameWord, Number, Swizzled, number-yes, yes-number}
+use Rattle.page.specs.Page.{name}
 use Rattle.machine.specs.declared.Handle.{Handle}
 use Rattle.machine.specs.Tests.{_and_, Rule, firstBroken}
 use Rattle.machine.specs.Laws.TestLaws.{case, on, off, is-off, kept-then, broken-here, none-broken, numbered, parts-kept}
@@ -43,10 +42,10 @@ module _ (x : Point) (I : Invariant x) where
   not-page-0 p f h n z = n (I .shape .apart f 0 (h .at) (first-root _ (I .shape)) (h .page ∙ z ∙ sym (first-page _ (I .shape))))
 
   -- ---- every frame is used and none is open to eviction, in the words of the map and the balance
-  has-child : (p f k : ℕ) → Holder (view (x .now)) p f → k < slotCount → swizzleBit ≤ slot (x .now .frames) f k → (j c : ℕ) × Names x p j c × (c ≢ 0) × Resident x c
+  has-child : (p f k : ℕ) → Holder (view (x .now)) p f → k < slotCount → Swizzled (name (x .now .frames) f k) → (j c : ℕ) × Names x p j c × (c ≢ 0) × Resident x c
   has-child p f k h hk l = elim (meets x I p f k h hk) [
     | number e m away ↦ absurd (omega arith)
-    | swizzledTo g e C H ↦ (k, slot (x .map) p k, record { inPage = hk; word = refl }, not-page-0 _ g H (not-first (C .notRoot)), resident x I _ g H)
+    | swizzledTo g e C H ↦ (k, name (x .map) p k, record { inPage = hk; word = refl }, not-page-0 _ g H (not-first (C .notRoot)), resident x I _ g H)
   ]
 
   closed : Denied (x .now) → (p : ℕ) → p ≢ 0 → Resident x p → Pinned x p ⊎ ((k c : ℕ) × Names x p k c × (c ≢ 0) × Resident x c)
@@ -66,8 +65,8 @@ module _ (x : Point) (I : Invariant x) where
       let e : a .0 ≡ f = I .shape .apart (a .0) f (a .1 .at) (h .at) (a .1 .page ∙ sym (h .page)) in
       a .2 (ap (view (x .now) .pins) e ∙ O .unpinned)
   not-open p f h O (inr (k, c, m, n, r)) =
-      let e : slot (x .now .frames) f k ≡ frameWord (r .0) = swizzled-word x I p f k c (r .0) (in-frame x I p f h) m n (r .1) in
-      let l : slot (x .now .frames) f k < swizzleBit = O .leaf k (m .inPage) in
+      let e : name (x .now .frames) f k ≡ frameWord (r .0) = swizzled-word x I p f k c (r .0) (in-frame x I p f h) m n (r .1) in
+      let l : Number (name (x .now .frames) f k) = O .leaf k (m .inPage) in
       omega arith
 
   denied-frames : NoRoom x → Denied (x .now)
@@ -88,8 +87,8 @@ module _ (x : Point) (I : Invariant x) where
     asked : (t : isNumber (wordOf (x .now) h k) ≡ true) → firstBroken (nameRules (x .now) h k) ≡ 0 → AtName (x .now) h k → LoadAsked x h k
     unfolding numbered _and_
     asked t m A =
-        let e : wordOf (x .now) h k ≡ slot (x .map) (h .page .0) k =
-        sym (plain-low (view (x .now) .page) _ (ltb-true _ swizzleBit t)) ∙ plain-word x I (h .page .0) (h .frame .0) k (handle-holder A) (A .inPage) in
+        let e : wordOf (x .now) h k ≡ name (x .map) (h .page .0) k =
+        sym (plain-low (view (x .now) .page) _ (number-yes _ t)) ∙ plain-word x I (h .page .0) (h .frame .0) k (handle-holder A) (A .inPage) in
         record {
           absent = rw (← e) (not-resident x I (wordOf (x .now) h k) (stays-away x I h k t A));
           unbroken = rw (← e) (unbroken x I _ ∙ kept-part (nameRules (x .now) h k) _ refl m ∙ kept-then 14 [] (loads x I h k t A) ∙ none-broken);
@@ -123,13 +122,13 @@ module _ (x : Point) (I : Invariant x) where
     denied-when : LoadAsked x h k → NoRoom x → fixCall (x .now) h k .answer ≡ refused 15
     unfolding numbered _and_
     denied-when L R =
-        let u = sym (unbroken x I (nameRules (x .now) h k ++ (rule14 (x .now) (slot (x .map) (h .page .0) k) ∷ []))) ∙ L .unbroken in
-        let A = name-rules (x .now) h k (rule14 (x .now) (slot (x .map) (h .page .0) k) ∷ []) u .0 in
+        let u = sym (unbroken x I (nameRules (x .now) h k ++ (rule14 (x .now) (name (x .map) (h .page .0) k) ∷ []))) ∙ L .unbroken in
+        let A = name-rules (x .now) h k (rule14 (x .now) (name (x .map) (h .page .0) k) ∷ []) u .0 in
         elim (meets x I (h .page .0) (h .frame .0) k (handle-holder A) (A .inPage)) [
           | swizzledTo g e C H ↦ absurd (L .absent (resident x I _ g H))
           | number e l away ↦
-              let t = lt-ltb (wordOf (x .now) h k) swizzleBit l in
-              let m = parts-kept (nameRules (x .now) h k) (rule14 (x .now) (slot (x .map) (h .page .0) k) ∷ []) refl u .0 in
+              let t = yes-number (wordOf (x .now) h k) l in
+              let m = parts-kept (nameRules (x .now) h k) (rule14 (x .now) (name (x .map) (h .page .0) k) ∷ []) refl u .0 in
               answers-15 _ _ _
               (kept-part (nameRules (x .now) h k) (loadRules (x .now) (wordOf (x .now) h k)) refl m ∙ kept-then 14 (rule15 (x .now) ∷ []) (loads x I h k t A) ∙ broken-here 15 [] (of-denied (x .now) is-ready (denied-frames R)))
               (number-outcome x I h k t)

@@ -4,13 +4,12 @@ use mathlib.Core.Logic.{_≢_}
 use mathlib.Core.Bool.{true, false}
 use Prim.Native.Nat.{ℕ, _≤_, _<_}
 use native.Mathlib.Omega.{arith}
-use native.Mathlib.Nat.{add-left-cancel}
 use native.Mathlib.Decide.{ℕ-discrete, decLt}
-use Rattle.page.specs.Figures.{pageSize, slotCount, payloadStart, swizzleBit}
-use Rattle.page.specs.Word.{frameWord}
+use Rattle.page.specs.Figures.{pageSize, slotCount, payloadStart}
+use Rattle.page.specs.Word.{frameWord, Number, reading, low, high, frame-word-inj}
 use Rattle.machine.specs.Moves.{plain}
 use Rattle.machine.specs.Laws.TestLaws.{clash, case, on, off}
-use Rattle.machine.specs.Laws.PlainLaws.{plain-low, plain-high, reading, low, high}
+use Rattle.machine.specs.Laws.PlainLaws.{plain-low, plain-high}
 use Rattle.machine.specs.Theorem.View.{View, Reach, top, via, Occupied, Absent, Parent, Child, Shape, Map, Content}
 
 -- frame e is emptied
@@ -53,7 +52,7 @@ module _ (v w : View) (e : ℕ) (E : Evicted v w e) where
   evicted-absentWas p a n g o q = elim (ℕ-discrete g e) [ yes z ↦ n (sym q ∙ ap (v .page) z) | no z ↦ a g (evicted-is g o z) (E .page g z ∙ q) ]
 
 module _ (v w : View) (e : ℕ) (S : Shape v) (E : Evicted v w e) (oe : Occupied v e) (ne : v .roots ≤ e)
-    (leaf : (k : ℕ) → k < slotCount → v .word e k < swizzleBit) where
+    (leaf : (k : ℕ) → k < slotCount → Number (v .word e k)) where
   other : (g : ℕ) → Occupied w g → g ≢ e
   other = evicted-other v w e E
 
@@ -67,7 +66,7 @@ module _ (v w : View) (e : ℕ) (S : Shape v) (E : Evicted v w e) (oe : Occupied
   notUp : (g : ℕ) → Occupied v g → v .roots ≤ g → v .up g ≢ e
   notUp g o z q =
       let P : Parent v g = S .parent g o z in
-      let l : v .word e (v .upSlot g) < swizzleBit = leaf (v .upSlot g) (P .inPage) in
+      let l : Number (v .word e (v .upSlot g)) = leaf (v .upSlot g) (P .inPage) in
       let h : v .word e (v .upSlot g) ≡ frameWord g = rw q at (P .names) in
       omega arith
 
@@ -96,7 +95,7 @@ module _ (v w : View) (e : ℕ) (S : Shape v) (E : Evicted v w e) (oe : Occupied
   goneAbsent : Absent w (v .page e)
   goneAbsent g o q = other g o (S .apart g e (was g o) oe (sym (E .page g (other g o)) ∙ q))
 
-  pageLow : v .page e < swizzleBit
+  pageLow : Number (v .page e)
   pageLow = omega (arith, S .pageLt e oe, S .pages)
 
   parent′ : (g : ℕ) → Occupied w g → w .roots ≤ g → Parent w g
@@ -110,7 +109,7 @@ module _ (v w : View) (e : ℕ) (S : Shape v) (E : Evicted v w e) (oe : Occupied
         occupied = rw up (is (v .up g) (P .occupied) (notUp g (was g o) z));
         inPage = rw at (P .inPage);
         names = rw (up, at) (elim (wordCase (v .up g) (v .upSlot g) (P .occupied) (P .inPage)) [
-          | hit p q x ↦ absurd (n (add-left-cancel swizzleBit
+          | hit p q x ↦ absurd (n (frame-word-inj _ _
               (sym (P .names) ∙ ap (λ (a : ℕ). v .word a (v .upSlot g)) p ∙ ap (λ (a : ℕ). v .word (v .up e) a) q ∙ S .parent e oe ne .names)))
           | same x y ↦ x ∙ P .names
         ]);
@@ -125,19 +124,19 @@ module _ (v w : View) (e : ℕ) (S : Shape v) (E : Evicted v w e) (oe : Occupied
         record { occupied = is g (C .occupied) n; notRoot = rw (E .roots) (C .notRoot); back = E .up g n ∙ C .back; backSlot = E .upSlot g n ∙ C .backSlot }
   ]
 
-  numberLt′ : (f k : ℕ) → Occupied w f → k < slotCount → w .word f k < swizzleBit → w .word f k < w .N
+  numberLt′ : (f k : ℕ) → Occupied w f → k < slotCount → Number (w .word f k) → w .word f k < w .N
   numberLt′ f k o hk l = elim (wordCase f k (was f o) hk) [
     | hit a b x ↦ rw (x, E .sameN) (S .pageLt e oe)
     | same x y ↦ rw (x, E .sameN) (S .numberLt f k (was f o) hk (rw x at l))
   ]
 
-  numberAbsent′ : (f k : ℕ) → Occupied w f → k < slotCount → w .word f k < swizzleBit → w .word f k ≢ 0 → Absent w (w .word f k)
+  numberAbsent′ : (f k : ℕ) → Occupied w f → k < slotCount → Number (w .word f k) → w .word f k ≢ 0 → Absent w (w .word f k)
   numberAbsent′ f k o hk l z = elim (wordCase f k (was f o) hk) [
     | hit a b x ↦ rw x goneAbsent
     | same x y ↦ rw x (evicted-absent v w e E (v .word f k) (S .numberAbsent f k (was f o) hk (rw x at l) (rw x at z)))
   ]
 
-  once′ : (f k g j : ℕ) → Occupied w f → k < slotCount → Occupied w g → j < slotCount → w .word f k ≡ w .word g j → w .word f k ≢ 0 → w .word f k < swizzleBit → (f ≡ g) × (k ≡ j)
+  once′ : (f k g j : ℕ) → Occupied w f → k < slotCount → Occupied w g → j < slotCount → w .word f k ≡ w .word g j → w .word f k ≢ 0 → Number (w .word f k) → (f ≡ g) × (k ≡ j)
   once′ f k g j of hk og hj q z l =
       elim (wordCase f k (was f of) hk) [
         | hit a b x ↦ elim (wordCase g j (was g og) hj) [
@@ -195,7 +194,7 @@ module _ (v w : View) (e : ℕ) (S : Shape v) (E : Evicted v w e) (oe : Occupied
     ]
 
     -- which is the image that a leaf is
-    outPlain : (k : ℕ) → k < slotCount → w .storeWord (v .page e) k < swizzleBit
+    outPlain : (k : ℕ) → k < slotCount → Number (w .storeWord (v .page e) k)
     outPlain k hk = rw (outWord k hk, ← C .frameWord e k oe hk, plain-low (v .page) _ (leaf k hk)) (leaf k hk)
 
     -- another page's stays

@@ -10,9 +10,9 @@ use native.Mathlib.Decide.{ℕ-discrete, decLt}
 use borrow.Author.Tests.{eqb-true, not-true}
 use lib.Dec.{eqb}
 use lib.ListN.{length, List·getD-eq-default}
-use Rattle.page.specs.Figures.{recordCount, slotCount, swizzleBit}
-use Rattle.page.specs.Word.{frameIn, frameWord}
-use Rattle.page.specs.Page.{slot}
+use Rattle.page.specs.Figures.{recordCount, slotCount}
+use Rattle.page.specs.Word.{frameIn, frameWord, Swizzled}
+use Rattle.page.specs.Page.{name}
 use Rattle.page.specs.Octets.{Octets}
 use Rattle.machine.specs.declared.FrameRecord.{FrameRecord}
 use Rattle.machine.specs.Tests.{_and_, Rule, firstBroken}
@@ -75,9 +75,9 @@ module _ (s : State) (I : Fit s) where
     | on t ↦ elim (ℕ-discrete f 0) [ yes z ↦ rw z root-range | no z ↦ other-range f (occupied-of s f t) z ]
   ]
 
-  points : (f k : ℕ) → Occupied (view s) f → k < slotCount → swizzleBit ≤ slot (s .frames) f k → Points (s .pool) (frameIn (slot (s .frames) f k)) f k
+  points : (f k : ℕ) → Occupied (view s) f → k < slotCount → Swizzled (name (s .frames) f k) → Points (s .pool) (frameIn (name (s .frames) f k)) f k
   points f k o h l =
-      let C : Child (view s) f k (frameIn (slot (s .frames) f k)) = I .shape .child f k (frameIn (slot (s .frames) f k)) o h (omega arith) in
+      let C : Child (view s) f k (frameIn (name (s .frames) f k)) = I .shape .child f k (frameIn (name (s .frames) f k)) o h (omega arith) in
       record { at = of-occupied s _ (C .occupied); other = not-first (C .notRoot); parent = C .back; parentSlot = C .backSlot }
 
   parents-below : (f : ℕ) → f < s .pool .count → parentOf (s .pool) f < s .pool .count
@@ -160,9 +160,9 @@ module _ (s : State) (n : length (s .pool .records) ≡ recordCount) (o : Octets
   range : (f : ℕ) → Occupied (view s) f → InRange (s .pool) (recordAt (s .pool .records) f)
   range f u = A .inRange f (omega (arith, u .lt, K .sized .most))
 
-  points-child : (f k g : ℕ) → Occupied (view s) f → k < slotCount → slot (s .frames) f k ≡ frameWord g → Child (view s) f k g
+  points-child : (f k g : ℕ) → Occupied (view s) f → k < slotCount → name (s .frames) f k ≡ frameWord g → Child (view s) f k g
   points-child f k g u hk e =
-      let i : frameIn (slot (s .frames) f k) ≡ g = omega arith in
+      let i : frameIn (name (s .frames) f k) ≡ g = omega arith in
       let P : Points (s .pool) g f k = rw i at (A .back f k (of-occupied s f u) hk (omega arith)) in
       record { occupied = occupied-of s g (P .at); notRoot = past-first (P .other); back = P .parent; backSlot = P .parentSlot }
 
@@ -193,7 +193,7 @@ module _ (s : State) (n : length (s .pool .records) ≡ recordCount) (o : Octets
       apart = λ f g a b e. A .apart f g (of-occupied s f a) (of-occupied s g b) e;
       parent = λ f u l. let z : f ≢ 0 = not-first l in record { occupied = occupied-of s _ (A .parent f (of-occupied s f u) z); inPage = range f u .slot; names = A .parentWord f (of-occupied s f u) z };
       child = points-child;
-      numberLt = λ f k u hk l. elim (ℕ-discrete (slot (s .frames) f k) 0) [ yes z ↦ rw z (K .sized .some) | no z ↦ A .below f k (of-occupied s f u) hk l z ];
+      numberLt = λ f k u hk l. elim (ℕ-discrete (name (s .frames) f k) 0) [ yes z ↦ rw z (K .sized .some) | no z ↦ A .below f k (of-occupied s f u) hk l z ];
       numberAbsent = λ f k u hk l z g b e. A .away f k (of-occupied s f u) hk l z g (of-occupied s g b) e;
       once = λ f k g j a hk b hj e z l. A .once f k g j (of-occupied s f a) hk (of-occupied s g b) hj z l e;
       reach = λ f u. reached (s .pool .count) f (A .reach f (of-occupied s f u));

@@ -5,10 +5,10 @@ use mathlib.Core.Logic.{_≢_}
 use mathlib.Core.Bool.{true, false}
 use mathlib.Core.List.{List, [], _∷_, _++_}
 use native.Mathlib.Omega.{arith}
-use borrow.Author.Tests.{eqb-false, lt-ltb, le-ltb, ltb-true, ltb-false, not-true}
+use borrow.Author.Tests.{eqb-false, lt-ltb, le-ltb, not-true}
 use lib.Dec.{ltb}
-use Rattle.page.specs.Figures.{maxPins, swizzleBit}
-use Rattle.page.specs.Word.{isNumber, frameIn, frameWord}
+use Rattle.page.specs.Figures.{maxPins}
+use Rattle.page.specs.Word.{isNumber, frameIn, frameWord, Number, Swizzled, number-yes, number-no}
 use Rattle.machine.specs.declared.Handle.{Handle}
 use Rattle.machine.specs.Tests.{pick, _and_, Rule}
 use Rattle.machine.specs.Laws.TestLaws.{case, on, off, or-second, first-kept, kept-then, numbered, pick-yes, pick-no}
@@ -53,9 +53,9 @@ miss-accepted s f k q = elim (case (ltb (firstEmpty (s .pool)) (s .pool .count))
 
 pub data FixCase (s : State) (h : Handle) (k : ℕ) (o : Out) : Type 0 where
   pins : AtName s h k → (g : ℕ) → wordOf s h k ≡ frameWord g → view s .pins g ≢ maxPins → o ≡ pinnedOut s g → FixCase s h k o
-  fills : AtName s h k → wordOf s h k < swizzleBit → firstEmpty (s .pool) < s .pool .count → view s .used (firstEmpty (s .pool)) ≡ false
+  fills : AtName s h k → Number (wordOf s h k) → firstEmpty (s .pool) < s .pool .count → view s .used (firstEmpty (s .pool)) ≡ false
       → o ≡ loadedOut s (h .frame .0) k (firstEmpty (s .pool)) (wordOf s h k) 0 → FixCase s h k o
-  sweeps : AtName s h k → wordOf s h k < swizzleBit → ((f : ℕ) → f < s .pool .count → view s .used f ≡ true) → sweep (s .pool) (s .frames) .taken ≡ true
+  sweeps : AtName s h k → Number (wordOf s h k) → ((f : ℕ) → f < s .pool .count → view s .used f ≡ true) → sweep (s .pool) (s .frames) .taken ≡ true
       → o ≡ sweptOut s (h .frame .0) k (wordOf s h k) (sweep (s .pool) (s .frames)) → FixCase s h k o
   refuses : (n : ℕ) → Usual n → o ≡ out (refused n) s → FixCase s h k o
 
@@ -66,19 +66,19 @@ module _ (x : Point) (I : Invariant x) (h : Handle) (k : ℕ) where
     number-outcome = rw (fix-number (x .now) h k t) (after-pool x I _ _)
 
     pub stays-away : AtName (x .now) h k → Absent (view (x .now)) (wordOf (x .now) h k)
-    stays-away A = I .shape .numberAbsent (h .frame .0) k (A .handle .at) (A .inPage) (ltb-true _ swizzleBit t) (A .filled)
+    stays-away A = I .shape .numberAbsent (h .frame .0) k (A .handle .at) (A .inPage) (number-yes _ t) (A .filled)
 
     -- rule 14 is kept where the rules before it are
     pub loads : AtName (x .now) h k → loadable (x .now) (wordOf (x .now) h k) ≡ true
-    loads A = may-load x I (wordOf (x .now) h k) (I .shape .numberLt (h .frame .0) k (A .handle .at) (A .inPage) (ltb-true _ swizzleBit t)) (stays-away A)
+    loads A = may-load x I (wordOf (x .now) h k) (I .shape .numberLt (h .frame .0) k (A .handle .at) (A .inPage) (number-yes _ t)) (stays-away A)
 
     miss-case : (o : Out) → AtName (x .now) h k → rule15 (x .now) .1 ≡ true → o ≡ missOut (x .now) (h .frame .0) k (wordOf (x .now) h k) → FixCase (x .now) h k o
     unfolding missOut
     miss-case o A r e = elim (first-empty (x .now .pool) (I .neat .hand)) [
-      | empty l u ↦ fills A (ltb-true _ swizzleBit t) l u (e ∙ sym (pick-yes _ (lt-ltb _ _ l) refl))
+      | empty l u ↦ fills A (number-yes _ t) l u (e ∙ sym (pick-yes _ (lt-ltb _ _ l) refl))
       | full u q ↦
           let l : ltb (firstEmpty (x .now .pool)) (x .now .pool .count) ≡ false = le-ltb (firstEmpty (x .now .pool)) (x .now .pool .count) (omega arith) in
-          sweeps A (ltb-true _ swizzleBit t) u (or-second (ltb (firstEmpty (x .now .pool)) (x .now .pool .count)) _ r l) (e ∙ sym (pick-no _ l refl))
+          sweeps A (number-yes _ t) u (or-second (ltb (firstEmpty (x .now .pool)) (x .now .pool .count)) _ r l) (e ∙ sym (pick-no _ l refl))
     ]
 
     number-case : (o : Out) → Outcome (x .now) (nameRules (x .now) h k ++ loadRules (x .now) (wordOf (x .now) h k)) (missOut (x .now) (h .frame .0) k (wordOf (x .now) h k)) o → FixCase (x .now) h k o
@@ -102,7 +102,7 @@ module _ (x : Point) (I : Invariant x) (h : Handle) (k : ℕ) where
     unfolding usual lacks _and_
     swizzled-case o (kept b e) =
         let a = name-rules (x .now) h k (rule13 (x .now) (frameIn (wordOf (x .now) h k)) ∷ []) b in
-        let l : swizzleBit ≤ wordOf (x .now) h k = ltb-false (wordOf (x .now) h k) swizzleBit t in
+        let l : Swizzled (wordOf (x .now) h k) = number-no (wordOf (x .now) h k) t in
         pins (a .0) (frameIn (wordOf (x .now) h k)) (omega arith) (eqb-false _ maxPins (not-true _ (first-kept 12 _ [] (a .1) .0))) e
     swizzled-case o (broken n z b e) = refuses n (usual-breach _ n refl z b) e
 

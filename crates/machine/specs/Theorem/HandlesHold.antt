@@ -3,8 +3,8 @@ use Prim.Native.Nat.{ℕ, _<_}
 use mathlib.Core.Path.{_≡_, refl, sym, _∙_, ap}
 use mathlib.Core.Bool.{true}
 use lib.ListN.{length, length-set}
-use Rattle.page.specs.Figures.{swizzleBit}
-use Rattle.page.specs.Page.{slot}
+use Rattle.page.specs.Word.{Number}
+use Rattle.page.specs.Page.{name}
 use Rattle.machine.specs.declared.FrameRecord.{FrameRecord}
 use Rattle.machine.specs.declared.Handle.{Handle}
 use Rattle.machine.specs.Tests.{pick}
@@ -75,7 +75,7 @@ module _ (x : Point) (I : Invariant x) where
       let s : y .now ≡ o .left = fix-state h k ∙ ap (λ (z : Out). z .left) e in
       (f, looks, rw (← m) (ap answerOf e ∙ a), rw (← m) (in-frame y J p f (rw s H)))
 
-  pub fix-gives : (h : Handle) (k : ℕ) → accepted (fixCall (x .now) h k .answer) ≡ true → GivesHandle x (fix h k) (slot (x .map) (h .page .0) k)
+  pub fix-gives : (h : Handle) (k : ℕ) → accepted (fixCall (x .now) h k .answer) ≡ true → GivesHandle x (fix h k) (name (x .map) (h .page .0) k)
   fix-gives h k t = elim (fix-case x I h k) [
     | pins A g w few e ↦
         let o : Occupied (view (x .now)) g = I .shape .child (h .frame .0) k g (A .handle .at) (A .inPage) w .occupied in
@@ -86,10 +86,10 @@ module _ (x : Point) (I : Invariant x) where
     | refuses n u e ↦ absurd (clash (sym t ∙ ap (λ (o : Out). accepted (o .answer)) e))
   ]
     where
-      handle-word : AtName (x .now) h k → plain (view (x .now) .page) (wordOf (x .now) h k) ≡ slot (x .map) (h .page .0) k
+      handle-word : AtName (x .now) h k → plain (view (x .now) .page) (wordOf (x .now) h k) ≡ name (x .map) (h .page .0) k
       handle-word A = plain-word x I (h .page .0) (h .frame .0) k (record { at = A .handle .at; page = A .handle .page }) (A .inPage)
 
-      number-word : AtName (x .now) h k → wordOf (x .now) h k < swizzleBit → wordOf (x .now) h k ≡ slot (x .map) (h .page .0) k
+      number-word : AtName (x .now) h k → Number (wordOf (x .now) h k) → wordOf (x .now) h k ≡ name (x .map) (h .page .0) k
       number-word A low = sym (plain-low (view (x .now) .page) (wordOf (x .now) h k) low) ∙ handle-word A
 
   pub root-gives : accepted (rootCall (x .now) .answer) ≡ true → GivesHandle x root 0

@@ -10,8 +10,7 @@ use borrow.Author.Tests.{eqb-true, eqb-false, eq-eqb, lt-ltb, not-true}
 use lib.Dec.{eqb, ltb}
 use lib.ListN.{length}
 use Rattle.page.specs.Figures.{pageSize, slotCount}
-use Rattle.page.specs.Word.{frameWord}
-use Rattle.page.specs.Page.{slot}
+use Rattle.page.specs.Page.{name}
 use Rattle.machine.specs.Tests.{some, Rule, firstBroken}
 use Rattle.machine.specs.Laws.TestLaws.{case, on, off, is-off, and-true, both, or-left, or-right, true-every, some-true, some-false, false-some, pick-yes, pick-no}
 use Rattle.machine.specs.Machine.{recordAt, occupied, found, blank}
@@ -51,16 +50,16 @@ module _ (x : Point) (I : Invariant x) where
   unbroken = fit-unbroken (x .now) (fit-of x I)
 
   -- ---- the word in a slot of any page: rule 9
-  pub current-word : (p k : ℕ) → p < x .now .pool .pages → k < slotCount → currentWord (x .now) p k ≡ slot (x .map) p k
+  pub current-word : (p k : ℕ) → p < x .now .pool .pages → k < slotCount → currentWord (x .now) p k ≡ name (x .map) p k
   unfolding currentWord
   current-word p k hp hk = elim (case (ltb (found (x .now .pool) p) (x .now .pool .count))) [
     | on t ↦
         let h : Holder (view (x .now)) p (found (x .now .pool) p) = holder-found (x .now) p t in
-        sym (pick-yes _ t refl) ∙ I .content .frameWord (found (x .now .pool) p) k (h .at) hk ∙ ap (λ (q : ℕ). slot (x .map) q k) (h .page)
+        sym (pick-yes _ t refl) ∙ I .content .frameWord (found (x .now .pool) p) k (h .at) hk ∙ ap (λ (q : ℕ). name (x .map) q k) (h .page)
     | off t ↦ sym (pick-no _ t refl) ∙ I .content .absentWord p k hp (absent-found (x .now) p t) hk
   ]
 
-  pub unnamed : (q : ℕ) → not (named (x .now) q) ≡ true → (p k : ℕ) → p < x .now .pool .pages → k < slotCount → slot (x .map) p k ≢ q
+  pub unnamed : (q : ℕ) → not (named (x .now) q) ≡ true → (p k : ℕ) → p < x .now .pool .pages → k < slotCount → name (x .map) p k ≢ q
   unfolding named
   unnamed q t p k hp hk e =
       eqb-false _ q (some-false slotCount _ (some-false (x .now .pool .pages) _ (not-true _ t) p hp) k hk) (current-word p k hp hk ∙ e)
@@ -68,18 +67,18 @@ module _ (x : Point) (I : Invariant x) where
   -- ---- a page that a resident page names may be loaded: rule 14
   module _ (q : ℕ) (hq : q < x .now .pool .pages) (away : Absent (view (x .now)) q) where
     -- the stored word is the map's, and a number that stands in the map once
-    same-place : (k p j : ℕ) → k < slotCount → slot (x .now .store) q k ≢ 0 → p < x .now .pool .pages → j < slotCount → slot (x .map) p j ≡ slot (x .now .store) q k → (p ≡ q) × (j ≡ k)
+    same-place : (k p j : ℕ) → k < slotCount → name (x .now .store) q k ≢ 0 → p < x .now .pool .pages → j < slotCount → name (x .map) p j ≡ name (x .now .store) q k → (p ≡ q) × (j ≡ k)
     same-place k p j hk n hp hj e =
-        let w : slot (x .now .store) q k ≡ slot (x .map) q k = I .content .absentWord q k hq away hk in
+        let w : name (x .now .store) q k ≡ name (x .map) q k = I .content .absentWord q k hq away hk in
         I .sound .once p j q k hp hj hq hk (λ z. n (sym e ∙ z)) (e ∙ w)
 
-    not-repeated : (k : ℕ) → k < slotCount → slot (x .now .store) q k ≢ 0 → repeated (x .now .store) q k ≡ false
+    not-repeated : (k : ℕ) → k < slotCount → name (x .now .store) q k ≢ 0 → repeated (x .now .store) q k ≡ false
     unfolding repeated
     not-repeated k hk n = false-some slotCount _ (λ j hj. is-off _ (λ t.
         let a = and-true (not (eqb j k)) _ t in
         eqb-false j k (not-true _ (a .0)) (same-place k q j hk n hq hj (sym (I .content .absentWord q j hq away hj) ∙ eqb-true _ _ (a .1)) .1)))
 
-    not-named : (k : ℕ) → k < slotCount → slot (x .now .store) q k ≢ 0 → namedByResident (x .now) (slot (x .now .store) q k) ≡ false
+    not-named : (k : ℕ) → k < slotCount → name (x .now .store) q k ≢ 0 → namedByResident (x .now) (name (x .now .store) q k) ≡ false
     unfolding namedByResident
     not-named k hk n = false-some (x .now .pool .count) _ (λ f l. is-off _ (λ t.
         let a = and-true (occupied (x .now .pool) f) _ t in
@@ -87,12 +86,12 @@ module _ (x : Point) (I : Invariant x) where
         let b = some-true slotCount _ (a .1) in
         away f o (same-place k (view (x .now) .page f) (b .0) hk n (I .shape .pageLt f o) (b .1) (sym (I .content .frameWord f (b .0) o (b .1)) ∙ eqb-true _ _ (b .2)) .0)))
 
-    below : (k : ℕ) → k < slotCount → slot (x .now .store) q k < x .now .pool .pages
+    below : (k : ℕ) → k < slotCount → name (x .now .store) q k < x .now .pool .pages
     below k hk = rw (I .content .absentWord q k hq away hk) (I .sound .below q k hq hk)
 
     pub may-load : loadable (x .now) q ≡ true
     unfolding loadable wordLoadable
-    may-load = true-every slotCount _ (λ k hk. elim (ℕ-discrete (slot (x .now .store) q k) 0) [
+    may-load = true-every slotCount _ (λ k hk. elim (ℕ-discrete (name (x .now .store) q k) 0) [
       | yes z ↦ or-left _ (eq-eqb _ 0 z)
       | no z ↦ or-right _ (both _ _ (lt-ltb _ _ (below k hk)) (both _ _ (ap not (not-repeated k hk z)) (ap not (not-named k hk z))))
     ])

@@ -3,8 +3,9 @@ use mathlib.Core.Path.{_≡_, refl, sym, _∙_}
 use mathlib.Core.Bool.{false}
 use Prim.Native.Nat.{ℕ, _≤_, _<_}
 use Rattle.page.specs.Figures.{pageSize, slotCount, payloadStart}
+use Rattle.page.specs.Word.{reading, low, high}
 use Rattle.machine.specs.Moves.{plain}
-use Rattle.machine.specs.Laws.PlainLaws.{plain-low, plain-high, reading, low, high}
+use Rattle.machine.specs.Laws.PlainLaws.{plain-low, plain-high}
 use Rattle.machine.specs.Theorem.View.{View, Reach, top, via, Occupied, Absent, Parent, Child, Shape, Map, Content}
 
 -- the same pages in the same frames, with the same parents

@@ -1,23 +1,25 @@
 -- A page that leaves its frame keeps the invariant, where it is not the root, not pinned and without a swizzled word.
 use mathlib.Core.Path.{_≡_, refl, sym, ap, _∙_}
+use mathlib.Core.Logic.{_≢_}
 use mathlib.Core.List.{List}
 use Prim.Native.Nat.{ℕ, _≤_, _<_}
 use native.Mathlib.Omega.{arith}
 use lib.ListN.{length, length-set}
-use Rattle.page.specs.Figures.{slotCount, wordRadix, swizzleBit}
+use Rattle.page.specs.Figures.{slotCount, mostPages}
+use Rattle.page.specs.Word.{Number, name-renamed-number, nameOf, numberWord, renamed-lt}
 use Rattle.page.specs.Page.{putSlot-length, slot-putSlot-same, slot-putSlot-page, byte-putSlot}
 use Rattle.page.specs.Octets.{Octets, octets-putSlot}
 use Rattle.machine.specs.declared.FrameRecord.{FrameRecord}
 use Rattle.machine.specs.Machine.{State, blank, recordAt}
 use Rattle.machine.specs.Moves.{plain, evicted}
 use Rattle.machine.specs.History.{Point}
-use Rattle.machine.specs.Theorem.View.{View, view, Occupied, Parent}
+use Rattle.machine.specs.Theorem.View.{View, view, Occupied, Parent, first-root, first-page}
 use Rattle.machine.specs.Theorem.Invariant.{Invariant, mapOf}
 use Rattle.machine.specs.Theorem.Fit.{Fit, fit-of}
 use Rattle.machine.specs.Theorem.EvictEffect.{Evicted, evict-shape, evict-content}
 use Rattle.machine.specs.Theorem.PinsEffect.{pins-evicted}
 use Rattle.machine.specs.Laws.MoveLaws.{writtenOutBy-length}
-use Rattle.machine.specs.Theorem.WriteOut.{out-octets, out-wordStays, out-byteStays, out-word, out-byte, plain-lt}
+use Rattle.machine.specs.Theorem.WriteOut.{out-octets, out-wordStays, out-byteStays, out-word, out-byte, plain-lt, plain-some}
 use Rattle.machine.specs.Theorem.SlotChange.{slot-putSlot-other}
 use Rattle.machine.specs.Theorem.RecordChange.{change-here, change-other, neat-blank, neat-change, lengths-kept}
 
@@ -37,7 +39,13 @@ module _ (s : State) (I : Fit s) (f : ℕ) (of : Occupied (view s) f) (nz : 1 �
   P : Parent v f
   P = I .shape .parent f of nz
 
-  small : (k : ℕ) → k < slotCount → plain (v .page) (v .word f k) < wordRadix
+  pSmall : v .page f < mostPages
+  pSmall = omega (arith, pN, I .shape .pages)
+
+  pSome : v .page f ≢ 0
+  pSome z = omega (arith, I .shape .apart f 0 of (first-root v (I .shape)) (z ∙ sym (first-page v (I .shape))))
+
+  small : (k : ℕ) → k < slotCount → plain (v .page) (v .word f k) < mostPages
   small k hk = omega (arith, plain-lt v (I .shape) f k of hk, I .shape .pages)
 
   -- what is done to the view
@@ -55,17 +63,17 @@ module _ (s : State) (I : Fit s) (f : ℕ) (of : Occupied (view s) f) (nz : 1 �
     upSlot = λ g n. ap (λ r. r .slot) (change-other rs f blank g n);
     dirty = λ g n. ap (λ r. r .dirty) (change-other rs f blank g n);
     pins = λ g n. ap (λ r. r .pins) (change-other rs f blank g n);
-    wordAtParent = slot-putSlot-same (s .frames) _ _ _ _ (I .sized .frames) (P .occupied .lt) (P .inPage) (omega (arith, pN, I .shape .pages));
-    wordPage = λ g k hg hk n. slot-putSlot-page (s .frames) _ _ _ g k (P .inPage) hk (λ q. n (sym q));
-    wordSlot = λ g k hg hk n. slot-putSlot-other (s .frames) _ _ _ g k (P .inPage) hk n;
+    wordAtParent = ap nameOf (slot-putSlot-same (s .frames) _ _ _ _ (I .sized .frames) (P .occupied .lt) (P .inPage) (renamed-lt _ (numberWord (v .page f)) (omega (arith, pSmall)))) ∙ name-renamed-number _ (v .page f) pSmall (λ z. absurd (pSome z));
+    wordPage = λ g k hg hk n. ap nameOf (slot-putSlot-page (s .frames) _ _ _ g k (P .inPage) hk (λ q. n (sym q)));
+    wordSlot = λ g k hg hk n. ap nameOf (slot-putSlot-other (s .frames) _ _ _ g k (P .inPage) hk n);
     bytes = λ g i hg h l. byte-putSlot (s .frames) _ _ _ g i (P .inPage) h l;
-    dirtyWord = λ k d hk. out-word (v .page) (recordAt rs f) (s .frames) (s .store) f _ _ (I .sized .frames) (of .lt) (I .sized .store) pN d small k hk;
+    dirtyWord = λ k d hk. out-word (v .page) (recordAt rs f) (s .frames) (s .store) f _ _ (I .sized .frames) (of .lt) (I .sized .store) pN d small k hk (plain-some v (I .shape) f k of hk);
     dirtyBytes = λ i d h l. out-byte (v .page) (recordAt rs f) (s .frames) (s .store) f _ _ (I .sized .frames) (of .lt) (I .sized .store) pN d small i h l;
     storeWord = λ p k hp hk h. out-wordStays (v .page) (recordAt rs f) (s .frames) (s .store) f _ _ (I .sized .frames) (of .lt) (I .sized .store) pN p k hk h;
     storeBytes = λ p i hp l h. out-byteStays (v .page) (recordAt rs f) (s .frames) (s .store) f _ _ (I .sized .frames) (of .lt) (I .sized .store) pN p i l h;
   }
 
-  pub evict-fit : ((k : ℕ) → k < slotCount → v .word f k < swizzleBit) → Fit (evicted s f)
+  pub evict-fit : ((k : ℕ) → k < slotCount → Number (v .word f k)) → Fit (evicted s f)
   unfolding evicted
   evict-fit leaf = record {
     sized = lengths-kept _ _ (I .sized) (putSlot-length (s .frames) _ _ _) (writtenOutBy-length (v .page) (recordAt rs f) (s .frames) (s .store) f _ _ (I .sized .frames) (I .sized .store) (of .lt) pN);
@@ -79,7 +87,7 @@ module _ (x : Point) (I : Invariant x) (f : ℕ) (of : Occupied (view (x .now)) 
   abbrev E : Evicted (view (x .now)) (view (evicted (x .now) f)) f
   E = evict-effect (x .now) (fit-of x I) f of nz
 
-  pub evict-keeps : ((k : ℕ) → k < slotCount → view (x .now) .word f k < swizzleBit) → view (x .now) .pins f ≡ 0 → Invariant (record { now = evicted (x .now) f; map = x .map; balance = x .balance })
+  pub evict-keeps : ((k : ℕ) → k < slotCount → Number (view (x .now) .word f k)) → view (x .now) .pins f ≡ 0 → Invariant (record { now = evicted (x .now) f; map = x .map; balance = x .balance })
   unfolding evicted
   evict-keeps leaf free =
       let J : Fit (evicted (x .now) f) = evict-fit (x .now) (fit-of x I) f of nz leaf in

@@ -5,8 +5,9 @@ use mathlib.Core.List.{List}
 use Prim.Native.Nat.{ℕ, _*_, _<_}
 use native.Mathlib.Omega.{arith}
 use lib.ListN.{length, length-set}
-use Rattle.page.specs.Figures.{pageSize, slotCount, wordRadix, swizzleBit}
-use Rattle.page.specs.Page.{slot, putSlot, putSlot-length, slot-putSlot-same, slot-putSlot-page, byte-putSlot}
+use Rattle.page.specs.Figures.{pageSize, slotCount, wordRadix}
+use Rattle.page.specs.Word.{Number, nameOf}
+use Rattle.page.specs.Page.{putSlot, putSlot-length, slot-putSlot-same, slot-putSlot-page, byte-putSlot}
 use Rattle.page.specs.Octets.{octets-putSlot}
 use Rattle.machine.specs.declared.FrameRecord.{FrameRecord}
 use Rattle.machine.specs.Machine.{State, recordAt, dirtied}
@@ -19,20 +20,20 @@ use Rattle.machine.specs.Theorem.PinsEffect.{pins-kept}
 use Rattle.machine.specs.Theorem.SlotChange.{slot-putSlot-other}
 use Rattle.machine.specs.Theorem.RecordChange.{SamePlace, change-here, change-other, change-same, change-steady, neat-change, neat-place, record-lt, lengths-kept}
 
--- the map with the word y in slot k of page p
-map-linked : (m : List ℕ) (N p k y : ℕ) → length m ≡ pageSize * N → p < N → k < slotCount → y < wordRadix → MapLinked (mapOf m) (mapOf (putSlot m p k y)) N p k y
-map-linked m N p k y l hp hk hy = record {
-  word = slot-putSlot-same m p k y N l hp hk hy;
-  wordPage = λ q j hq hj n. slot-putSlot-page m p k y q j hk hj (λ z. n (sym z));
-  wordSlot = λ q j hq hj n. slot-putSlot-other m p k y q j hk hj n;
+-- the map with the word y, which names n, in slot k of page p
+map-linked : (m : List ℕ) (N p k y n : ℕ) → nameOf y ≡ n → length m ≡ pageSize * N → p < N → k < slotCount → y < wordRadix → MapLinked (mapOf m) (mapOf (putSlot m p k y)) N p k n
+map-linked m N p k y n names l hp hk hy = record {
+  word = ap nameOf (slot-putSlot-same m p k y N l hp hk hy) ∙ names;
+  wordPage = λ q j hq hj z. ap nameOf (slot-putSlot-page m p k y q j hk hj (λ e. z (sym e)));
+  wordSlot = λ q j hq hj z. ap nameOf (slot-putSlot-other m p k y q j hk hj z);
   bytes = λ q i hq h l. byte-putSlot m p k y q i hk h l;
 }
 
-module _ (x : Point) (I : Invariant x) (f : ℕ) (of : Occupied (view (x .now)) f) (k y : ℕ) (hk : k < slotCount) (old : view (x .now) .word f k < swizzleBit) (yN : y < x .now .pool .pages)
-    (fresh : Unnamed (mapOf (x .map)) (x .now .pool .pages) y) where
+module _ (x : Point) (I : Invariant x) (f : ℕ) (of : Occupied (view (x .now)) f) (k y n : ℕ) (hk : k < slotCount) (old : Number (view (x .now) .word f k)) (names : nameOf y ≡ n) (small : y < wordRadix) (nN : n < x .now .pool .pages)
+    (fresh : Unnamed (mapOf (x .map)) (x .now .pool .pages) n) where
   -- a number but 0 is no root's page
-  noRoot : y ≢ 0 → NoRoot 1 (x .now .pool .pages) y
-  noRoot n t l = single-root _ _ n t l
+  noRoot : n ≢ 0 → NoRoot 1 (x .now .pool .pages) n
+  noRoot z t l = single-root _ _ z t l
 
   abbrev s : State
   s = x .now
@@ -49,28 +50,25 @@ module _ (x : Point) (I : Invariant x) (f : ℕ) (of : Occupied (view (x .now)) 
   lt : f < length rs
   lt = record-lt x I f (of .lt)
 
-  small : y < wordRadix
-  small = omega (arith, I .shape .pages)
-
   samePlace : SamePlace (recordAt rs f) r
   samePlace = record { used = refl; page = refl; parent = refl; slot = refl }
 
-  linked : Linked v (view (relinked s f k y)) f k y
+  linked : Linked v (view (relinked s f k y)) f k n
   linked = record {
     steady = change-steady s f r (putSlot (s .frames) f k y) (s .store) lt samePlace;
     pins = change-same rs f r (λ t. t .pins) lt refl;
     dirtyF = ap (λ t. t .dirty) (change-here rs f r lt);
-    dirty = λ g n. ap (λ t. t .dirty) (change-other rs f r g n);
-    word = slot-putSlot-same (s .frames) f k y _ (I .sized .frames) (of .lt) hk small;
-    wordPage = λ g j hg hj n. slot-putSlot-page (s .frames) f k y g j hk hj (λ z. n (sym z));
-    wordSlot = λ g j hg hj n. slot-putSlot-other (s .frames) f k y g j hk hj n;
+    dirty = λ g m. ap (λ t. t .dirty) (change-other rs f r g m);
+    word = ap nameOf (slot-putSlot-same (s .frames) f k y _ (I .sized .frames) (of .lt) hk small) ∙ names;
+    wordPage = λ g j hg hj m. ap nameOf (slot-putSlot-page (s .frames) f k y g j hk hj (λ z. m (sym z)));
+    wordSlot = λ g j hg hj m. ap nameOf (slot-putSlot-other (s .frames) f k y g j hk hj m);
     bytes = λ g i hg h l. byte-putSlot (s .frames) f k y g i hk h l;
     storeWord = λ p j hp hj. refl;
     storeBytes = λ p i hp l. refl;
   }
 
-  mapLinked : MapLinked (mapOf (x .map)) (mapOf (putSlot (x .map) (v .page f) k y)) (v .N) (v .page f) k y
-  mapLinked = map-linked (x .map) (v .N) (v .page f) k y (I .mapLength) (I .shape .pageLt f of) hk small
+  mapLinked : MapLinked (mapOf (x .map)) (mapOf (putSlot (x .map) (v .page f) k y)) (v .N) (v .page f) k n
+  mapLinked = map-linked (x .map) (v .N) (v .page f) k y n names (I .mapLength) (I .shape .pageLt f of) hk small
 
   pub relink-keeps : Invariant (record { now = relinked s f k y; map = putSlot (x .map) (v .page f) k y; balance = x .balance })
   relink-keeps = record {
@@ -81,8 +79,8 @@ module _ (x : Point) (I : Invariant x) (f : ℕ) (of : Occupied (view (x .now)) 
     frameOctets = octets-putSlot (s .frames) f k y (I .frameOctets);
     storeOctets = I .storeOctets;
     mapOctets = octets-putSlot (x .map) (v .page f) k y (I .mapOctets);
-    shape = link-shape v _ f k y (I .shape) linked of hk old yN (mapOf (x .map)) (I .content) fresh noRoot;
-    content = link-content v _ f k y (I .shape) linked of hk old yN (mapOf (x .map)) (I .content) fresh noRoot _ mapLinked;
-    sound = link-sound _ _ (v .N) (v .page f) k y mapLinked 1 _ yN fresh noRoot (I .sound);
+    shape = link-shape v _ f k n (I .shape) linked of hk old nN (mapOf (x .map)) (I .content) fresh noRoot;
+    content = link-content v _ f k n (I .shape) linked of hk old nN (mapOf (x .map)) (I .content) fresh noRoot _ mapLinked;
+    sound = link-sound _ _ (v .N) (v .page f) k n mapLinked 1 _ nN fresh noRoot (I .sound);
     pins = pins-kept v _ (linked .steady) (x .balance) (I .pins) (linked .pins);
   }

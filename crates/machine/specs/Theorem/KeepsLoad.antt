@@ -6,8 +6,9 @@ use mathlib.Core.List.{List}
 use Prim.Native.Nat.{ℕ, _<_}
 use native.Mathlib.Omega.{arith}
 use lib.ListN.{length, length-set}
-use Rattle.page.specs.Figures.{pageSize, slotCount, swizzleBit}
-use Rattle.page.specs.Page.{slot, pageOf, putPage, putSlot-length, slot-putSlot-same, slot-putSlot-page, byte-putSlot, pageOf-length, putPage-length, slot-putPage-same, slot-putPage-other, byte-putPage-same, byte-putPage-other, slot-pageOf, byte-pageOf, byte-first}
+use Rattle.page.specs.Figures.{pageSize, slotCount}
+use Rattle.page.specs.Word.{Number, frameWord, name-renamed-frame, nameOf, renamed-lt}
+use Rattle.page.specs.Page.{slot, name, pageOf, putPage, putSlot-length, slot-putSlot-same, slot-putSlot-page, byte-putSlot, pageOf-length, putPage-length, slot-putPage-same, slot-putPage-other, byte-putPage-same, byte-putPage-other, slot-pageOf, byte-pageOf, byte-first}
 use Rattle.page.specs.Octets.{octets-putSlot, octets-pageOf, octets-putPage}
 use Rattle.machine.specs.declared.FrameRecord.{FrameRecord}
 use Rattle.machine.specs.Laws.TestLaws.{clash}
@@ -32,10 +33,10 @@ module _ (x : Point) (I : Invariant x) where
   rs = x .now .pool .records
 
   -- a page named by a resident page's number fits
-  pub always-fits : (f k : ℕ) → Occupied v f → k < slotCount → v .word f k < swizzleBit → v .word f k ≢ 0 → Fits v (v .word f k)
+  pub always-fits : (f k : ℕ) → Occupied v f → k < slotCount → Number (v .word f k) → v .word f k ≢ 0 → Fits v (v .word f k)
   always-fits f k of hk l nz = absent-fits v (mapOf (x .map)) (I .shape) (I .content) (I .sound) (v .word f k) (I .shape .numberLt f k of hk l) (I .shape .numberAbsent f k of hk l nz)
 
-  module _ (f k e q : ℕ) (of : Occupied v f) (hk : k < slotCount) (eF : e < v .F) (free : v .used e ≡ false) (names : v .word f k ≡ q) (low : q < swizzleBit) (nz : q ≢ 0) where
+  module _ (f k e q : ℕ) (of : Occupied v f) (hk : k < slotCount) (eF : e < v .F) (free : v .used e ≡ false) (names : v .word f k ≡ q) (low : Number q) (nz : q ≢ 0) where
     abbrev r : FrameRecord
     r = loadedRecord q f k
 
@@ -69,9 +70,9 @@ module _ (x : Point) (I : Invariant x) where
     unfolding between
     betweenLength = putPage-length (s .frames) e page _ (I .sized .frames) pageLength eF
 
-    betweenWord : (g j : ℕ) → g ≢ e → j < slotCount → slot between g j ≡ v .word g j
+    betweenWord : (g j : ℕ) → g ≢ e → j < slotCount → name between g j ≡ v .word g j
     unfolding between
-    betweenWord g j n hj = slot-putPage-other (s .frames) e page _ g j (I .sized .frames) pageLength eF (λ z. n (sym z)) hj
+    betweenWord g j n hj = ap nameOf (slot-putPage-other (s .frames) e page _ g j (I .sized .frames) pageLength eF (λ z. n (sym z)) hj)
 
     -- what is done to the view
     load-effect : Loaded v (view (loaded s f k e q)) f k e q
@@ -93,11 +94,11 @@ module _ (x : Point) (I : Invariant x) where
       upSlot = λ g n. ap (λ t. t .slot) (change-other rs e r g n);
       dirty = λ g n. ap (λ t. t .dirty) (change-other rs e r g n);
       pins = λ g n. ap (λ t. t .pins) (change-other rs e r g n);
-      wordE = λ j hj. slot-putSlot-page between f k _ e j hk hj (other f of) ∙ slot-putPage-same (s .frames) e page _ j (I .sized .frames) pageLength eF hj ∙ slot-pageOf (s .store) q j hj;
+      wordE = λ j hj. ap nameOf (slot-putSlot-page between f k _ e j hk hj (other f of) ∙ slot-putPage-same (s .frames) e page _ j (I .sized .frames) pageLength eF hj ∙ slot-pageOf (s .store) q j hj);
       bytesE = λ i h l. byte-putSlot between f k _ e i hk h l ∙ byte-putPage-same (s .frames) e page _ i (I .sized .frames) pageLength eF l ∙ sym (byte-first page i) ∙ byte-pageOf (s .store) q i l;
-      wordAtParent = slot-putSlot-same between f k _ _ (betweenLength ∙ I .sized .frames) (of .lt) hk (omega (arith, I .shape .most));
-      wordPage = λ g j hg hj n m. slot-putSlot-page between f k _ g j hk hj (λ z. m (sym z)) ∙ betweenWord g j n hj;
-      wordSlot = λ g j hg hj n m. slot-putSlot-other between f k _ g j hk hj m ∙ betweenWord g j n hj;
+      wordAtParent = ap nameOf (slot-putSlot-same between f k _ _ (betweenLength ∙ I .sized .frames) (of .lt) hk (renamed-lt _ (frameWord e) (omega (arith, I .shape .most)))) ∙ name-renamed-frame (slot (s .frames) f k) e (omega (arith, I .shape .most));
+      wordPage = λ g j hg hj n m. ap nameOf (slot-putSlot-page between f k _ g j hk hj (λ z. m (sym z))) ∙ betweenWord g j n hj;
+      wordSlot = λ g j hg hj n m. ap nameOf (slot-putSlot-other between f k _ g j hk hj m) ∙ betweenWord g j n hj;
       bytes = λ g i hg h l n. byte-putSlot between f k _ g i hk h l ∙ byte-putPage-other (s .frames) e page _ g i (I .sized .frames) pageLength eF (λ z. n (sym z)) l;
       storeWord = λ p j hp hj. refl;
       storeBytes = λ p i hp l. refl;

@@ -11,7 +11,8 @@ use lib.Dec.{eqb}
 use lib.ListN.{length, replicate, length-set, length-replicate}
 use borrow.Author.Tests.{ltb-true, eqb-true, eq-eqb, ne-eqb}
 use Rattle.page.specs.Figures.{pageSize, slotCount, recordCount}
-use Rattle.page.specs.Page.{slot, byte, pageOf, putPage, pageOf-length, putPage-length, slot-putPage-same, byte-putPage-same, slot-pageOf, byte-pageOf, byte-first}
+use Rattle.page.specs.Word.{nameOf}
+use Rattle.page.specs.Page.{name, byte, pageOf, putPage, pageOf-length, putPage-length, slot-putPage-same, byte-putPage-same, slot-pageOf, byte-pageOf, byte-first}
 use Rattle.page.specs.Octets.{Octets, octets-putPage, octets-pageOf}
 use Rattle.machine.specs.Laws.TestLaws.{clash, and-true, both, use⇒, every-true}
 use Rattle.machine.specs.Machine.{State, blank, rootRecord, recordAt, openedPool}
@@ -27,11 +28,11 @@ use Rattle.machine.specs.Theorem.RecordChange.{change-here, change-other
 
 -- ---- rule 16, as facts of the map
 
-below-of : (st : List ℕ) (N : ℕ) → wordsBelow st N ≡ true → (p k : ℕ) → p < N → k < slotCount → slot st p k < N
+below-of : (st : List ℕ) (N : ℕ) → wordsBelow st N ≡ true → (p k : ℕ) → p < N → k < slotCount → name st p k < N
 unfolding wordsBelow
 below-of st N t p k hp hk = ltb-true _ N (every-true slotCount _ (every-true N _ t p hp) k hk)
 
-once-of : (st : List ℕ) (N : ℕ) → wordsOnce st N ≡ true → (p k q j : ℕ) → p < N → k < slotCount → q < N → j < slotCount → slot st p k ≢ 0 → slot st p k ≡ slot st q j → (p ≡ q) × (k ≡ j)
+once-of : (st : List ℕ) (N : ℕ) → wordsOnce st N ≡ true → (p k q j : ℕ) → p < N → k < slotCount → q < N → j < slotCount → name st p k ≢ 0 → name st p k ≡ name st q j → (p ≡ q) × (k ≡ j)
 unfolding wordsOnce
 once-of st N t p k q j hp hk hq hj n e =
     let a = and-true (eqb p q) (eqb k j) (use⇒ _ _ (every-true slotCount _ (every-true N _ (every-true slotCount _ (every-true N _ t p hp) k hk) q hq) j hj)
@@ -105,8 +106,8 @@ module _ (fs st : List ℕ) (F N : ℕ) (of : Octets fs) (os : Octets st) (Z : L
   pins-zero g o = rw (only g o) (ap (λ r. r .pins) (root-record F N))
 
   -- and has page 0's words and bytes
-  word-zero : (g k : ℕ) → Occupied v g → k < slotCount → v .word g k ≡ slot st 0 k
-  word-zero g k o hk = rw (only g o) (slot-putPage-same fs 0 (pageOf st 0) F k (Z .frames) pageLength (omega (arith, Z .least)) hk ∙ slot-pageOf st 0 k hk)
+  word-zero : (g k : ℕ) → Occupied v g → k < slotCount → v .word g k ≡ name st 0 k
+  word-zero g k o hk = rw (only g o) (ap nameOf (slot-putPage-same fs 0 (pageOf st 0) F k (Z .frames) pageLength (omega (arith, Z .least)) hk ∙ slot-pageOf st 0 k hk))
 
   byte-zero : (g i : ℕ) → Occupied v g → i < pageSize → v .bytes g i ≡ byte st 0 i
   byte-zero g i o hi =
@@ -139,7 +140,7 @@ module _ (fs st : List ℕ) (F N : ℕ) (of : Octets fs) (os : Octets st) (Z : L
 
   content : Content v (mapOf st)
   content = record {
-    frameWord = λ f k o hk. plain-low (v .page) _ (omega (arith, word-lt f k o hk, Z .pages)) ∙ word-zero f k o hk ∙ ap (λ (p : ℕ). slot st p k) (sym (page-zero f o));
+    frameWord = λ f k o hk. plain-low (v .page) _ (omega (arith, word-lt f k o hk, Z .pages)) ∙ word-zero f k o hk ∙ ap (λ (p : ℕ). name st p k) (sym (page-zero f o));
     frameByte = λ f i o h l. byte-zero f i o l ∙ ap (λ (p : ℕ). byte st p i) (sym (page-zero f o));
     absentWord = λ p k hp a hk. refl;
     absentByte = λ p i hp a h l. refl;

@@ -7,8 +7,9 @@ use native.Mathlib.Omega.{arith}
 use native.Mathlib.Nat.{le-refl}
 use native.Mathlib.Decide.{ℕ-discrete, decLt}
 use lib.ListN.{length, length-set}
-use Rattle.page.specs.Figures.{pageSize, slotCount, payloadStart, wordRadix}
-use Rattle.page.specs.Page.{slot, byte}
+use Rattle.page.specs.Figures.{pageSize, slotCount, payloadStart, mostPages}
+use Rattle.page.specs.Word.{word-ext}
+use Rattle.page.specs.Page.{name, byte}
 use Rattle.page.specs.Octets.{Octets, buffer-ext}
 use Rattle.machine.specs.declared.FrameRecord.{FrameRecord}
 use Rattle.machine.specs.declared.Pool.{Pool}
@@ -23,7 +24,7 @@ use Rattle.machine.specs.Theorem.KeepEffect.{Kept, kept-shape, steady-wa
 use Rattle.machine.specs.Theorem.PinsEffect.{pins-kept}
 use Rattle.machine.specs.Laws.MoveLaws.{writtenOutTo-length}
 use Rattle.machine.specs.Laws.FoundLaws.{found-holds, found-none}
-use Rattle.machine.specs.Theorem.WriteOut.{out-octets, out-wordStays, out-byteStays, out-word, out-byte, plain-lt}
+use Rattle.machine.specs.Theorem.WriteOut.{out-octets, out-wordStays, out-byteStays, out-word, out-byte, plain-lt, plain-some}
 use Rattle.machine.specs.Theorem.RecordChange.{change-same, neat-change, lengths-kept}
 
 -- ---- the records marked clean
@@ -64,7 +65,7 @@ module _ (x : Point) (I : Invariant x) where
 
   -- page p in the store b is the map's
   record Right (b : List ℕ) (p : ℕ) : Type 0 where
-    word : (k : ℕ) → k < slotCount → slot b p k ≡ slot (x .map) p k
+    word : (k : ℕ) → k < slotCount → name b p k ≡ name (x .map) p k
     bytes : (i : ℕ) → payloadStart ≤ i → i < pageSize → byte b p i ≡ byte (x .map) p i
 
   -- an empty frame's record has page 0, and is clean
@@ -86,14 +87,14 @@ module _ (x : Point) (I : Invariant x) where
 
     outDirty : v .dirty n ≡ true → Right (writtenOut rs (s .frames) b n) (v .page n)
     outDirty d = record {
-      word = λ k hk. out-word (v .page) (recordAt rs n) (s .frames) b n _ _ (I .sized .frames) hn lb (pageLt n hn) d small k hk ∙ I .content .frameWord n k o hk;
+      word = λ k hk. out-word (v .page) (recordAt rs n) (s .frames) b n _ _ (I .sized .frames) hn lb (pageLt n hn) d small k hk (plain-some v (I .shape) n k o hk) ∙ I .content .frameWord n k o hk;
       bytes = λ i lo hi. out-byte (v .page) (recordAt rs n) (s .frames) b n _ _ (I .sized .frames) hn lb (pageLt n hn) d small i lo hi ∙ I .content .frameByte n i o lo hi;
     }
       where
         o : Occupied v n
         o = record { lt = hn; on = dirtyUsed n d }
 
-        small : (k : ℕ) → k < slotCount → plain (v .page) (v .word n k) < wordRadix
+        small : (k : ℕ) → k < slotCount → plain (v .page) (v .word n k) < mostPages
         small k hk = omega (arith, plain-lt v (I .shape) n k o hk, I .shape .pages)
 
     outKeeps : (p : ℕ) → Right b p → Right (writtenOut rs (s .frames) b n) p
@@ -144,7 +145,7 @@ module _ (x : Point) (I : Invariant x) where
   pub settle-store : settled s .store ≡ x .map
   unfolding settled
   settle-store = buffer-ext _ _ (v .N) (toOctets (v .F)) (I .mapOctets) (toLength (v .F) (le-refl _)) (I .mapLength)
-      (λ p k hp hk. toRight p hp .word k hk) (λ p i hp lo hi. toRight p hp .bytes i lo hi)
+      (λ p k hp hk. word-ext _ _ (toRight p hp .word k hk)) (λ p i hp lo hi. toRight p hp .bytes i lo hi)
 
   -- ---- the invariant
 
@@ -167,15 +168,15 @@ module _ (x : Point) (I : Invariant x) where
     word = λ g k hg hk. refl;
   }
 
-  storeWord : (p k : ℕ) → slot (settled s .store) p k ≡ slot (x .map) p k
-  storeWord p k = ap (λ (b : List ℕ). slot b p k) settle-store
+  storeWord : (p k : ℕ) → name (settled s .store) p k ≡ name (x .map) p k
+  storeWord p k = ap (λ (b : List ℕ). name b p k) settle-store
 
   storeByte : (p i : ℕ) → byte (settled s .store) p i ≡ byte (x .map) p i
   storeByte p i = ap (λ (b : List ℕ). byte b p i) settle-store
 
   content : Content (view (settled s)) (mapOf (x .map))
   content = record {
-    frameWord = unfold settled in λ f k o hk. steady-plain v _ (kept .steady) _ ∙ I .content .frameWord f k (was f o) hk ∙ ap (λ (p : ℕ). slot (x .map) p k) (sym (kept .steady .page f));
+    frameWord = unfold settled in λ f k o hk. steady-plain v _ (kept .steady) _ ∙ I .content .frameWord f k (was f o) hk ∙ ap (λ (p : ℕ). name (x .map) p k) (sym (kept .steady .page f));
     frameByte = unfold settled in λ f i o h l. I .content .frameByte f i (was f o) h l ∙ ap (λ (p : ℕ). byte (x .map) p i) (sym (kept .steady .page f));
     absentWord = λ p k hp a hk. storeWord p k;
     absentByte = λ p i hp a h l. storeByte p i;

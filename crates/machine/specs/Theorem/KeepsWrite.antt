@@ -9,7 +9,8 @@ use lib.Dec.{eqb}
 use lib.ListN.{length, length-set}
 use borrow.Author.Tests.{eqb-true}
 use Rattle.page.specs.Figures.{pageSize, slotCount, payloadSize}
-use Rattle.page.specs.Page.{slot, byte, putPayload, putPayload-length, slot-putPayload, byte-putPayload-other, byte-putPayload-both, putPayload-none}
+use Rattle.page.specs.Word.{nameOf}
+use Rattle.page.specs.Page.{name, byte, putPayload, putPayload-length, slot-putPayload, byte-putPayload-other, byte-putPayload-both, putPayload-none}
 use Rattle.page.specs.Octets.{Octets, octets-putPayload}
 use Rattle.machine.specs.declared.FrameRecord.{FrameRecord}
 use Rattle.machine.specs.Laws.TestLaws.{clash, pick-yes, pick-no, pick-either, case, on, off}
@@ -69,7 +70,7 @@ module _ (x : Point) (I : Invariant x) (f : ℕ) (of : Occupied (view (x .now)) 
   kept : Kept v w
   kept = record {
     steady = change-steady s f r (putPayload (s .frames) f offset d) (s .store) lt samePlace;
-    word = λ g k hg hk. slot-putPayload (s .frames) f offset d _ (I .sized .frames) (of .lt) fits g k hk;
+    word = λ g k hg hk. ap nameOf (slot-putPayload (s .frames) f offset d _ (I .sized .frames) (of .lt) fits g k hk);
   }
 
   -- clean afterwards: clean before, and where it is f nothing was written
@@ -93,8 +94,8 @@ module _ (x : Point) (I : Invariant x) (f : ℕ) (of : Occupied (view (x .now)) 
   elsewhere : (p i : ℕ) → i < pageSize → p ≢ v .page f → byte m p i ≡ byte (x .map) p i
   elsewhere p i l n = byte-putPayload-other (x .map) (v .page f) offset d _ (I .mapLength) pN fits p i l n
 
-  mapWords : (p k : ℕ) → p < v .N → k < slotCount → slot m p k ≡ slot (x .map) p k
-  mapWords p k hp hk = slot-putPayload (x .map) (v .page f) offset d _ (I .mapLength) pN fits p k hk
+  mapWords : (p k : ℕ) → p < v .N → k < slotCount → name m p k ≡ name (x .map) p k
+  mapWords p k hp hk = ap nameOf (slot-putPayload (x .map) (v .page f) offset d _ (I .mapLength) pN fits p k hk)
 
   rewritten : Rewritten v w (mapOf (x .map)) (mapOf m)
   rewritten = record {

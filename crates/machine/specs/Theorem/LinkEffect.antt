@@ -5,8 +5,8 @@ use mathlib.Core.Bool.{true, false}
 use Prim.Native.Nat.{ℕ, _≤_, _<_}
 use native.Mathlib.Omega.{arith}
 use native.Mathlib.Decide.{ℕ-discrete, decLt}
-use Rattle.page.specs.Figures.{pageSize, slotCount, payloadStart, swizzleBit}
-use Rattle.page.specs.Word.{frameWord}
+use Rattle.page.specs.Figures.{pageSize, slotCount, payloadStart}
+use Rattle.page.specs.Word.{frameWord, Number}
 use Rattle.machine.specs.Moves.{plain}
 use Rattle.machine.specs.Laws.TestLaws.{clash}
 use Rattle.machine.specs.Laws.PlainLaws.{plain-low, plain-high}
@@ -82,7 +82,7 @@ module _ (v : View) (m : Map) (S : Shape v) (C : Content v m) (y : ℕ) (fresh :
 
 -- ---- shape and content
 
-module _ (v w : View) (f k y : ℕ) (S : Shape v) (L : Linked v w f k y) (of : Occupied v f) (hk : k < slotCount) (old : v .word f k < swizzleBit) (yN : y < v .N)
+module _ (v w : View) (f k y : ℕ) (S : Shape v) (L : Linked v w f k y) (of : Occupied v f) (hk : k < slotCount) (old : Number (v .word f k)) (yN : y < v .N)
     (m : Map) (C : Content v m) (fresh : Unnamed m (v .N) y) (noRoot : y ≢ 0 → NoRoot (v .roots) (v .each) y) where
   abbrev T : Steady v w
   T = L .steady
@@ -93,7 +93,7 @@ module _ (v w : View) (f k y : ℕ) (S : Shape v) (L : Linked v w f k y) (of : O
   was : (g : ℕ) → Occupied w g → Occupied v g
   was = steady-was v w T
 
-  yLow : y < swizzleBit
+  yLow : Number y
   yLow = omega (arith, S .pages)
 
   -- a word afterwards: the new one, or one that stays
@@ -115,7 +115,7 @@ module _ (v w : View) (f k y : ℕ) (S : Shape v) (L : Linked v w f k y) (of : O
   ]
 
   -- a number that stays isn't y
-  notY : (g j : ℕ) → Occupied v g → j < slotCount → v .word g j < swizzleBit → y ≢ 0 → v .word g j ≢ y
+  notY : (g j : ℕ) → Occupied v g → j < slotCount → Number (v .word g j) → y ≢ 0 → v .word g j ≢ y
   notY g j o hj l z q = unnamed-image v m S C y fresh noRoot z g j o hj (plain-low (v .page) _ l ∙ q)
 
   pub link-shape : Shape w

@@ -4,13 +4,12 @@ use mathlib.Core.Logic.{_≢_}
 use mathlib.Core.Bool.{true, false}
 use Prim.Native.Nat.{ℕ, _≤_, _<_}
 use native.Mathlib.Omega.{arith}
-use native.Mathlib.Nat.{add-left-cancel}
 use native.Mathlib.Decide.{ℕ-discrete, decLt}
-use Rattle.page.specs.Figures.{pageSize, slotCount, payloadStart, swizzleBit}
-use Rattle.page.specs.Word.{frameWord}
+use Rattle.page.specs.Figures.{pageSize, slotCount, payloadStart}
+use Rattle.page.specs.Word.{frameWord, Number, reading, low, high, frame-word-inj}
 use Rattle.machine.specs.Moves.{plain}
 use Rattle.machine.specs.Laws.TestLaws.{clash}
-use Rattle.machine.specs.Laws.PlainLaws.{plain-low, plain-high, reading, low, high}
+use Rattle.machine.specs.Laws.PlainLaws.{plain-low, plain-high}
 use Rattle.machine.specs.Theorem.View.{View, Reach, top, via, Occupied, Absent, Parent, Child, Shape, Map, Content, MapSound, NoRoot}
 
 -- page q comes into frame e, for slot k of frame f
@@ -78,7 +77,7 @@ module _ (v w : View) (f k e q : ℕ) (L : Loaded v w f k e q) (eF : e < v .F) (
   loaded-absentWas p a g o z = a g (loaded-is g o) (L .page g (empty-other v e free g o) ∙ z)
 
 module _ (v w : View) (f k e q : ℕ) (S : Shape v) (L : Loaded v w f k e q) (of : Occupied v f) (hk : k < slotCount)
-    (eF : e < v .F) (free : v .used e ≡ false) (names : v .word f k ≡ q) (low′ : q < swizzleBit) (nz : q ≢ 0) (T : Fits v q) where
+    (eF : e < v .F) (free : v .used e ≡ false) (names : v .word f k ≡ q) (low′ : Number q) (nz : q ≢ 0) (T : Fits v q) where
   qN : q < v .N
   qN = rw names at (S .numberLt f k of hk (rw names low′))
 
@@ -177,21 +176,21 @@ module _ (v w : View) (f k e q : ℕ) (S : Shape v) (L : Loaded v w f k e q) (of
   child′ : (a j g : ℕ) → Occupied w a → j < slotCount → w .word a j ≡ frameWord g → Child w a j g
   child′ a j g o hj c = elim (wordCase a j o hj) [
     | new x y ↦ absurd (omega (arith, T .below j hj, S .pages))
-    | hit x y z ↦ let ge : g ≡ e = add-left-cancel swizzleBit (sym c ∙ z) in
+    | hit x y z ↦ let ge : g ≡ e = frame-word-inj _ _ (sym c ∙ z) in
         rw ge (record { occupied = here; notRoot = rw (L .roots) eNoRoot; back = L .upE ∙ sym x; backSlot = L .upSlotE ∙ sym y })
     | same oa x y ↦ let C : Child v a j g = S .child a j g oa hj (sym x ∙ c) in
         let n : g ≢ e = other g (C .occupied) in
         record { occupied = is g (C .occupied); notRoot = rw (L .roots) (C .notRoot); back = L .up g n ∙ C .back; backSlot = L .upSlot g n ∙ C .backSlot }
   ]
 
-  numberLt′ : (a j : ℕ) → Occupied w a → j < slotCount → w .word a j < swizzleBit → w .word a j < w .N
+  numberLt′ : (a j : ℕ) → Occupied w a → j < slotCount → Number (w .word a j) → w .word a j < w .N
   numberLt′ a j o hj l = elim (wordCase a j o hj) [
     | new x y ↦ rw (y, L .sameN) (T .below j hj)
     | hit x y z ↦ absurd (omega arith)
     | same oa x y ↦ rw (x, L .sameN) (S .numberLt a j oa hj (rw x at l))
   ]
 
-  numberAbsent′ : (a j : ℕ) → Occupied w a → j < slotCount → w .word a j < swizzleBit → w .word a j ≢ 0 → Absent w (w .word a j)
+  numberAbsent′ : (a j : ℕ) → Occupied w a → j < slotCount → Number (w .word a j) → w .word a j ≢ 0 → Absent w (w .word a j)
   numberAbsent′ a j o hj l z = elim (wordCase a j o hj) [
     | new x y ↦ rw y (absent (v .storeWord q j) (newAbsent j hj (rw y at z)) (newOther j hj (rw y at z)))
     | hit x y c ↦ absurd (omega arith)
@@ -199,7 +198,7 @@ module _ (v w : View) (f k e q : ℕ) (S : Shape v) (L : Loaded v w f k e q) (of
         (λ c. let r : (a ≡ f) × (j ≡ k) = S .once a j f k oa hj of hk (c ∙ sym names) (rw x at z) (rw x at l) in y (r .0) (r .1)))
   ]
 
-  once′ : (a i b j : ℕ) → Occupied w a → i < slotCount → Occupied w b → j < slotCount → w .word a i ≡ w .word b j → w .word a i ≢ 0 → w .word a i < swizzleBit → (a ≡ b) × (i ≡ j)
+  once′ : (a i b j : ℕ) → Occupied w a → i < slotCount → Occupied w b → j < slotCount → w .word a i ≡ w .word b j → w .word a i ≢ 0 → Number (w .word a i) → (a ≡ b) × (i ≡ j)
   once′ a i b j oa hi ob hj c z l =
       elim (wordCase a i oa hi) [
         | new x y ↦ elim (wordCase b j ob hj) [

@@ -5,16 +5,15 @@ use mathlib.Core.Logic.{_≢_}
 use mathlib.Core.Bool.{true}
 use native.Mathlib.Omega.{arith}
 use native.Mathlib.Decide.{ℕ-discrete}
-use borrow.Author.Tests.{lt-ltb}
-use Rattle.page.specs.Figures.{pageSize, slotCount, payloadStart, swizzleBit}
-use Rattle.page.specs.Word.{isNumber, frameWord}
-use Rattle.page.specs.Page.{slot, byte}
+use Rattle.page.specs.Figures.{pageSize, slotCount, payloadStart}
+use Rattle.page.specs.Word.{isNumber, frameWord, Number, yes-number, reading, low, high, numberWord, renamed, renamed-own}
+use Rattle.page.specs.Page.{slot, name, byte}
 use Rattle.machine.specs.Machine.{recordAt, occupied, blank}
 use Rattle.machine.specs.Moves.{plain}
 use Rattle.machine.specs.Laws.TestLaws.{case, on, off}
 use Rattle.machine.specs.History.{Point}
 use Rattle.machine.specs.Demand3.{InFrame, Resident, Pinned, Names, LeadsToRoot, atRoot, toParent}
-use Rattle.machine.specs.Laws.PlainLaws.{plain-low, plain-high, reading, low, high}
+use Rattle.machine.specs.Laws.PlainLaws.{plain-low, plain-high}
 use Rattle.machine.specs.Theorem.View.{view, Reach, top, via, Occupied, Absent, Parent, Child, first-root, first-page, past-first, not-first}
 use Rattle.machine.specs.Theorem.Invariant.{Invariant}
 use Rattle.machine.specs.Theorem.Holders.{Holder, occupied-of}
@@ -23,8 +22,8 @@ use Rattle.machine.specs.Theorem.Residence.{in-frame, resident, holder, 
 
 -- a word of page p in frame f against the map's: a number, of no resident page, or swizzled to the frame of the page that the map's names
 pub data Meets (x : Point) (p f k : ℕ) : Type 0 where
-  number : slot (x .now .frames) f k ≡ slot (x .map) p k → slot (x .now .frames) f k < swizzleBit → (slot (x .map) p k ≢ 0 → Absent (view (x .now)) (slot (x .map) p k)) → Meets x p f k
-  swizzledTo : (g : ℕ) → slot (x .now .frames) f k ≡ frameWord g → Child (view (x .now)) f k g → Holder (view (x .now)) (slot (x .map) p k) g → Meets x p f k
+  number : name (x .now .frames) f k ≡ name (x .map) p k → Number (name (x .now .frames) f k) → (name (x .map) p k ≢ 0 → Absent (view (x .now)) (name (x .map) p k)) → Meets x p f k
+  swizzledTo : (g : ℕ) → name (x .now .frames) f k ≡ frameWord g → Child (view (x .now)) f k g → Holder (view (x .now)) (name (x .map) p k) g → Meets x p f k
 
 module _ (x : Point) (I : Invariant x) where
   -- ---- frames and pins
@@ -93,20 +92,20 @@ module _ (x : Point) (I : Invariant x) where
       I .content .frameByte f i (h .at) lo hi ∙ ap (λ (q : ℕ). byte (x .map) q i) (h .page)
 
   -- the number that a word of a resident page stands for
-  pub plain-word : (p f k : ℕ) → Holder (view (x .now)) p f → k < slotCount → plain (view (x .now) .page) (slot (x .now .frames) f k) ≡ slot (x .map) p k
-  plain-word p f k h hk = I .content .frameWord f k (h .at) hk ∙ ap (λ (q : ℕ). slot (x .map) q k) (h .page)
+  pub plain-word : (p f k : ℕ) → Holder (view (x .now)) p f → k < slotCount → plain (view (x .now) .page) (name (x .now .frames) f k) ≡ name (x .map) p k
+  plain-word p f k h hk = I .content .frameWord f k (h .at) hk ∙ ap (λ (q : ℕ). name (x .map) q k) (h .page)
 
   pub meets : (p f k : ℕ) → Holder (view (x .now)) p f → k < slotCount → Meets x p f k
-  meets p f k h hk = elim (reading (slot (x .now .frames) f k)) [
+  meets p f k h hk = elim (reading (name (x .now .frames) f k)) [
     | low l ↦
-        let e : slot (x .now .frames) f k ≡ slot (x .map) p k = sym (plain-low (view (x .now) .page) _ l) ∙ plain-word p f k h hk in
+        let e : name (x .now .frames) f k ≡ name (x .map) p k = sym (plain-low (view (x .now) .page) _ l) ∙ plain-word p f k h hk in
         number e l (λ n. rw e at (I .shape .numberAbsent f k (h .at) hk l (λ z. n (sym e ∙ z))))
     | high g e ↦
         let C : Child (view (x .now)) f k g = I .shape .child f k g (h .at) hk e in
         swizzledTo g e C (record { at = C .occupied; page = sym (plain-high (view (x .now) .page) g) ∙ ap (plain (view (x .now) .page)) (sym e) ∙ plain-word p f k h hk })
   ]
 
-  pub swizzled-word : (p f k c g : ℕ) → InFrame x p f → Names x p k c → c ≢ 0 → InFrame x c g → slot (x .now .frames) f k ≡ frameWord g
+  pub swizzled-word : (p f k c g : ℕ) → InFrame x p f → Names x p k c → c ≢ 0 → InFrame x c g → name (x .now .frames) f k ≡ frameWord g
   swizzled-word p f k c g a m n b =
       let h : Holder (view (x .now)) c g = holder x I c g b in
       elim (meets p f k (holder x I p f a) (m .inPage)) [
@@ -114,7 +113,7 @@ module _ (x : Point) (I : Invariant x) where
         | swizzledTo j e C k ↦ e ∙ ap frameWord (I .shape .apart j g (k .at) (h .at) (k .page ∙ m .word ∙ sym (h .page)))
       ]
 
-  pub number-word : (p f k c : ℕ) → InFrame x p f → Names x p k c → (c ≢ 0 → Resident x c → ⊥) → slot (x .now .frames) f k ≡ c
+  pub number-word : (p f k c : ℕ) → InFrame x p f → Names x p k c → (c ≢ 0 → Resident x c → ⊥) → name (x .now .frames) f k ≡ c
   number-word p f k c a m n = elim (meets p f k (holder x I p f a) (m .inPage)) [
     | number e l away ↦ e ∙ m .word
     | swizzledTo j e C k ↦ absurd (n
@@ -122,5 +121,12 @@ module _ (x : Point) (I : Invariant x) where
         (resident x I c j (record { at = k .at; page = k .page ∙ m .word })))
   ]
 
-  pub store-plain : (p k : ℕ) → p < x .now .pool .pages → k < slotCount → isNumber (slot (x .now .store) p k) ≡ true
-  store-plain p k hp hk = lt-ltb (slot (x .now .store) p k) swizzleBit (I .content .storePlain p k hp hk)
+  -- the whole words, put in the place of the map's
+  pub swizzled-whole : (p f k c g : ℕ) → InFrame x p f → Names x p k c → c ≢ 0 → InFrame x c g → slot (x .now .frames) f k ≡ renamed (slot (x .map) p k) (frameWord g)
+  swizzled-whole p f k c g a m n b = renamed-own (slot (x .map) p k) _ _ (swizzled-word p f k c g a m n b)
+
+  pub number-whole : (p f k c : ℕ) → InFrame x p f → Names x p k c → (c ≢ 0 → Resident x c → ⊥) → slot (x .now .frames) f k ≡ renamed (slot (x .map) p k) (numberWord c)
+  number-whole p f k c a m n = renamed-own (slot (x .map) p k) _ _ (number-word p f k c a m n)
+
+  pub store-plain : (p k : ℕ) → p < x .now .pool .pages → k < slotCount → isNumber (name (x .now .store) p k) ≡ true
+  store-plain p k hp hk = yes-number (name (x .now .store) p k) (I .content .storePlain p k hp hk)

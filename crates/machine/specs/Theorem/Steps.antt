@@ -1,6 +1,7 @@
 -- Every call keeps the invariant, accepted or refused. Assumes nothing.
 use mathlib.Core.Path.{refl}
 use native.Mathlib.Omega.{arith}
+use Rattle.page.specs.Word.{name-number}
 use Rattle.page.specs.Octets.{Octets}
 use Rattle.machine.specs.Tests.{pick}
 use Rattle.machine.specs.Machine.{found}
@@ -24,9 +25,9 @@ module _ (x : Point) (I : Invariant x) where
   step-keeps (write h offset d) b = call-keeps x I (row (write h offset d)) _ _ _ (write-case x I h offset d)
       (λ A. rw (A .handle .page) at (write-keeps x I (h .frame .0) (A .handle .at) offset d (A .fits) b))
   step-keeps (link h k q) b = call-keeps x I (row (link h k q)) _ _ _ (link-case x I h k q)
-      (λ A. rw (A .handle .page) at (relink-keeps x I (h .frame .0) (A .handle .at) k (q .0) (A .inPage) (rw (A .vacant) (omega arith)) (A .below) (λ n. A .fresh)))
+      (λ A. rw (A .handle .page) at (relink-keeps x I (h .frame .0) (A .handle .at) k (q .0) (q .0) (A .inPage) (rw (A .vacant) (omega arith)) (name-number (q .0) (omega (arith, A .below, I .shape .pages))) (omega (arith, A .below, I .shape .pages)) (A .below) (λ n. A .fresh)))
   step-keeps (unlink h k) b = call-keeps x I (row (unlink h k)) _ _ _ (unlink-case x I h k)
-      (λ A. rw (A .handle .page) at (relink-keeps x I (h .frame .0) (A .handle .at) k 0 (A .inPage) (A .number) (I .shape .some) (λ n. absurd (n refl))))
+      (λ A. rw (A .handle .page) at (relink-keeps x I (h .frame .0) (A .handle .at) k 0 0 (A .inPage) (A .number) (name-number 0 (omega arith)) (omega arith) (I .shape .some) (λ n. absurd (n refl))))
   step-keeps (evict q) b = call-keeps x I (row (evict q)) _ _ _ (evict-case x I q)
       (λ A. evict-keeps x I (found (x .now .pool) (q .0)) (A .holder .at) (past-first (A .isopen .notRoot)) (A .isopen .leaf) (A .isopen .unpinned))
   step-keeps settle b = call-keeps x I (row settle) _ _ _ (settle-case x I) (λ a. settle-keeps x I)

@@ -5,8 +5,8 @@ use mathlib.Core.Logic.{_≢_}
 use mathlib.Core.Bool.{true}
 use native.Mathlib.Omega.{arith}
 use native.Mathlib.Decide.{ℕ-discrete}
-use Rattle.page.specs.Figures.{slotCount, swizzleBit}
-use Rattle.page.specs.Word.{frameWord}
+use Rattle.page.specs.Figures.{slotCount}
+use Rattle.page.specs.Word.{frameWord, Number}
 use Rattle.machine.specs.Machine.{State, withPool}
 use Rattle.machine.specs.Moves.{evicted, loaded}
 use Rattle.machine.specs.Sweep.{sweep, withSwept}
@@ -27,7 +27,7 @@ at x s = record { now = s; map = x .map; balance = x .balance }
 -- ---- page q, which a number in slot k of frame f names, comes into frame g, whose page is evicted
 
 module _ (x : Point) (I : Invariant x) (g : ℕ) (og : Occupied (view (x .now)) g) (O : Open (view (x .now)) g)
-    (f k : ℕ) (of : Occupied (view (x .now)) f) (fg : f ≢ g) (hk : k < slotCount) (low : view (x .now) .word f k < swizzleBit) (nz : view (x .now) .word f k ≢ 0) where
+    (f k : ℕ) (of : Occupied (view (x .now)) f) (fg : f ≢ g) (hk : k < slotCount) (low : Number (view (x .now) .word f k)) (nz : view (x .now) .word f k ≢ 0) where
   E : Evicted (view (x .now)) (view (evicted (x .now) g)) g
   E = evict-effect (x .now) (fit-of x I) g og (past-first (O .notRoot))
 
@@ -71,7 +71,7 @@ module _ (x : Point) (I : Invariant x) (full : (f : ℕ) → f < x .now .pool .c
   still-open : Open (view swept) victim
   still-open = record { notRoot = victim-open .notRoot; unpinned = cool .each victim .pins ∙ victim-open .unpinned; leaf = victim-open .leaf }
 
-  pub swept-keeps : (f k : ℕ) → Occupied (view (x .now)) f → 0 < view (x .now) .pins f → k < slotCount → view (x .now) .word f k < swizzleBit → view (x .now) .word f k ≢ 0
+  pub swept-keeps : (f k : ℕ) → Occupied (view (x .now)) f → 0 < view (x .now) .pins f → k < slotCount → Number (view (x .now) .word f k) → view (x .now) .word f k ≢ 0
       → Invariant (record { now = sweptOut (x .now) f k (view (x .now) .word f k) (sweep (x .now .pool) (x .now .frames)) .left; map = x .map; balance = fixedIn victim (view (x .now) .word f k) (x .balance) })
   swept-keeps f k of pinned hk low nz =
       replace-keeps (at x swept) (sweep-keeps x I (sweep (x .now .pool) (x .now .frames)) cool) victim (still-occupied victim victim-lt) still-open

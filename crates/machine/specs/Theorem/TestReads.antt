@@ -3,9 +3,10 @@ use Prim.Native.Nat.{ℕ, _<_, _≤_}
 use mathlib.Core.Path.{_≡_, refl, sym, _∙_}
 use mathlib.Core.Logic.{_≢_}
 use mathlib.Core.Bool.{true, false}
-use borrow.Author.Tests.{eqb-true, eqb-false, eq-eqb, ne-eqb, ltb-true, ltb-false}
+use borrow.Author.Tests.{eqb-true, eqb-false, eq-eqb, ne-eqb, ltb-true}
 use lib.Dec.{eqb, ltb}
-use Rattle.page.specs.Figures.{slotCount, swizzleBit}
+use Rattle.page.specs.Figures.{slotCount}
+use Rattle.page.specs.Word.{Number, Swizzled, number-yes, number-no}
 use Rattle.machine.specs.declared.Handle.{Handle}
 use Rattle.machine.specs.Laws.TestLaws.{clash, case, on, off, and-true, every-true, false-every, pick-yes, pick-no}
 use Rattle.machine.specs.Machine.{State, recordAt}
@@ -32,7 +33,7 @@ handled s h t =
 pub record Open (v : View) (f : ℕ) : Type 0 where
   pub notRoot : f ≢ 0
   pub unpinned : v .pins f ≡ 0
-  pub leaf : (k : ℕ) → k < slotCount → v .word f k < swizzleBit
+  pub leaf : (k : ℕ) → k < slotCount → Number (v .word f k)
 
 pub open-of : (s : State) (f : ℕ) → isOpen (recordAt (s .pool .records) f) (s .frames) f ≡ true → Open (view s) f
 unfolding childless
@@ -47,16 +48,16 @@ open-of s f o =
             | on b ↦ record {
               notRoot = eqb-false f 0 a;
               unpinned = eqb-true _ 0 b;
-              leaf = λ k h. ltb-true _ swizzleBit (every-true slotCount _ (pick-yes false b refl ∙ u) k h);
+              leaf = λ k h. number-yes _ (every-true slotCount _ (pick-yes false b refl ∙ u) k h);
             }
           ]
     ]
 
 -- an unpinned frame that is not the root's and yet not open has a swizzled word
-pub shut-of : (s : State) (f : ℕ) → isOpen (recordAt (s .pool .records) f) (s .frames) f ≡ false → f ≢ 0 → view s .pins f ≡ 0 → (k : ℕ) × (k < slotCount) × (swizzleBit ≤ view s .word f k)
+pub shut-of : (s : State) (f : ℕ) → isOpen (recordAt (s .pool .records) f) (s .frames) f ≡ false → f ≢ 0 → view s .pins f ≡ 0 → (k : ℕ) × (k < slotCount) × Swizzled (view s .word f k)
 unfolding childless
 shut-of s f o n z =
     let t = sym (open-where (recordAt (s .pool .records) f) (s .frames) f) ∙ o in
     let c = pick-yes false (eq-eqb _ 0 z) refl ∙ pick-no false (ne-eqb f 0 n) refl ∙ t in
     let r = false-every slotCount _ c in
-    (r .0, r .1, ltb-false _ swizzleBit (r .2))
+    (r .0, r .1, number-no _ (r .2))

@@ -5,9 +5,9 @@ use native.Mathlib.Nat.{mul-zero}
 use mathlib.Core.Logic.{_≢_}
 use mathlib.Core.Bool.{Bool, true, false}
 use Prim.Native.Nat.{ℕ, _*_, _≤_, _<_}
-use Rattle.page.specs.Figures.{pageSize, slotCount, payloadStart, leastFrames, mostFrames, mostPages, swizzleBit}
-use Rattle.page.specs.Word.{frameWord}
-use Rattle.page.specs.Page.{slot, byte}
+use Rattle.page.specs.Figures.{pageSize, slotCount, payloadStart, leastFrames, mostFrames, mostPages}
+use Rattle.page.specs.Word.{frameWord, Number}
+use Rattle.page.specs.Page.{name, byte}
 use Rattle.machine.specs.Machine.{State, recordAt, pageIn}
 use Rattle.machine.specs.Moves.{plain}
 
@@ -40,9 +40,9 @@ view s = record {
   upSlot = λ f. recordAt (s .pool .records) f .slot;
   pins = λ f. recordAt (s .pool .records) f .pins;
   dirty = λ f. recordAt (s .pool .records) f .dirty;
-  word = λ f k. slot (s .frames) f k;
+  word = λ f k. name (s .frames) f k;
   bytes = λ f i. byte (s .frames) f i;
-  storeWord = λ p k. slot (s .store) p k;
+  storeWord = λ p k. name (s .store) p k;
   storeBytes = λ p i. byte (s .store) p i;
 }
 
@@ -85,9 +85,9 @@ pub record Shape (v : View) : Type 0 where
   pub apart : (f g : ℕ) → Occupied v f → Occupied v g → v .page f ≡ v .page g → f ≡ g
   pub parent : (f : ℕ) → Occupied v f → v .roots ≤ f → Parent v f
   pub child : (f k g : ℕ) → Occupied v f → k < slotCount → v .word f k ≡ frameWord g → Child v f k g
-  pub numberLt : (f k : ℕ) → Occupied v f → k < slotCount → v .word f k < swizzleBit → v .word f k < v .N
-  pub numberAbsent : (f k : ℕ) → Occupied v f → k < slotCount → v .word f k < swizzleBit → v .word f k ≢ 0 → Absent v (v .word f k)
-  pub once : (f k g j : ℕ) → Occupied v f → k < slotCount → Occupied v g → j < slotCount → v .word f k ≡ v .word g j → v .word f k ≢ 0 → v .word f k < swizzleBit → (f ≡ g) × (k ≡ j)
+  pub numberLt : (f k : ℕ) → Occupied v f → k < slotCount → Number (v .word f k) → v .word f k < v .N
+  pub numberAbsent : (f k : ℕ) → Occupied v f → k < slotCount → Number (v .word f k) → v .word f k ≢ 0 → Absent v (v .word f k)
+  pub once : (f k g j : ℕ) → Occupied v f → k < slotCount → Occupied v g → j < slotCount → v .word f k ≡ v .word g j → v .word f k ≢ 0 → Number (v .word f k) → (f ≡ g) × (k ≡ j)
   pub reach : (f : ℕ) → Occupied v f → Reach v f
 
 -- p is none of the roots' pages
@@ -107,7 +107,7 @@ pub record Content (v : View) (m : Map) : Type 0 where
   pub absentByte : (p i : ℕ) → p < v .N → Absent v p → payloadStart ≤ i → i < pageSize → v .storeBytes p i ≡ m .mapBytes p i
   pub cleanWord : (f k : ℕ) → Occupied v f → v .dirty f ≡ false → k < slotCount → v .storeWord (v .page f) k ≡ m .mapWord (v .page f) k
   pub cleanByte : (f i : ℕ) → Occupied v f → v .dirty f ≡ false → payloadStart ≤ i → i < pageSize → v .storeBytes (v .page f) i ≡ m .mapBytes (v .page f) i
-  pub storePlain : (p k : ℕ) → p < v .N → k < slotCount → v .storeWord p k < swizzleBit
+  pub storePlain : (p k : ℕ) → p < v .N → k < slotCount → Number (v .storeWord p k)
 
 -- the map is a sound store
 pub record MapSound (m : Map) (N roots each : ℕ) : Type 0 where

@@ -3,16 +3,18 @@ use mathlib.Core.Path.{_≡_, refl, sym, ap, _∙_}
 use mathlib.Core.Bool.{true, false}
 use mathlib.Core.List.{List}
 use Prim.Native.Nat.{ℕ, _*_, _≤_, _<_}
+use native.Mathlib.Omega.{arith}
 use native.Mathlib.Nat.{le-refl}
 use lib.ListN.{length}
-use Rattle.page.specs.Figures.{pageSize, slotCount, payloadStart, wordRadix}
-use Rattle.page.specs.Page.{slot, byte, pageOf, putPage, pageOf-length, byte-putPage-same, byte-putPage-other, slot-putPage-same, slot-putPage-other, byte-pageOf, slot-pageOf, byte-first}
+use Rattle.page.specs.Figures.{pageSize, slotCount, payloadStart, mostPages, wordRadix}
+use Rattle.page.specs.Word.{nameOf, reading, low, high}
+use Rattle.page.specs.Page.{slot, name, byte, pageOf, putPage, pageOf-length, byte-putPage-same, byte-putPage-other, slot-putPage-same, slot-putPage-other, byte-pageOf, slot-pageOf, byte-first}
 use Rattle.page.specs.Octets.{Octets, octets-pageOf, octets-putPage}
 use Rattle.machine.specs.declared.FrameRecord.{FrameRecord}
 use Rattle.machine.specs.Laws.TestLaws.{clash, pick-yes, pick-no, pick-either, case, on, off}
-use Rattle.machine.specs.Moves.{plain, imageTo, writtenOutBy}
-use Rattle.machine.specs.Laws.PlainLaws.{plain-low, plain-high, reading, low, high}
-use Rattle.machine.specs.Theorem.View.{View, Occupied, Shape}
+use Rattle.machine.specs.Moves.{plain, imaged, imageTo, writtenOutBy}
+use Rattle.machine.specs.Laws.PlainLaws.{plain-low, plain-high, name-imaged, imaged-lt}
+use Rattle.machine.specs.Theorem.View.{View, Occupied, Child, Shape, first-root, first-page}
 use Rattle.machine.specs.Laws.MoveLaws.{image-length, octets-image, image-byte, image-slot}
 
 -- the image of the page in frame f goes to the store, by its record r
@@ -39,10 +41,10 @@ module _ (page : ℕ → ℕ) (r : FrameRecord) (fs st : List ℕ) (f : ℕ) whe
     imageLength = image-length page (pageOf fs f) slotCount ∙ pageLength
 
     -- a page that is another, or clean, stays
-    pub out-wordStays : (p k : ℕ) → k < slotCount → (p ≡ r .page .0 → r .dirty ≡ false) → slot (writtenOutBy page r fs st f) p k ≡ slot st p k
+    pub out-wordStays : (p k : ℕ) → k < slotCount → (p ≡ r .page .0 → r .dirty ≡ false) → name (writtenOutBy page r fs st f) p k ≡ name st p k
     out-wordStays p k hk h = elim (case (r .dirty)) [
-      | on d ↦ ap (λ (b : List ℕ). slot b p k) (out-dirty d) ∙ slot-putPage-other st (r .page .0) _ N p k ls imageLength hp (λ q. clash (sym d ∙ h (sym q))) hk
-      | off d ↦ ap (λ (b : List ℕ). slot b p k) (out-clean d)
+      | on d ↦ ap (λ (b : List ℕ). name b p k) (out-dirty d) ∙ ap nameOf (slot-putPage-other st (r .page .0) _ N p k ls imageLength hp (λ q. clash (sym d ∙ h (sym q))) hk)
+      | off d ↦ ap (λ (b : List ℕ). name b p k) (out-clean d)
     ]
 
     pub out-byteStays : (p i : ℕ) → i < pageSize → (p ≡ r .page .0 → r .dirty ≡ false) → byte (writtenOutBy page r fs st f) p i ≡ byte st p i
@@ -52,14 +54,17 @@ module _ (page : ℕ → ℕ) (r : FrameRecord) (fs st : List ℕ) (f : ℕ) whe
     ]
 
     -- a dirty page's is its image
-    module _ (d : r .dirty ≡ true) (small : (k : ℕ) → k < slotCount → plain page (slot fs f k) < wordRadix) where
-      smallPage : (k : ℕ) → k < slotCount → plain page (slot (pageOf fs f) 0 k) < wordRadix
-      smallPage k hk = rw (slot-pageOf fs f k hk) (small k hk)
+    module _ (d : r .dirty ≡ true) (small : (k : ℕ) → k < slotCount → plain page (name fs f k) < mostPages) where
+      smallPage : (k : ℕ) → k < slotCount → imaged page (slot (pageOf fs f) 0 k) < wordRadix
+      smallPage k hk = rw (slot-pageOf fs f k hk) (imaged-lt page (slot fs f k) (small k hk))
 
-      pub out-word : (k : ℕ) → k < slotCount → slot (writtenOutBy page r fs st f) (r .page .0) k ≡ plain page (slot fs f k)
-      out-word k hk =
+      out-image : (k : ℕ) → k < slotCount → slot (writtenOutBy page r fs st f) (r .page .0) k ≡ imaged page (slot fs f k)
+      out-image k hk =
           ap (λ (b : List ℕ). slot b (r .page .0) k) (out-dirty d) ∙ slot-putPage-same st (r .page .0) _ N k ls imageLength hp hk
-          ∙ image-slot page (pageOf fs f) pageLength smallPage slotCount k (le-refl slotCount) hk ∙ ap (plain page) (slot-pageOf fs f k hk)
+          ∙ image-slot page (pageOf fs f) pageLength smallPage slotCount k (le-refl slotCount) hk ∙ ap (imaged page) (slot-pageOf fs f k hk)
+
+      pub out-word : (k : ℕ) → k < slotCount → (plain page (name fs f k) ≡ 0 → name fs f k ≡ 0) → name (writtenOutBy page r fs st f) (r .page .0) k ≡ plain page (name fs f k)
+      out-word k hk some = ap nameOf (out-image k hk) ∙ name-imaged page (slot fs f k) (small k hk) some
 
       pub out-byte : (i : ℕ) → payloadStart ≤ i → i < pageSize → byte (writtenOutBy page r fs st f) (r .page .0) i ≡ byte fs f i
       out-byte i h l =
@@ -71,4 +76,14 @@ pub plain-lt : (v : View) → Shape v → (f k : ℕ) → Occupied v f → k < s
 plain-lt v S f k o hk = elim (reading (v .word f k)) [
   | low l ↦ rw (plain-low (v .page) _ l) (S .numberLt f k o hk l)
   | high g q ↦ rw (q, plain-high (v .page) g) (S .pageLt g (S .child f k g o hk q .occupied))
+]
+
+-- and for page 0 only where they name nothing
+pub plain-some : (v : View) → Shape v → (f k : ℕ) → Occupied v f → k < slotCount → plain (v .page) (v .word f k) ≡ 0 → v .word f k ≡ 0
+plain-some v S f k o hk z = elim (reading (v .word f k)) [
+  | low l ↦ sym (plain-low (v .page) _ l) ∙ z
+  | high g q ↦
+      let C : Child v f k g = S .child f k g o hk q in
+      let e : v .page g ≡ 0 = sym (plain-high (v .page) g) ∙ ap (plain (v .page)) (sym q) ∙ z in
+      absurd (omega (arith, S .apart g 0 (C .occupied) (first-root v S) (e ∙ sym (first-page v S)), C .notRoot, S .someRoots))
 ]

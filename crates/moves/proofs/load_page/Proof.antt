@@ -1,61 +1,55 @@
--- `load_page` meets its contract. Assumes nothing.
-use borrow.Author.Needs.{needs}
+-- `load_page` meets its contract: the parent's old word is read before the page is copied. Assumes nothing.
 use mathlib.Core.Path.{refl}
-use Rattle.moves.specs.Steps.{word-put}
+use Rattle.moves.specs.Steps.{renamed-put}
 use Rattle.moves.specs.InAndOut.{broughtIn}
+use borrow.Author.Needs.{needs}
 use Rattle.moves.proofs.load_page.Statement.{statement}
 use Rattle.moves.proofs.load_page.Tie as tie
 
-cast-copy-page : tie.Need-cast-copy-page
-cast-copy-page c = search needs
+slot-word-requires : tie.Need-slot-word-requires
+slot-word-requires c κs = search needs
 
-cast-copy-page-2 : tie.Need-cast-copy-page-2
-cast-copy-page-2 c = search needs
+place-requires : tie.Need-place-requires
+place-requires c κs = search needs
 
-copy-page-requires : tie.Need-copy-page-requires
-copy-page-requires c κs = search needs
-
-cast-at : tie.Need-cast-at
-cast-at c = search needs
-
-mul-at : tie.Need-mul-at
-mul-at c = search needs
-
-mul-at-2 : tie.Need-mul-at-2
-mul-at-2 c = search needs
-
-add-at : tie.Need-add-at
-add-at c = search needs
+to-frame-requires : tie.Need-to-frame-requires
+to-frame-requires c κs = search needs
 
 word-requires : tie.Need-word-requires
 word-requires c κs = search needs
 
-put-word-requires : tie.Need-put-word-requires
-put-word-requires c κs = search needs
+renamed-requires : tie.Need-renamed-requires
+renamed-requires c κs = search needs
 
-cast-t17 : tie.Need-cast-t17
-cast-t17 c = search needs
+put-in-slot-requires : tie.Need-put-in-slot-requires
+put-in-slot-requires c κs = search needs
+
+cast-t18 : tie.Need-cast-t18
+cast-t18 c = search needs
 
 same-length : tie.Need-same-length
 same-length c = search needs
 
 returns : tie.Need-returns
 unfolding broughtIn
-returns c = (refl, word-put _ _ _ _ _ _ _ (c .before .before .before .before .before .before .before .before .copy-page .ensures .0) (c .before .before .before .word .ensures) (c .before .before .put-word .ensures))
+returns c =
+    let put = c .before .before in
+    let word = put .before .before in
+    let copied = word .before .before .before .before in
+    let read = copied .before .before .before in
+    let whole = rw (copied .before .place .ensures) at (copied .to-frame .ensures .0) in
+    (refl, renamed-put _ _ _ _ _ _ _ _ _ _ _ whole refl (read .slot-word .ensures) (word .before .word .ensures) (word .renamed .ensures) (put .put-in-slot .ensures))
 
 pub load-page-spec : {M : Type 1} → statement M
 load-page-spec =
     tie.close
     (tie.spec
-    cast-copy-page
-    cast-copy-page-2
-    copy-page-requires
-    cast-at
-    mul-at
-    mul-at-2
-    add-at
+    slot-word-requires
+    place-requires
+    to-frame-requires
     word-requires
-    put-word-requires
-    cast-t17
+    renamed-requires
+    put-in-slot-requires
+    cast-t18
     same-length
     returns)

@@ -23,14 +23,14 @@ abbrev μ-loop : tie.MeasureT-loop
 loop-holds : tie.Need-loop-holds Inv-loop μ-loop
 loop-holds c = (omega arith, marked-none _ _ _ (c .before .pre .2))
 
-mul-word-at : tie.Need-mul-word-at Inv-loop μ-loop
-mul-word-at c = search needs
+mul-name-at : tie.Need-mul-name-at Inv-loop μ-loop
+mul-name-at c = search needs
 
-add-word-at : tie.Need-add-word-at Inv-loop μ-loop
-add-word-at c = search needs
+add-name-at : tie.Need-add-name-at Inv-loop μ-loop
+add-name-at c = search needs
 
-word-at-requires : tie.Need-word-at-requires Inv-loop μ-loop
-word-at-requires c κs = search needs
+name-at-requires : tie.Need-name-at-requires Inv-loop μ-loop
+name-at-requires c κs = search needs
 
 cast-w : tie.Need-cast-w Inv-loop μ-loop
 cast-w c = search needs
@@ -39,7 +39,7 @@ cast-w c = search needs
 returns : tie.Need-returns Inv-loop μ-loop
 returns c =
     marked-false _ _ _ _ _ (omega arith) (c .before .before .before .before .loop .seen) _
-    (marked-large _ _ _ (c .before .before .before .before .loop .k) _ (sym (c .before .before .word-at .ensures)) (c .before .if1 .taken) (c .if2 .taken) _)
+    (marked-large _ _ _ (c .before .before .before .before .loop .k) _ (sym (c .before .before .name-at .ensures)) (c .before .if1 .taken) (c .if2 .taken) _)
 
 note-requires : tie.Need-note-requires Inv-loop μ-loop
 note-requires c κs = search needs
@@ -49,7 +49,7 @@ returns-2 : tie.Need-returns-2 Inv-loop μ-loop
 returns-2 c =
     let l = c .before .before .before .before .before .before .before .loop in
     marked-false _ _ _ _ _ (omega arith) _ _
-    (marked-more _ _ _ _ (omega arith) _ _ (sym (c .before .before .before .before .before .word-at .ensures)) (λ n. omega arith) _ _ (c .before .note .ensures) _ _ (and-yes refl (sym (not-true _ (c .if3 .taken)))) (l .inv .1))
+    (marked-more _ _ _ _ (omega arith) _ _ (sym (c .before .before .before .before .before .name-at .ensures)) (λ n. omega arith) _ _ (c .before .note .ensures) _ _ (and-yes refl (sym (not-true _ (c .if3 .taken)))) (l .inv .1))
 
 add-k : tie.Need-add-k Inv-loop μ-loop
 add-k c = search needs
@@ -60,7 +60,7 @@ loop-less c = search needs
 loop-again : tie.Need-loop-again Inv-loop μ-loop
 loop-again c =
     let l = c .before .before .before .loop in
-    let e = c .before .word-at .ensures in (
+    let e = c .before .name-at .ensures in (
       omega arith,
       ⊎-elim
           (λ a. rw (a .5) (marked-more _ _ _ _ (omega arith) _ _ (sym e) (λ n. omega (arith, a .1 .left)) _ _ (a .3 .ensures) _ _ (and-yes refl (sym (not-false _ (a .4 .left)))) (l .inv .1)))
@@ -78,9 +78,9 @@ mark-page-spec =
     Inv-loop
     μ-loop
     loop-holds
-    mul-word-at
-    add-word-at
-    word-at-requires
+    mul-name-at
+    add-name-at
+    name-at-requires
     cast-w
     returns
     note-requires

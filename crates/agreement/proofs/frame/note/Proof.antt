@@ -24,11 +24,8 @@ returns c = record {
   notes = λ row i h t k. absurd (fails (c .before .is-fitting .result) _ (c .before .is-fitting .ensures) (not-true _ (c .if1 .taken)) k);
 }
 
-from-u8-requires : tie.Need-from-u8-requires
-from-u8-requires c κs = search needs
-
-mul-start : tie.Need-mul-start
-mul-start c = search needs
+start-requires : tie.Need-start-requires
+start-requires c κs = search needs
 
 note-numbers-requires : tie.Need-note-numbers-requires
 note-numbers-requires c κs =
@@ -36,11 +33,11 @@ note-numbers-requires c κs =
     let S = c .before .before .before .before .before .before .pre .0 in
     let b : c .before .before .before .before .before .before .args .rec .page .0 < c .before .before .before .before .before .before .args .pages = page-below _ _ _ _ _ _ (S .some) k (c .before .before .if2 .taken) in
     let f = c .before .before .before .before .before .before .pre .1 in
-    (omega arith, S .pages, omega (arith, S .size, c .before .from-u8 .ensures), c .before .before .before .before .before .before .pre .2)
+    (omega arith, S .pages, omega (arith, S .size, c .before .start .ensures), c .before .before .before .before .before .before .pre .2)
 
 returns-2 : tie.Need-returns-2
 returns-2 c =
-    let N = rw (c .before .before .from-u8 .ensures) at (c .note-numbers .ensures) in
+    let N = rw (c .before .before .start .ensures) at (c .note-numbers .ensures) in
     record {
       few = N .few;
       fits = λ e. holds (c .before .before .before .before .before .is-fitting .result) (Fits (c .before .before .before .before .before .before .before .args .frames .now) (c .before .before .before .before .before .before .before .args .count) (c .before .before .before .before .before .before .before .args .pages) (c .before .before .before .before .before .before .before .args .frame .0) (c .before .before .before .before .before .before .before .args .rec) (c .before .before .before .before .before .before .before .args .above)) (c .before .before .before .before .before .is-fitting .ensures) (not-false _ (c .before .before .before .before .if1 .left));
@@ -64,8 +61,7 @@ note-spec =
     (tie.spec
     is-fitting-requires
     returns
-    from-u8-requires
-    mul-start
+    start-requires
     note-numbers-requires
     returns-2
     returns-3)

@@ -82,11 +82,11 @@ returns-3 c =
     let l : a .pool .pages ≤ a .page .0 = omega (arith, stored (c .before .before .before .before), c .if3 .taken) in
     passed (c .before .before .before .before) (sym (broken-here 6 _ (past-pages _ _ (c .before .before .if2 .left) l)))
 
-slot-word-requires : tie.Need-slot-word-requires
-slot-word-requires c κs = let k = kept (c .before .before .before .before) in (omega arith, k .slot)
+slot-name-requires : tie.Need-slot-name-requires
+slot-name-requires c κs = let k = kept (c .before .before .before .before) in (omega arith, k .slot)
 
 returns-4 : tie.Need-returns-4
-returns-4 c = passed (c .before .before .before .before .before .before) (sym (kept-then 6 _ (numbered (c .before .before)) ∙ broken-here 8 _ (ne-eqb _ 0 (λ z. c .if4 .taken (c .before .slot-word .ensures ∙ z)))))
+returns-4 c = passed (c .before .before .before .before .before .before) (sym (kept-then 6 _ (numbered (c .before .before)) ∙ broken-here 8 _ (ne-eqb _ 0 (λ z. c .if4 .taken (c .before .slot-name .ensures ∙ z)))))
 
 is-named-requires : tie.Need-is-named-requires
 is-named-requires c κs =
@@ -98,12 +98,12 @@ is-named-requires c κs =
 returns-5 : tie.Need-returns-5
 returns-5 c =
     passed (c .before .before .before .before .before .before .before .before .before .before)
-    (sym (kept-then 6 _ (numbered (c .before .before .before .before .before .before)) ∙ kept-then 8 _ (eq-eqb _ 0 (sym (c .before .before .before .before .before .slot-word .ensures) ∙ c .before .before .before .before .if4 .left)) ∙ broken-here 9 [] (ap not (sym (c .before .is-named .ensures ∙ told (c .before .before .before .before .before .before) (c .before .before .before .before .before .before .before .before .before .before .before .slot-refusal .ensures .1 (c .before .before .before .before .before .before .before .before .before .before .if1 .left))) ∙ c .if5 .taken))))
+    (sym (kept-then 6 _ (numbered (c .before .before .before .before .before .before)) ∙ kept-then 8 _ (eq-eqb _ 0 (sym (c .before .before .before .before .before .slot-name .ensures) ∙ c .before .before .before .before .if4 .left)) ∙ broken-here 9 [] (ap not (sym (c .before .is-named .ensures ∙ told (c .before .before .before .before .before .before) (c .before .before .before .before .before .before .before .before .before .before .before .slot-refusal .ensures .1 (c .before .before .before .before .before .before .before .before .before .before .if1 .left))) ∙ c .if5 .taken))))
 
 returns-6 : tie.Need-returns-6
 returns-6 c =
     passed (c .before .before .before .before .before .before .before .before .before .before)
-    (sym (kept-then 6 _ (numbered (c .before .before .before .before .before .before)) ∙ kept-then 8 _ (eq-eqb _ 0 (sym (c .before .before .before .before .before .slot-word .ensures) ∙ c .before .before .before .before .if4 .left)) ∙ kept-then 9 [] (ap not (sym (c .before .is-named .ensures ∙ told (c .before .before .before .before .before .before) (c .before .before .before .before .before .before .before .before .before .before .before .slot-refusal .ensures .1 (c .before .before .before .before .before .before .before .before .before .before .if1 .left))) ∙ c .if5 .left)) ∙ none-broken))
+    (sym (kept-then 6 _ (numbered (c .before .before .before .before .before .before)) ∙ kept-then 8 _ (eq-eqb _ 0 (sym (c .before .before .before .before .before .slot-name .ensures) ∙ c .before .before .before .before .if4 .left)) ∙ kept-then 9 [] (ap not (sym (c .before .is-named .ensures ∙ told (c .before .before .before .before .before .before) (c .before .before .before .before .before .before .before .before .before .before .before .slot-refusal .ensures .1 (c .before .before .before .before .before .before .before .before .before .before .if1 .left))) ∙ c .if5 .left)) ∙ none-broken))
 
 pub link-refusal-spec : {M : Type 1} → statement M
 link-refusal-spec =
@@ -114,7 +114,7 @@ link-refusal-spec =
     returns-2
     cast-if3
     returns-3
-    slot-word-requires
+    slot-name-requires
     returns-4
     is-named-requires
     returns-5

@@ -36,11 +36,11 @@ slot-refusal-requires c κs = search needs
 returns : tie.Need-returns
 returns c = slot-stops (given (c .before .before .before .before .before .before)) (c .before .before .before .before .before .before .args .handle) (c .before .before .before .before .before .before .args .slot) (rest (c .before .before .before .before .before .before)) (c .before .slot-refusal .ensures .0) (c .if1 .taken)
 
-slot-word-requires : tie.Need-slot-word-requires
-slot-word-requires c κs = let k = kept c in (omega arith, k .slot)
+slot-name-requires : tie.Need-slot-name-requires
+slot-name-requires c κs = let k = kept c in (omega arith, k .slot)
 
 returns-2 : tie.Need-returns-2
-returns-2 c = passed (c .before .before) (sym (broken-here 7 _ (ap not (eq-eqb _ 0 (sym (c .before .slot-word .ensures) ∙ c .if2 .taken)))))
+returns-2 c = passed (c .before .before) (sym (broken-here 7 _ (ap not (eq-eqb _ 0 (sym (c .before .slot-name .ensures) ∙ c .if2 .taken)))))
 
 is-number-requires : tie.Need-is-number-requires
 is-number-requires c κs = search needs
@@ -48,12 +48,12 @@ is-number-requires c κs = search needs
 returns-3 : tie.Need-returns-3
 returns-3 c =
     passed (c .before .before .before .before)
-    (sym (kept-then 7 _ (ap not (ne-eqb _ 0 (λ z. c .before .before .if2 .left (c .before .before .before .slot-word .ensures ∙ z)))) ∙ broken-here 10 [] (call-no (c .before .is-number .ensures ∙ ap isNumber (c .before .before .before .slot-word .ensures)) (c .if3 .taken))))
+    (sym (kept-then 7 _ (ap not (ne-eqb _ 0 (λ z. c .before .before .if2 .left (c .before .before .before .slot-name .ensures ∙ z)))) ∙ broken-here 10 [] (call-no (c .before .is-number .ensures ∙ ap isNumber (c .before .before .before .slot-name .ensures)) (c .if3 .taken))))
 
 returns-4 : tie.Need-returns-4
 returns-4 c =
     passed (c .before .before .before .before)
-    (sym (kept-then 7 _ (ap not (ne-eqb _ 0 (λ z. c .before .before .if2 .left (c .before .before .before .slot-word .ensures ∙ z)))) ∙ kept-then 10 [] (call-yes (c .before .is-number .ensures ∙ ap isNumber (c .before .before .before .slot-word .ensures)) (c .if3 .left)) ∙ none-broken))
+    (sym (kept-then 7 _ (ap not (ne-eqb _ 0 (λ z. c .before .before .if2 .left (c .before .before .before .slot-name .ensures ∙ z)))) ∙ kept-then 10 [] (call-yes (c .before .is-number .ensures ∙ ap isNumber (c .before .before .before .slot-name .ensures)) (c .if3 .left)) ∙ none-broken))
 
 pub unlink-refusal-spec : {M : Type 1} → statement M
 unlink-refusal-spec =
@@ -61,7 +61,7 @@ unlink-refusal-spec =
     (tie.spec
     slot-refusal-requires
     returns
-    slot-word-requires
+    slot-name-requires
     returns-2
     is-number-requires
     returns-3

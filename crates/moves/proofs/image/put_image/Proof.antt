@@ -6,9 +6,9 @@ use mathlib.Core.List.{List}
 use native.Mathlib.Omega.{arith}
 use native.Mathlib.Numerals.{add-one}
 use lib.ListN.{length}
-use Rattle.page.specs.Figures.{pageSize, slotCount, wordSize, mostFrames, swizzleBit}
-use Rattle.page.specs.Word.{wordAt, putWord, putWord-length, isNumber, frameIn}
-use Rattle.page.specs.Page.{slot, slot-first, putSlot-first}
+use Rattle.page.specs.Figures.{pageSize, slotCount, wordSize, mostFrames}
+use Rattle.page.specs.Word.{wordAt, nameOf, renamed, putWord, putWord-length, isNumber, frameIn, frameWord}
+use Rattle.page.specs.Page.{slot, name, slot-first, putSlot-first}
 use Rattle.machine.specs.Tests.{pick}
 use Rattle.machine.specs.Moves.{plain, imageTo}
 use Rattle.machine.specs.Laws.MoveLaws.{image-suc, image-zero}
@@ -23,15 +23,18 @@ Inv-loop dst₀ src residents k₀ dst k = (k ≤ slotCount) × (length dst ≡ 
 abbrev μ-loop : tie.MeasureT-loop
 μ-loop dst₀ src residents k₀ dst k = slotCount - k
 
--- one word more
-step : (page : ℕ → ℕ) (g d e : List ℕ) (k w j v : ℕ) → d ≡ imageTo page g k → w ≡ wordAt g (wordSize * k) → j ≡ frameIn w → v ≡ pick (isNumber w) w (page j) → e ≡ putWord d (wordSize * k) v
-    → e ≡ imageTo page g (k + 1)
+-- one word more: its old word, what that names, the number that it stands for, and the word put
+step : (page : ℕ → ℕ) (g d e : List ℕ) (k o n j v w : ℕ) → d ≡ imageTo page g k → o ≡ wordAt g (wordSize * k) → n ≡ nameOf o → j ≡ frameIn n → v ≡ pick (isNumber n) n (page j) → w ≡ renamed o v
+    → e ≡ putWord d (wordSize * k) w → e ≡ imageTo page g (k + 1)
 unfolding plain
-step page g d e k w j v hd hw hj hv he = rw (he, hv, hj, hw, hd, add-one k, image-suc page g k, slot-first g k, putSlot-first (imageTo page g k) k)
+step page g d e k o n j v w hd ho hn hj hv hw he = rw (he, hw, hv, hj, hn, ho, hd, add-one k, image-suc page g k, slot-first g k, putSlot-first (imageTo page g k) k)
 
 -- the frame that a word names is one of 64
-named : (g : List ℕ) (k w j : ℕ) → k < slotCount → Named g 0 → w ≡ wordAt g (wordSize * k) → j ≡ frameIn w → j < mostFrames
-named g k w j l h hw hj = let b : slot g 0 k < swizzleBit + mostFrames = h k l in let e : slot g 0 k ≡ wordAt g (wordSize * k) = slot-first g k in omega arith
+named : (g : List ℕ) (k o n j : ℕ) → k < slotCount → Named g 0 → o ≡ wordAt g (wordSize * k) → n ≡ nameOf o → j ≡ frameIn n → j < mostFrames
+named g k o n j l h ho hn hj =
+    let b : name g 0 k < frameWord mostFrames = h k l in
+    let e : n ≡ name g 0 k = hn ∙ ap nameOf (ho ∙ sym (slot-first g k)) in
+    omega arith
 
 copy-into-requires : tie.Need-copy-into-requires Inv-loop μ-loop
 copy-into-requires c κs = omega arith
@@ -45,20 +48,27 @@ mul-word-at c = search needs
 word-at-requires : tie.Need-word-at-requires Inv-loop μ-loop
 word-at-requires c κs = omega arith
 
+name-of-requires : tie.Need-name-of-requires Inv-loop μ-loop
+name-of-requires c κs = search needs
+
 frame-in-requires : tie.Need-frame-in-requires Inv-loop μ-loop
 frame-in-requires c κs = search needs
 
-mul-t13 : tie.Need-mul-t13 Inv-loop μ-loop
-mul-t13 c = search needs
+mul-t14 : tie.Need-mul-t14 Inv-loop μ-loop
+mul-t14 c = search needs
 
-element-copy-out-t16 : tie.Need-element-copy-out-t16 Inv-loop μ-loop
-element-copy-out-t16 c = named _ _ _ _ (c .before .before .loop-test .taken) (c .before .before .before .before .before .before .before .before .before .before .pre .2) (c .before .word-at .ensures) (c .frame-in .ensures)
+element-copy-out-t17 : tie.Need-element-copy-out-t17 Inv-loop μ-loop
+element-copy-out-t17 c =
+    named _ _ _ _ _ (c .before .before .before .loop-test .taken) (c .before .before .before .before .before .before .before .before .before .before .before .pre .2) (c .before .before .word-at .ensures) (c .before .name-of .ensures) (c .frame-in .ensures)
 
-plain-word-requires : tie.Need-plain-word-requires Inv-loop μ-loop
-plain-word-requires c κs = search needs
+plain-name-requires : tie.Need-plain-name-requires Inv-loop μ-loop
+plain-name-requires c κs = search needs
 
 mul-put-word : tie.Need-mul-put-word Inv-loop μ-loop
 mul-put-word c = search needs
+
+renamed-requires : tie.Need-renamed-requires Inv-loop μ-loop
+renamed-requires c κs = search needs
 
 put-word-requires : tie.Need-put-word-requires Inv-loop μ-loop
 put-word-requires c κs = omega arith
@@ -71,9 +81,14 @@ loop-less c = search needs
 
 loop-again : tie.Need-loop-again Inv-loop μ-loop
 loop-again c =
-    let l = c .before .before .before .before .before .before .before .before .before in
     let put = c .before .before in
-    (omega arith, rw (put .put-word .ensures) (putWord-length _ _ _ ∙ l .loop .inv .1), step _ _ _ _ _ _ _ _ (l .loop .inv .2) (c .before .before .before .before .before .before .before .word-at .ensures) (c .before .before .before .before .before .before .frame-in .ensures) (c .before .before .before .before .plain-word .ensures) (put .put-word .ensures))
+    let number = put .before .before .before in
+    let read = number .before .before .before .before in
+    let l = read .before .before in (
+      omega arith,
+      rw (put .put-word .ensures) (putWord-length _ _ _ ∙ l .loop .inv .1),
+      step _ _ _ _ _ _ _ _ _ _ (l .loop .inv .2) (read .word-at .ensures) (number .before .before .before .name-of .ensures) (number .before .before .frame-in .ensures) (number .plain-name .ensures .0) (put .before .renamed .ensures) (put .put-word .ensures),
+    )
 
 same-length : tie.Need-same-length Inv-loop μ-loop
 same-length c = omega arith
@@ -91,11 +106,13 @@ put-image-spec =
     loop-holds
     mul-word-at
     word-at-requires
+    name-of-requires
     frame-in-requires
-    mul-t13
-    element-copy-out-t16
-    plain-word-requires
+    mul-t14
+    element-copy-out-t17
+    plain-name-requires
     mul-put-word
+    renamed-requires
     put-word-requires
     add-k
     loop-less

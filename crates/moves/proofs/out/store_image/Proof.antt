@@ -1,7 +1,9 @@
 -- `store_image` meets its contract: the part of the store that was lent comes back as the image, and a page without a swizzled word is its own. Assumes nothing.
-use borrow.Author.Needs.{needs}
-use mathlib.Core.Path.{sym, _∙_}
+use Prim.Native.Nat.{ℕ, _*_}
+use mathlib.Core.Path.{sym, ap, _∙_}
+use Rattle.page.specs.Figures.{pageSize}
 use Rattle.moves.specs.Steps.{part-named, image-back}
+use borrow.Author.Needs.{needs}
 use Rattle.moves.proofs.out.store_image.Statement.{statement}
 use Rattle.moves.proofs.out.store_image.Tie as tie
 
@@ -17,17 +19,14 @@ same-length c = search needs
 returns : tie.Need-returns
 returns c = c .before .before .store-bytes .ensures _
 
-cast-to : tie.Need-cast-to
-cast-to c = search needs
+place-requires : tie.Need-place-requires
+place-requires c κs = search needs
 
-mul-to : tie.Need-mul-to
-mul-to c = search needs
+start-requires : tie.Need-start-requires
+start-requires c κs = search needs
 
-cast-from : tie.Need-cast-from
-cast-from c = search needs
-
-mul-from : tie.Need-mul-from
-mul-from c = search needs
+start-requires-2 : tie.Need-start-requires-2
+start-requires-2 c κs = search needs
 
 add-put-image : tie.Need-add-put-image
 add-put-image c = search needs
@@ -54,13 +53,17 @@ part-put-image-end-2 : tie.Need-part-put-image-end-2
 part-put-image-end-2 c = search needs
 
 put-image-requires : tie.Need-put-image-requires
-put-image-requires c κs = (search needs, search needs, part-named _ _ (c .before .before .before .before .before .before .before .before .pre .1))
+put-image-requires c κs = (search needs, search needs, part-named _ _ _ (c .before .before .start2 .ensures) (c .before .before .before .before .before .before .before .before .before .pre .1))
 
 same-length-2 : tie.Need-same-length-2
 same-length-2 c = search needs
 
 returns-2 : tie.Need-returns-2
-returns-2 c = image-back _ _ _ _ _ _ (c .before .before .before .before .before .before .before .before .before .before .before .pre .0 .bytes) (c .before .before .put-image .ensures)
+returns-2 c =
+    let frame = c .before .before .before .before .before in
+    let place = frame .before .before in
+    let to = frame .before .start .ensures ∙ ap (λ (p : ℕ). pageSize * p) (place .place .ensures) in
+    image-back _ _ _ _ _ _ _ _ (frame .start2 .ensures) to (place .before .before .before .before .before .pre .0 .bytes) (c .before .before .put-image .ensures)
 
 pub store-image-spec : {M : Type 1} → statement M
 store-image-spec =
@@ -70,10 +73,9 @@ store-image-spec =
     store-bytes-requires
     same-length
     returns
-    cast-to
-    mul-to
-    cast-from
-    mul-from
+    place-requires
+    start-requires
+    start-requires-2
     add-put-image
     sub-put-image
     part-put-image-start

@@ -3,38 +3,38 @@ use borrow.Author.Needs.{needs}
 use Rattle.page.proofs.word.word_at.Statement.{statement}
 use Rattle.page.proofs.word.word_at.Tie as tie
 
-shared-slice-read-wide : tie.Need-shared-slice-read-wide
-shared-slice-read-wide c = search needs
+shared-slice-read-digit : tie.Need-shared-slice-read-digit
+shared-slice-read-digit c = search needs
 
-wide-requires : tie.Need-wide-requires
-wide-requires c κs = search needs
+digit-requires : tie.Need-digit-requires
+digit-requires c κs = search needs
 
-add-wide : tie.Need-add-wide
-add-wide c = search needs
+add-digit : tie.Need-add-digit
+add-digit c = search needs
 
-shared-slice-read-wide-2 : tie.Need-shared-slice-read-wide-2
-shared-slice-read-wide-2 c = search needs
+shared-slice-read-digit-2 : tie.Need-shared-slice-read-digit-2
+shared-slice-read-digit-2 c = search needs
 
-wide-requires-2 : tie.Need-wide-requires-2
-wide-requires-2 c κs = search needs
+digit-requires-2 : tie.Need-digit-requires-2
+digit-requires-2 c κs = search needs
 
-add-wide-2 : tie.Need-add-wide-2
-add-wide-2 c = search needs
+add-digit-2 : tie.Need-add-digit-2
+add-digit-2 c = search needs
 
-shared-slice-read-wide-3 : tie.Need-shared-slice-read-wide-3
-shared-slice-read-wide-3 c = search needs
+shared-slice-read-digit-3 : tie.Need-shared-slice-read-digit-3
+shared-slice-read-digit-3 c = search needs
 
-wide-requires-3 : tie.Need-wide-requires-3
-wide-requires-3 c κs = search needs
+digit-requires-3 : tie.Need-digit-requires-3
+digit-requires-3 c κs = search needs
 
-add-wide-3 : tie.Need-add-wide-3
-add-wide-3 c = search needs
+add-digit-3 : tie.Need-add-digit-3
+add-digit-3 c = search needs
 
-shared-slice-read-wide-4 : tie.Need-shared-slice-read-wide-4
-shared-slice-read-wide-4 c = search needs
+shared-slice-read-digit-4 : tie.Need-shared-slice-read-digit-4
+shared-slice-read-digit-4 c = search needs
 
-wide-requires-4 : tie.Need-wide-requires-4
-wide-requires-4 c κs = search needs
+digit-requires-4 : tie.Need-digit-requires-4
+digit-requires-4 c κs = search needs
 
 mul-result : tie.Need-mul-result
 mul-result c = search needs
@@ -62,17 +62,17 @@ pub word-at-spec : {M : Type 1} → statement M
 word-at-spec =
     tie.close
     (tie.spec
-    shared-slice-read-wide
-    wide-requires
-    add-wide
-    shared-slice-read-wide-2
-    wide-requires-2
-    add-wide-2
-    shared-slice-read-wide-3
-    wide-requires-3
-    add-wide-3
-    shared-slice-read-wide-4
-    wide-requires-4
+    shared-slice-read-digit
+    digit-requires
+    add-digit
+    shared-slice-read-digit-2
+    digit-requires-2
+    add-digit-2
+    shared-slice-read-digit-3
+    digit-requires-3
+    add-digit-3
+    shared-slice-read-digit-4
+    digit-requires-4
     mul-result
     add-result
     mul-result-2

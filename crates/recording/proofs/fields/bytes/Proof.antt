@@ -8,11 +8,11 @@ use borrow.Author.Needs.{needs}
 use Rattle.recording.proofs.fields.bytes.Statement.{statement}
 use Rattle.recording.proofs.fields.bytes.Tie as tie
 
-element-copy-out-wide : tie.Need-element-copy-out-wide
-element-copy-out-wide c = search needs
+element-copy-out-from-u8 : tie.Need-element-copy-out-from-u8
+element-copy-out-from-u8 c = search needs
 
-wide-requires : tie.Need-wide-requires
-wide-requires c κs = search needs
+from-u8-requires : tie.Need-from-u8-requires
+from-u8-requires c κs = search needs
 
 add-end : tie.Need-add-end
 add-end c = search needs
@@ -29,7 +29,7 @@ part-result-end c = search needs
 returns : tie.Need-returns
 unfolding bytesFrom
 returns c =
-    let n = c .before .wide in
+    let n = c .before .from-u8 in
     let k : 7 + n .result - 7 ≡ lengthIn (c .before .before .before .before .args .entry .now) = omega (arith, n .ensures) in
     rw k
 
@@ -37,8 +37,8 @@ pub bytes-spec : {M : Type 1} → statement M
 bytes-spec =
     tie.close
     (tie.spec
-    element-copy-out-wide
-    wide-requires
+    element-copy-out-from-u8
+    from-u8-requires
     add-end
     sub-result
     part-result-start

@@ -38,8 +38,8 @@ same-length-2 c = search needs
 returns-2 : tie.Need-returns-2
 returns-2 c = open-unsound _ _ (call-yes (c .before .before .before .before .lengths-fit .ensures) (c .before .before .before .if1 .left)) (call-no (c .before .before .is-sound .ensures) (c .before .if2 .taken)) (c .blank-pool2 .ensures)
 
-copy-page-requires : tie.Need-copy-page-requires
-copy-page-requires c κs = let h = fits (c .before .before .before) in (omega arith, omega arith)
+to-frame-requires : tie.Need-to-frame-requires
+to-frame-requires c κs = let h = fits (c .before .before .before) in (omega arith, omega arith)
 
 cast-opened-pool : tie.Need-cast-opened-pool
 cast-opened-pool c = let h = fits (c .before .before .before .before .before .before) in omega arith
@@ -55,7 +55,7 @@ same-length-3 c = search needs
 
 returns-3 : tie.Need-returns-3
 returns-3 c =
-    open-done _ _ (call-yes (c .before .before .before .before .before .before .before .before .lengths-fit .ensures) (c .before .before .before .before .before .before .before .if1 .left)) (call-yes (c .before .before .before .before .before .before .is-sound .ensures) (c .before .before .before .before .before .if2 .left)) (c .opened-pool .ensures) (c .before .before .before .copy-page .ensures .0)
+    open-done _ _ (call-yes (c .before .before .before .before .before .before .before .before .lengths-fit .ensures) (c .before .before .before .before .before .before .before .if1 .left)) (call-yes (c .before .before .before .before .before .before .is-sound .ensures) (c .before .before .before .before .before .if2 .left)) (c .opened-pool .ensures) (c .before .before .before .to-frame .ensures .0)
 
 pub open-spec : {M : Type 1} → statement M
 open-spec =
@@ -69,7 +69,7 @@ open-spec =
     blank-pool-requires-2
     same-length-2
     returns-2
-    copy-page-requires
+    to-frame-requires
     cast-opened-pool
     cast-opened-pool-2
     opened-pool-requires

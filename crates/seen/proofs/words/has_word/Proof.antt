@@ -26,14 +26,14 @@ abbrev μ-loop : tie.MeasureT-loop
 loop-holds : tie.Need-loop-holds Inv-loop μ-loop
 loop-holds c = (omega arith, fold-none _ _)
 
-mul-word-at : tie.Need-mul-word-at Inv-loop μ-loop
-mul-word-at c = search needs
+mul-name-at : tie.Need-mul-name-at Inv-loop μ-loop
+mul-name-at c = search needs
 
-add-word-at : tie.Need-add-word-at Inv-loop μ-loop
-add-word-at c = search needs
+add-name-at : tie.Need-add-name-at Inv-loop μ-loop
+add-name-at c = search needs
 
-word-at-requires : tie.Need-word-at-requires Inv-loop μ-loop
-word-at-requires c κs = search needs
+name-at-requires : tie.Need-name-at-requires Inv-loop μ-loop
+name-at-requires c κs = search needs
 
 add-k : tie.Need-add-k Inv-loop μ-loop
 add-k c = search needs
@@ -44,7 +44,7 @@ loop-less c = search needs
 loop-again : tie.Need-loop-again Inv-loop μ-loop
 loop-again c =
     let l = c .before .before .before .loop in
-    let e = c .before .word-at .ensures in (
+    let e = c .before .name-at .ensures in (
       omega arith,
       fold-more _ _ _ (l .inv .1) (⊎-elim
           (λ a. flag-set (l .hit) (ap not (ne-eqb _ 0 (λ z. a .0 .taken (e ∙ z)))) (a .1))
@@ -61,4 +61,4 @@ returns c =
 pub has-word-spec : {M : Type 1} → statement M
 has-word-spec =
     tie.close
-    (tie.spec Inv-loop μ-loop loop-holds mul-word-at add-word-at word-at-requires add-k loop-less loop-again returns)
+    (tie.spec Inv-loop μ-loop loop-holds mul-name-at add-name-at name-at-requires add-k loop-less loop-again returns)
