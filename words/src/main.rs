@@ -2,7 +2,7 @@
 use std::fs;
 use std::io::{self, BufRead, Read, Write};
 use std::process::ExitCode;
-use words::record::records_of;
+use words::record::{records_of, SIZE};
 use words::replay::Replay;
 use words::rules::Table;
 use words::{line, listing, recording, refusal};
@@ -78,7 +78,16 @@ fn replay(table: Table, listing: &str, file: &str) -> Outcome {
         "-" => standard_input()?,
         _ => fs::read(file).map_err(|error| bad(format!("{file}: {error}")))?,
     };
-    let records = recording::read(&bytes).map_err(bad)?;
+    let records = match recording::text(&bytes) {
+        Some(text) => recording::parse(text).map_err(bad)?,
+        None => {
+            let rest = bytes.len() % SIZE;
+            if rest != 0 {
+                eprintln!("a part record of {rest} bytes at the end is left out");
+            }
+            records_of(&bytes)
+        }
+    };
     if recording::is_doubtful(&records) {
         eprintln!("this hardly is a recording: {}", recording::hint());
     }

@@ -1,6 +1,6 @@
 //! A recording, in words or as the listing's records.
 use crate::line::{self, FORMS};
-use crate::record::{call_of, records_of, Record, SIZE};
+use crate::record::{call_of, Record, SIZE};
 
 /// What a recording is, for a file that is none.
 pub fn hint() -> String {
@@ -11,12 +11,11 @@ pub fn hint() -> String {
     )
 }
 
-/// The records of a recording, which may be in words. The error names every line that is no call.
-pub fn read(bytes: &[u8]) -> Result<Vec<Record>, String> {
-    match std::str::from_utf8(bytes) {
-        Ok(text) if !text.contains(|sign: char| sign.is_control() && !sign.is_whitespace()) => parse(text),
-        _ => Ok(records_of(bytes)),
-    }
+/// The text of a recording in words; none for one of records, which has bytes that no text has.
+pub fn text(bytes: &[u8]) -> Option<&str> {
+    let text = std::str::from_utf8(bytes).ok()?;
+    let is_text = !text.contains(|sign: char| sign.is_control() && !sign.is_whitespace());
+    is_text.then_some(text)
 }
 
 /// The records of lines of words. The error names every line that is no call.

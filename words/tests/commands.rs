@@ -51,6 +51,7 @@ unfix 1 7
 unfix 2 7
 evict 7
 unlink 3 of 0 0
+fix 3 of 0 0
 settle
 record 0b000000000000000000000000000000
 ";
@@ -72,15 +73,16 @@ const TOLD: &str = "\
 14  unfix page 7 in frame 2: refused by rule 3: The handle's frame index isn't below F, that frame doesn't hold its page, or its pins are 0.
 15  evict page 7: done
 16  unlink slot 3 (page 7) of page 0 in frame 0: done
-17  settle: done
-18  record 0b000000000000000000000000000000: refused by rule 17: The listing program's record has a call outside 1 to 9 or a length above 9 (tested there before all others).
+17  fix slot 3 of page 0 in frame 0: refused by rule 7: Fix or unlink meets a word of 0.
+18  settle: done
+19  record 0b000000000000000000000000000000: refused by rule 17: The listing program's record has a call outside 1 to 9 or a length above 9 (tested there before all others).
 ";
 
 #[test]
 fn a_recording_is_told_from_words_and_from_records() {
     assert_eq!(words(&["replay", LISTING, "-"], CALLS.as_bytes()), (0, TOLD.to_string(), String::new()));
     let records = run(&["records"], CALLS.as_bytes(), Stdio::piped()).stdout;
-    assert_eq!(records.len(), 18 * 16);
+    assert_eq!(records.len(), 19 * 16);
     assert_eq!(words(&["replay", LISTING, "-"], &records).1, TOLD);
     let lines = words(&["lines"], &records).1;
     assert_eq!(words(&["replay", LISTING, "-"], lines.as_bytes()).1, TOLD);
@@ -112,6 +114,11 @@ fn a_hint_where_the_input_is_no_recording() {
         assert_eq!(status, 0);
         assert!(why.contains("a recording is"), "{why}");
     }
+    let mut cut = run(&["records"], b"root\nsettle\n", Stdio::piped()).stdout;
+    cut.truncate(21);
+    let told = "1  root: page 0 in frame 0\n".to_string();
+    let why = "a part record of 5 bytes at the end is left out\n".to_string();
+    assert_eq!(words(&["replay", LISTING, "-"], &cut), (0, told, why));
     assert_eq!(words(&["replay", LISTING, "no/such/file"], b"").0, 2);
 }
 
