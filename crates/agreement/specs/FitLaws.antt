@@ -17,7 +17,7 @@ use lib.Seq.{getD-set-same, getD-set-other}
 use lib.Bits.{bitOr, bitAnd, or-add-and, and-le-l, and-le-r, or-zero-l}
 use Rattle.page.specs.Figures.{slotCount, pageSize, wordSize, mostPages}
 use Rattle.page.specs.Word.{nameAt}
-use Rattle.page.specs.Page.{name, name-row}
+use Rattle.page.specs.Page.{slot, name, name-row}
 use Rattle.machine.specs.declared.FrameRecord.{FrameRecord}
 use Rattle.machine.specs.Tests.{_and_}
 use Rattle.machine.specs.Laws.TestLaws.{pick-yes, pick-no, both, and-true, and-yes, and-no, clash}
