@@ -1,130 +1,213 @@
-//! Cost against F and against N, as an SVG: the library's lines drawn through, the baseline's dashed, both axes logarithmic.
+//! Cost against F and against N, as an SVG of small panels: one for a call and what it meets, with a colour for each shape. Both
+//! axes are logarithmic, and the same in all panels of a kind: a distance upwards is a ratio.
 use crate::rows::{Figure, Grows};
 use crate::timing::Times;
+use pool_bench::shapes::Shape;
 use std::fmt::Write;
 
-const WIDTH: f64 = 1000.0;
-const HEIGHT: f64 = 560.0;
-const TOP: f64 = 50.0;
-const PLOT_WIDTH: f64 = 290.0;
-const PLOT_HEIGHT: f64 = 450.0;
+const COLUMNS: usize = 4;
+/// A panel with its margins, and the part that is drawn on.
+const CELL: (f64, f64) = (250.0, 205.0);
+const DRAWN: (f64, f64) = (174.0, 120.0);
+/// Where that part begins in its cell.
+const INSET: (f64, f64) = (62.0, 34.0);
+const HEAD: f64 = 66.0;
 
-const COLOURS: [&str; 13] = [
-    "#1f77b4", "#ff7f0e", "#2ca02c", "#d62728", "#9467bd", "#8c564b", "#e377c2", "#7f7f7f", "#bcbd22",
-    "#17becf", "#393b79", "#637939", "#843c39",
-];
-
-/// One of the two plots.
-struct Plot<'a> {
-    left: f64,
-    title: &'a str,
-    figures: Vec<&'a Figure>,
-    sizes: (f64, f64),
-    costs: (f64, f64),
+fn colour(shape: Shape) -> &'static str {
+    match shape {
+        Shape::Full => "#1f5fa8",
+        Shape::Leaves => "#2b8a3e",
+        Shape::Opened => "#d9700b",
+        Shape::Few => "#8e44ad",
+        Shape::Chain => "#c2255c",
+    }
 }
 
 pub fn svg(figures: &[Figure]) -> String {
-    let of = |grows| figures.iter().filter(|figure| figure.grows == grows).collect();
-    let frames = Plot::new(70.0, "ns a call against F (N = 256)", of(Grows::Frames));
-    let pages = Plot::new(580.0, "ns a call against N (F = 16)", of(Grows::Pages));
+    let scales = [Grows::Frames, Grows::Pages].map(|grows| Scale::new(grows, figures));
+    let (mut panels, mut cell) = (String::new(), 0);
+    for scale in &scales {
+        for label in scale.labels() {
+            let corner = (CELL.0 * (cell % COLUMNS) as f64, HEAD + CELL.1 * (cell / COLUMNS) as f64);
+            panels += &Panel { corner, label, scale }.drawn();
+            cell += 1;
+        }
+        cell = cell.next_multiple_of(COLUMNS);
+    }
+    let (width, height) = (CELL.0 * COLUMNS as f64, HEAD + CELL.1 * (cell / COLUMNS) as f64);
     format!(
-        "<svg xmlns=\"http://www.w3.org/2000/svg\" viewBox=\"0 0 {WIDTH} {HEIGHT}\" font-family=\"sans-serif\" \
-         font-size=\"12\">\n<rect width=\"100%\" height=\"100%\" fill=\"white\"/>\n{}{}\
-         <text x=\"70\" y=\"{}\">through: library; dashed: baseline</text>\n</svg>\n",
-        frames.drawn(),
-        pages.drawn(),
-        HEIGHT - 8.0
+        "<svg xmlns=\"http://www.w3.org/2000/svg\" viewBox=\"0 0 {width} {height}\" font-family=\"sans-serif\" \
+         font-size=\"11\">\n<rect width=\"100%\" height=\"100%\" fill=\"white\"/>\n{}{panels}</svg>\n",
+        legend()
     )
 }
 
-impl<'a> Plot<'a> {
-    fn new(left: f64, title: &'a str, figures: Vec<&'a Figure>) -> Plot<'a> {
-        let sizes = figures.iter().map(|figure| figure.size() as f64);
-        let costs = figures.iter().flat_map(|figure| [figure.times.library, figure.times.baseline]);
-        let (sizes, costs) = (range(sizes), range(costs));
-        Plot { left, title, figures, sizes, costs }
+/// What the colours and the lines stand for.
+fn legend() -> String {
+    let mut out = String::new();
+    for (place, shape) in Shape::ALL.into_iter().enumerate() {
+        let (x, name) = (62.0 + 130.0 * place as f64, shape.name());
+        let _ = writeln!(out, "<circle cx=\"{x}\" cy=\"20\" r=\"4\" fill=\"{}\"/>", colour(shape));
+        let _ = writeln!(out, "<text x=\"{}\" y=\"24\" font-size=\"12\">{name}</text>", x + 10.0);
     }
-
-    fn drawn(&self) -> String {
-        let mut out = self.frame();
-        let mut labels: Vec<&str> = self.figures.iter().map(|figure| figure.label).collect();
-        labels.dedup();
-        for (series, label) in labels.iter().enumerate() {
-            let points: Vec<_> = self.figures.iter().filter(|figure| figure.label == *label).collect();
-            let colour = COLOURS[series % COLOURS.len()];
-            out += &self.line(&points, colour, "", |times| times.library);
-            out += &self.line(&points, colour, " stroke-dasharray=\"4 3\"", |times| times.baseline);
-            out += &self.legend(series, label, colour);
-        }
-        out
+    for (x, name, dash) in [(62.0, "library", ""), (192.0, "baseline", DASH)] {
+        let _ = writeln!(out, "<path d=\"M{x} 42h34\" stroke=\"black\" stroke-width=\"1.5\"{dash}/>");
+        let _ = writeln!(out, "<text x=\"{}\" y=\"46\" font-size=\"12\">{name}</text>", x + 42.0);
     }
+    let sizes = "N = 256 where F grows, 16 with few pages; F = 16 where N grows";
+    let _ = writeln!(out, "<text x=\"322\" y=\"46\" font-size=\"12\" fill=\"#555\">{sizes}</text>");
+    out
+}
 
-    fn line(&self, points: &[&&Figure], colour: &str, dash: &str, cost: fn(&Times) -> f64) -> String {
-        let places = points.iter().fold(String::new(), |mut places, figure| {
-            let _ = write!(places, "{:.1},{:.1} ", self.x(figure.size() as f64), self.y(cost(&figure.times)));
-            places
-        });
-        format!(
-            "<polyline points=\"{places}\" fill=\"none\" stroke=\"{colour}\" stroke-width=\"1.5\"{dash}/>\n"
-        )
-    }
+const DASH: &str = " stroke-dasharray=\"3 2.5\"";
 
-    /// The axes with their marks: each size, and 1, 2 and 5 times each power of ten among the costs.
-    fn frame(&self) -> String {
-        let (left, right, bottom) = (self.left, self.left + PLOT_WIDTH, TOP + PLOT_HEIGHT);
-        let mut out = format!(
-            "<text x=\"{left}\" y=\"{}\" font-size=\"14\">{}</text>\n\
-             <path d=\"M{left} {TOP}V{bottom}H{right}\" fill=\"none\" stroke=\"black\"/>\n",
-            TOP - 20.0,
-            self.title
-        );
-        let mut sizes: Vec<usize> = self.figures.iter().map(|figure| figure.size()).collect();
+/// The axes that panels of a kind share, and what is drawn on them.
+struct Scale<'a> {
+    grows: Grows,
+    figures: Vec<&'a Figure>,
+    sizes: Vec<usize>,
+    costs: (f64, f64),
+}
+
+impl<'a> Scale<'a> {
+    fn new(grows: Grows, figures: &'a [Figure]) -> Scale<'a> {
+        let figures: Vec<&Figure> = figures.iter().filter(|figure| figure.grows == grows).collect();
+        let mut sizes: Vec<usize> = figures.iter().map(|figure| figure.size()).collect();
         sizes.sort_unstable();
         sizes.dedup();
-        for size in sizes {
-            let x = self.x(size as f64);
-            let _ = writeln!(
-                out,
-                "<text x=\"{x:.1}\" y=\"{}\" text-anchor=\"middle\">{size}</text>",
-                bottom + 16.0
-            );
+        let costs = figures.iter().flat_map(|figure| [figure.times.library, figure.times.baseline]);
+        let (least, most) =
+            costs.fold((f64::MAX, 1.0), |(least, most), cost| (cost.min(least), cost.max(most)));
+        Scale { grows, figures, sizes, costs: (least.max(1.0) * 0.85, most * 1.15) }
+    }
+
+    /// The calls with what they meet, in the order of rows.
+    fn labels(&self) -> Vec<&'static str> {
+        let mut labels = Vec::new();
+        for figure in &self.figures {
+            if !labels.contains(&figure.label) {
+                labels.push(figure.label);
+            }
         }
-        let marks = (1..7).flat_map(|power| [1.0, 2.0, 5.0].map(|digit| digit * 10f64.powi(power)));
-        for cost in marks.filter(|cost| (self.costs.0..=self.costs.1).contains(cost)) {
-            let y = self.y(cost);
-            let _ = writeln!(out, "<path d=\"M{left} {y:.1}H{right}\" stroke=\"#ddd\"/>");
-            let _ = writeln!(
-                out,
-                "<text x=\"{}\" y=\"{:.1}\" text-anchor=\"end\">{cost}</text>",
-                left - 6.0,
-                y + 4.0
-            );
+        labels
+    }
+
+    fn size_axis(&self) -> &'static str {
+        match self.grows {
+            Grows::Frames => "F, frames",
+            Grows::Pages => "N, pages",
         }
-        out
     }
 
-    fn legend(&self, series: usize, label: &str, colour: &str) -> String {
-        let (x, y) = (self.left + PLOT_WIDTH + 14.0, TOP + 12.0 + 17.0 * series as f64);
-        format!("<text x=\"{x}\" y=\"{y}\" fill=\"{colour}\">{label}</text>\n")
-    }
-
-    fn x(&self, size: f64) -> f64 {
-        self.left + PLOT_WIDTH * share(self.sizes, size)
-    }
-
-    fn y(&self, cost: f64) -> f64 {
-        TOP + PLOT_HEIGHT * (1.0 - share(self.costs, cost))
+    /// Costs that are marked: 1, 2 and 5 times each power of ten, or only the powers where that is too many.
+    fn marks(&self) -> Vec<f64> {
+        let digits: &[f64] = if self.costs.1 / self.costs.0 < 100.0 { &[1.0, 2.0, 5.0] } else { &[1.0] };
+        let marks = (0..7).flat_map(|power| digits.iter().map(move |digit| digit * 10f64.powi(power)));
+        marks.filter(|cost| (self.costs.0..=self.costs.1).contains(cost)).collect()
     }
 }
 
-/// The least and the largest value, with some room about them.
-fn range(values: impl Iterator<Item = f64>) -> (f64, f64) {
-    let (least, most) =
-        values.fold((f64::MAX, 1.0), |(least, most), value| (value.min(least), value.max(most)));
-    (least.max(1.0) * 0.8, most * 1.25)
+struct Panel<'a> {
+    corner: (f64, f64),
+    label: &'static str,
+    scale: &'a Scale<'a>,
+}
+
+impl Panel<'_> {
+    fn drawn(&self) -> String {
+        let mut out = self.axes();
+        for shape in Shape::ALL {
+            let figures = self.scale.figures.iter().copied();
+            let of_shape = figures.filter(|figure| figure.label == self.label && figure.shape == shape);
+            let of_shape: Vec<&Figure> = of_shape.collect();
+            out += &self.line(&of_shape, DASH, |times| times.baseline);
+            out += &self.line(&of_shape, "", |times| times.library);
+        }
+        out
+    }
+
+    fn line(&self, figures: &[&Figure], dash: &str, cost: fn(&Times) -> f64) -> String {
+        let Some(first) = figures.first() else { return String::new() };
+        let (colour, mut path, mut dots) = (colour(first.shape), String::new(), String::new());
+        for figure in figures {
+            let (x, y) = (self.x(figure.size()), self.y(cost(&figure.times)));
+            let _ = write!(path, "{x:.1},{y:.1} ");
+            let fill = if dash.is_empty() { colour } else { "white" };
+            let _ = writeln!(
+                dots,
+                "<circle cx=\"{x:.1}\" cy=\"{y:.1}\" r=\"2.2\" fill=\"{fill}\" stroke=\"{colour}\"/>"
+            );
+        }
+        format!(
+            "<polyline points=\"{path}\" fill=\"none\" stroke=\"{colour}\" stroke-width=\"1.4\"{dash}/>\n{dots}"
+        )
+    }
+
+    /// The title, and the axes with their names and marks.
+    fn axes(&self) -> String {
+        let (left, top) = (self.corner.0 + INSET.0, self.corner.1 + INSET.1);
+        let (right, bottom) = (left + DRAWN.0, top + DRAWN.1);
+        let mut out = format!(
+            "<text x=\"{left}\" y=\"{}\" font-size=\"12.5\" font-weight=\"bold\">{}</text>\n",
+            top - 10.0,
+            self.label
+        );
+        for cost in self.scale.marks() {
+            let y = self.y(cost);
+            let _ = writeln!(out, "<path d=\"M{left} {y:.1}H{right}\" stroke=\"#e3e3e3\"/>");
+            let _ = writeln!(
+                out,
+                "<text x=\"{}\" y=\"{:.1}\" text-anchor=\"end\">{}</text>",
+                left - 6.0,
+                y + 4.0,
+                grouped(cost)
+            );
+        }
+        for size in &self.scale.sizes {
+            let x = self.x(*size);
+            let _ = writeln!(out, "<path d=\"M{x:.1} {bottom}v4\" stroke=\"black\"/>");
+            let _ = writeln!(
+                out,
+                "<text x=\"{x:.1}\" y=\"{}\" text-anchor=\"middle\">{}</text>",
+                bottom + 16.0,
+                grouped(*size as f64)
+            );
+        }
+        let _ = writeln!(out, "<path d=\"M{left} {top}V{bottom}H{right}\" fill=\"none\" stroke=\"black\"/>");
+        let (middle, below) = ((left + right) / 2.0, bottom + 31.0);
+        let _ = writeln!(
+            out,
+            "<text x=\"{middle}\" y=\"{below}\" text-anchor=\"middle\" fill=\"#555\">{}</text>",
+            self.scale.size_axis()
+        );
+        let (x, y) = (self.corner.0 + 16.0, (top + bottom) / 2.0);
+        let _ = writeln!(
+            out,
+            "<text x=\"{x}\" y=\"{y}\" text-anchor=\"middle\" fill=\"#555\" transform=\"rotate(-90 {x} {y})\">ns a call</text>"
+        );
+        out
+    }
+
+    fn x(&self, size: usize) -> f64 {
+        let (least, most) = (self.scale.sizes[0] as f64, self.scale.sizes[self.scale.sizes.len() - 1] as f64);
+        // Some room on both sides, so that no point lies on the axis.
+        self.corner.0 + INSET.0 + DRAWN.0 * (0.06 + 0.88 * share((least, most), size as f64))
+    }
+
+    fn y(&self, cost: f64) -> f64 {
+        self.corner.1 + INSET.1 + DRAWN.1 * (1.0 - share(self.scale.costs, cost))
+    }
 }
 
 /// How far a value lies along a logarithmic range.
 fn share((least, most): (f64, f64), value: f64) -> f64 {
     (value.max(least) / least).ln() / (most / least).ln()
+}
+
+/// A whole number with its thousands apart.
+fn grouped(number: f64) -> String {
+    match number as u64 {
+        number if number < 1000 => number.to_string(),
+        number => format!("{},{:03}", number / 1000, number % 1000),
+    }
 }
