@@ -49,9 +49,9 @@ pub record Marked (m : ℕ) (w : ℕ → ℕ) (N : ℕ) (before after : Seen) (r
   pub answer : r ≡ every m (fresh (noted before) w N)
   pub tells : r ≡ true → Tells after (λ x. noted before x or among w m x)
 
--- the numbers in an array as a row, and that they may be noted
+-- the numbers in an array as a row, and that each is a page's
 abbrev pub rowOf : List ℕ → ℕ → ℕ
 rowOf numbers k = getD numbers k 0
 
-abbrev pub Numbers : List ℕ → Type 0
-Numbers numbers = (k : ℕ) → k < slotCount → rowOf numbers k < mostPages
+abbrev pub PageNumbers : List ℕ → Type 0
+PageNumbers numbers = (k : ℕ) → k < slotCount → rowOf numbers k < mostPages

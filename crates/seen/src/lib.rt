@@ -8,7 +8,7 @@ ghost use Prim.Native.Nat.{_+_, _≤_, _<_};
 ghost use lib.ListN.{length};
 ghost use Rattle.page.specs.Figures.{payloadStart, slotCount, mostPages};
 ghost use Rattle.page.specs.Page.{wordsFrom};
-ghost use Rattle.seen.specs.Seen.{noted, Table, Notes, rowOf, Numbers, Marked};
+ghost use Rattle.seen.specs.Seen.{noted, Table, Notes, rowOf, PageNumbers, Marked};
 
 pub type Seen = [bool; PageNumber::MOST];
 
@@ -57,7 +57,7 @@ pub fn mark_page(buffer: &[u8], at: usize, limit: usize, seen: &mut Seen) -> boo
 
 // Notes 16 numbers: were they all new. No number is branched on.
 pub fn mark_numbers(numbers: &[u32; PageNumber::SLOTS], seen: &mut Seen) -> bool
-    requires { ⌜ Numbers (now numbers) × Table (now seen) ⌝ }
+    requires { ⌜ PageNumbers (now numbers) × Table (now seen) ⌝ }
     ensures { λ r. ⌜ Marked slotCount (rowOf (now (numbers .entry))) mostPages (now (seen .entry)) (now (seen .exit)) r ⌝ }
 {
     let mut fresh = true;
