@@ -10,6 +10,7 @@ pub mod WriteOut
 pub mod RecordChange
 pub mod SlotChange
 pub mod Holders
+pub mod Reads
 pub mod Fit
 pub mod KeepsRecords
 pub mod KeepsWrite

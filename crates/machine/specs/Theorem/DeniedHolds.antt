@@ -29,7 +29,8 @@ use Rattle.machine.specs.Theorem.InvariantReads.{agreed, unbroken}
 use Rattle.machine.specs.Theorem.CallCases.{AtName, name-rules}
 use Rattle.machine.specs.Theorem.FixCases.{nameRules, loadRules, miss-accepted, number-outcome, stays-away, loads, swizzled-outcome}
 use Rattle.machine.specs.Theorem.Residence.{in-frame, resident, holder, not-resident, pinned-holder, pinned-of}
-use Rattle.machine.specs.Theorem.PointHolds.{number, swizzledTo, meets, plain-word, swizzled-word}
+use Rattle.machine.specs.Theorem.PointHolds.{number, swizzledTo, meets, swizzled-word}
+use Rattle.machine.specs.Theorem.Reads.{held-word}
 
 module _ (x : Point) (I : Invariant x) where
   is-ready : Ready (x .now)
@@ -59,7 +60,7 @@ module _ (x : Point) (I : Invariant x) where
   no-room : Denied (x .now) → NoRoom x
   no-room D = record { full = λ f l. (view (x .now) .page f, in-frame x I _ f (record { at = record { lt = l; on = D .used f l }; page = refl })); closed = closed D }
 
-  not-open : (p f : ℕ) → Holder (view (x .now)) p f → Open (view (x .now)) f → Pinned x p ⊎ ((k c : ℕ) × Names x p k c × (c ≢ 0) × Resident x c) → ⊥
+  not-open : (p f : ℕ) → Holder (view (x .now)) p f → Open (x .now) f → Pinned x p ⊎ ((k c : ℕ) × Names x p k c × (c ≢ 0) × Resident x c) → ⊥
   not-open p f h O (inl t) =
       let a = pinned-holder x I p t in
       let e : a .0 ≡ f = I .shape .apart (a .0) f (a .1 .at) (h .at) (a .1 .page ∙ sym (h .page)) in
@@ -75,7 +76,7 @@ module _ (x : Point) (I : Invariant x) where
     shut = λ f l. is-off _ (λ t.
         let r = R .full f l in
         let h : Holder (view (x .now)) (r .0) f = holder x I (r .0) f (r .1) in
-        let O : Open (view (x .now)) f = open-of (x .now) f t in
+        let O : Open (x .now) f = open-of (x .now) f t in
         not-open (r .0) f h O (R .closed (r .0) (not-page-0 (r .0) f h (O .notRoot)) (f, r .1)));
   }
 
@@ -88,7 +89,7 @@ module _ (x : Point) (I : Invariant x) where
     unfolding numbered _and_
     asked t m A =
         let e : wordOf (x .now) h k ≡ name (x .map) (h .page .0) k =
-        sym (plain-low (view (x .now) .page) _ (number-yes _ t)) ∙ plain-word x I (h .page .0) (h .frame .0) k (handle-holder A) (A .inPage) in
+        sym (plain-low (view (x .now) .page) _ (number-yes _ t)) ∙ held-word x I (h .page .0) (h .frame .0) k (handle-holder A) (A .inPage) in
         record {
           absent = rw (← e) (not-resident x I (wordOf (x .now) h k) (stays-away x I h k t A));
           unbroken = rw (← e) (unbroken x I _ ∙ kept-part (nameRules (x .now) h k) _ refl m ∙ kept-then 14 [] (loads x I h k t A) ∙ none-broken);
