@@ -36,9 +36,9 @@ module _ (x : Point) (I : Invariant x) (g : ℕ) (og : Occupied (view (x .now)) 
   same-word =
       let P : Parent (view (x .now)) g = I .shape .parent g og (past-first (O .notRoot)) in
       elim (ℕ-discrete f (view (x .now) .up g)) [
-        | no a ↦ E .wordPage f k (of .lt) hk a
+        | no a ↦ E .wordPage f k (of .lt) hk fg a
         | yes a ↦ elim (ℕ-discrete k (view (x .now) .upSlot g)) [
-          | no b ↦ E .wordSlot f k (of .lt) hk b
+          | no b ↦ E .wordSlot f k (of .lt) hk fg b
           | yes b ↦ absurd (let w : view (x .now) .word f k ≡ frameWord g = rw (a, b) (P .names) in omega arith)
         ]
       ]
