@@ -10,7 +10,7 @@ use Rattle.page.specs.Word.{Number, Swizzled, number-yes, number-no}
 use Rattle.page.specs.Page.{name}
 use Rattle.machine.specs.declared.Handle.{Handle}
 use Rattle.machine.specs.Laws.TestLaws.{clash, case, on, off, and-true, every-true, false-every, pick-yes, pick-no}
-use Rattle.machine.specs.Machine.{State, recordAt, pageIn}
+use Rattle.machine.specs.Machine.{State, isUsed, recordAt, pageIn}
 use Rattle.machine.specs.Sweep.{childless, isOpen}
 use Rattle.machine.specs.Laws.SweepLaws.{open-where}
 use Rattle.machine.specs.Rules.{handleFits}
@@ -26,7 +26,7 @@ pub handled : (s : State) (h : Handle) → handleFits (s .pool) h ≡ true → H
 unfolding handleFits
 handled s h t =
     let a = and-true (ltb (h .frame .0) (s .pool .count)) _ t in
-    let b = and-true (recordAt (s .pool .records) (h .frame .0) .used) _ (a .1) in
+    let b = and-true (isUsed (recordAt (s .pool .records) (h .frame .0))) _ (a .1) in
     let c = and-true (eqb (recordAt (s .pool .records) (h .frame .0) .page .0) (h .page .0)) _ (b .1) in
     record { at = record { lt = ltb-true _ _ (a .0); on = b .0 }; page = eqb-true _ _ (c .0); pinned = ltb-true 0 _ (c .1) }
 
