@@ -23,8 +23,8 @@ use Rattle.machine.specs.Theorem.Outcomes.{Usual, granted-of, no-refusal
 use Rattle.machine.specs.Theorem.Holders.{Holder, place, held, unheld, found-absent}
 use Rattle.machine.specs.Theorem.CallCases.{handle-case, word-case, peek-case}
 use Rattle.machine.specs.Theorem.FixCases.{pins, fills, sweeps, refuses, fix-case}
-use Rattle.machine.specs.Theorem.Residence.{resident, holder, not-resident}
-use Rattle.machine.specs.Theorem.Reads.{held-word, held-byte, absent-byte}
+use Rattle.machine.specs.Theorem.Residence.{resident-of, holder, not-resident}
+use Rattle.machine.specs.Theorem.Reads.{held-word, held-byte, unheld-byte}
 
 -- two pages with equal payload bytes have one payload
 payload-same : (b c : List ℕ) (f p n m : ℕ) → length b ≡ pageSize * n → f < n → length c ≡ pageSize * m → p < m
@@ -49,7 +49,7 @@ module _ (x : Point) (I : Invariant x) where
       (λ i lo hi. held-byte x I p f i h lo hi)
 
   store-payload : (p : ℕ) → p < x .now .pool .pages → Absent (view (x .now)) p → payloadOf (x .now .store) p ≡ payloadOf (x .map) p
-  store-payload p l a = payload-same (x .now .store) (x .map) p p _ _ (I .sized .store) l (I .mapLength) l (λ i lo hi. absent-byte x I p i l a lo hi)
+  store-payload p l a = payload-same (x .now .store) (x .map) p p _ _ (I .sized .store) l (I .mapLength) l (λ i lo hi. unheld-byte x I p i l a lo hi)
 
   -- the part at the place that a call answers: the payload of the frame that holds page p, or the stored page's
   frame-part : (p f : ℕ) (fs st : ℕ × ℕ) → Holder (view (x .now)) p f → GivesPayload x (payload inFrames (payloadAt f) payloadSize) p fs st
@@ -58,7 +58,7 @@ module _ (x : Point) (I : Invariant x) where
     bytes = frame-payload p f h;
     ofFrame = λ g i. let k : Holder (view (x .now)) p g = holder x I p g i in
         ap (λ (j : ℕ). (fs .0, payloadAt j + fs .1)) (I .shape .apart f g (h .at) (k .at) (h .page ∙ sym (k .page)));
-    ofStore = λ n. absurd (n (resident x I p f h));
+    ofStore = λ n. absurd (n (resident-of x I p f h));
     number = refl;
   }
 

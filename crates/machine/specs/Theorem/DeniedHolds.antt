@@ -21,14 +21,14 @@ use Rattle.machine.specs.Demand3.{Resident, Pinned, Names, NoRoom, LoadA
 use Rattle.machine.specs.Laws.PlainLaws.{plain-low}
 use Rattle.machine.specs.Theorem.View.{view, first-root, first-page, not-first}
 use Rattle.machine.specs.Theorem.Invariant.{Invariant}
-use Rattle.machine.specs.Laws.SweepLaws.{Denied, denied-of, of-denied}
+use Rattle.machine.specs.Laws.SweepLaws.{Denied, rule15-denied, of-denied}
 use Rattle.machine.specs.Theorem.Outcomes.{Outcome, kept, broken, lacks, lacking, kept-part, parts, first, second, broken-of}
 use Rattle.machine.specs.Theorem.Holders.{Holder}
 use Rattle.machine.specs.Theorem.TestReads.{Open, open-of, shut-of}
 use Rattle.machine.specs.Theorem.InvariantReads.{agreed, unbroken}
 use Rattle.machine.specs.Theorem.CallCases.{AtName, name-rules}
 use Rattle.machine.specs.Theorem.FixCases.{nameRules, loadRules, miss-accepted, number-outcome, stays-away, loads, swizzled-outcome}
-use Rattle.machine.specs.Theorem.Residence.{in-frame, resident, holder, not-resident, pinned-holder, pinned-of}
+use Rattle.machine.specs.Theorem.Residence.{in-frame, resident-of, holder, not-resident, pinned-holder, pinned-of}
 use Rattle.machine.specs.Theorem.PointHolds.{number, swizzledTo, meets, swizzled-word}
 use Rattle.machine.specs.Theorem.Reads.{held-word}
 
@@ -46,7 +46,7 @@ module _ (x : Point) (I : Invariant x) where
   has-child : (p f k : ℕ) → Holder (view (x .now)) p f → k < slotCount → Swizzled (name (x .now .frames) f k) → (j c : ℕ) × Names x p j c × (c ≢ 0) × Resident x c
   has-child p f k h hk l = elim (meets x I p f k h hk) [
     | number e m away ↦ absurd (omega arith)
-    | swizzledTo g e C H ↦ (k, name (x .map) p k, record { inPage = hk; word = refl }, not-page-0 _ g H (not-first (C .notRoot)), resident x I _ g H)
+    | swizzledTo g e C H ↦ (k, name (x .map) p k, record { inPage = hk; word = refl }, not-page-0 _ g H (not-first (C .notRoot)), resident-of x I _ g H)
   ]
 
   closed : Denied (x .now) → (p : ℕ) → p ≢ 0 → Resident x p → Pinned x p ⊎ ((k c : ℕ) × Names x p k c × (c ≢ 0) × Resident x c)
@@ -105,7 +105,7 @@ module _ (x : Point) (I : Invariant x) where
       | second m q ↦
           let A = name-rules (x .now) h k [] m .0 in
           let d = breaks-15 (sym (kept-then 14 (rule15 (x .now) ∷ []) (loads x I h k t A)) ∙ sym q ∙ b) in
-          (asked t m A, no-room (denied-of (x .now) is-ready d))
+          (asked t m A, no-room (rule15-denied (x .now) is-ready d))
     ]
 
     denied-then : fixCall (x .now) h k .answer ≡ refused 15 → LoadAsked x h k × NoRoom x
@@ -126,7 +126,7 @@ module _ (x : Point) (I : Invariant x) where
         let u = sym (unbroken x I (nameRules (x .now) h k ++ (rule14 (x .now) (name (x .map) (h .page .0) k) ∷ []))) ∙ L .unbroken in
         let A = name-rules (x .now) h k (rule14 (x .now) (name (x .map) (h .page .0) k) ∷ []) u .0 in
         elim (meets x I (h .page .0) (h .frame .0) k (handle-holder A) (A .inPage)) [
-          | swizzledTo g e C H ↦ absurd (L .absent (resident x I _ g H))
+          | swizzledTo g e C H ↦ absurd (L .absent (resident-of x I _ g H))
           | number e l away ↦
               let t = yes-number (wordOf (x .now) h k) l in
               let m = parts-kept (nameRules (x .now) h k) (rule14 (x .now) (name (x .map) (h .page .0) k) ∷ []) refl u .0 in
@@ -135,5 +135,5 @@ module _ (x : Point) (I : Invariant x) where
               (number-outcome x I h k t)
         ]
 
-    pub denied-exactly : (fixCall (x .now) h k .answer ≡ refused 15) ↔ (LoadAsked x h k × NoRoom x)
-    denied-exactly = (denied-then, λ p. denied-when (p .0) (p .1))
+    pub denied-15-exactly : (fixCall (x .now) h k .answer ≡ refused 15) ↔ (LoadAsked x h k × NoRoom x)
+    denied-15-exactly = (denied-then, λ p. denied-when (p .0) (p .1))

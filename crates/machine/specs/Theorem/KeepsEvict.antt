@@ -15,11 +15,11 @@ use Rattle.machine.specs.Moves.{plain, evicted}
 use Rattle.machine.specs.History.{Point}
 use Rattle.machine.specs.Theorem.View.{View, view, Occupied, Parent, first-root, first-page}
 use Rattle.machine.specs.Theorem.Invariant.{Invariant, mapOf}
-use Rattle.machine.specs.Theorem.Fit.{Fit, fit-of}
+use Rattle.machine.specs.Theorem.StateFit.{Fit, fit-of}
 use Rattle.machine.specs.Theorem.EvictEffect.{Evicted, evict-shape, evict-content}
 use Rattle.machine.specs.Theorem.PinsEffect.{pins-evicted}
 use Rattle.machine.specs.Laws.MoveLaws.{writtenOutBy-length}
-use Rattle.machine.specs.Theorem.WriteOut.{out-octets, out-wordStays, out-byteStays, out-word, out-byte, plain-lt, plain-some}
+use Rattle.machine.specs.Theorem.ImageOut.{out-octets, out-wordStays, out-byteStays, out-word, out-byte, plain-lt, plain-some}
 use Rattle.machine.specs.Theorem.SlotChange.{slot-putSlot-other}
 use Rattle.machine.specs.Theorem.RecordChange.{change-here, change-other, neat-blank, neat-change, lengths-kept}
 

@@ -19,7 +19,7 @@ use Rattle.machine.specs.Theorem.Invariant.{Invariant}
 use Rattle.machine.specs.Theorem.Holders.{Holder, occupied-of}
 use Rattle.machine.specs.Theorem.InvariantReads.{blank-record}
 use Rattle.machine.specs.Theorem.Reads.{held-word, held-byte, stored-number}
-use Rattle.machine.specs.Theorem.Residence.{in-frame, resident, holder, pinned-holder}
+use Rattle.machine.specs.Theorem.Residence.{in-frame, resident-of, holder, pinned-holder}
 
 -- a word of page p in frame f against the map's: a number, of no resident page, or swizzled to the frame of the page that the map's names
 pub data Meets (x : Point) (p f k : ℕ) : Type 0 where
@@ -48,7 +48,7 @@ module _ (x : Point) (I : Invariant x) where
   root-holder = record { at = first-root _ (I .shape); page = first-page _ (I .shape) }
 
   pub root-resident : Resident x 0
-  root-resident = resident x I 0 0 root-holder
+  root-resident = resident-of x I 0 0 root-holder
 
   -- the parent's word in the map
   parent-names : (f : ℕ) → Occupied (view (x .now)) f → (P : Parent (view (x .now)) f) → Names x (view (x .now) .page (view (x .now) .up f)) (view (x .now) .upSlot f) (view (x .now) .page f)
@@ -58,7 +58,7 @@ module _ (x : Point) (I : Invariant x) where
   }
 
   parent-resident : (f : ℕ) → Parent (view (x .now)) f → Resident x (view (x .now) .page (view (x .now) .up f))
-  parent-resident f P = resident x I _ (view (x .now) .up f) (record { at = P .occupied; page = refl })
+  parent-resident f P = resident-of x I _ (view (x .now) .up f) (record { at = P .occupied; page = refl })
 
   pub named-by : (p : ℕ) → p ≢ 0 → Resident x p → (q k : ℕ) × Resident x q × Names x q k p
   named-by p n r =
@@ -114,7 +114,7 @@ module _ (x : Point) (I : Invariant x) where
     | number e l away ↦ e ∙ m .word
     | swizzledTo j e C k ↦ absurd (n
         (λ z. not-first (C .notRoot) (I .shape .apart j 0 (k .at) (first-root _ (I .shape)) (k .page ∙ m .word ∙ z ∙ sym (first-page _ (I .shape)))))
-        (resident x I c j (record { at = k .at; page = k .page ∙ m .word })))
+        (resident-of x I c j (record { at = k .at; page = k .page ∙ m .word })))
   ]
 
   -- the whole words, put in the place of the map's

@@ -20,11 +20,11 @@ module _ (x : Point) (I : Invariant x) where
   held-byte p f i h from to = I .content .frameByte f i (h .at) from to ∙ ap (λ (q : ℕ). byte (x .map) q i) (h .page)
 
   -- ---- page p in no frame
-  pub absent-word : (p k : ℕ) → p < x .now .pool .pages → Absent (view (x .now)) p → k < slotCount → name (x .now .store) p k ≡ name (x .map) p k
-  absent-word p k n a l = I .content .absentWord p k n a l
+  pub unheld-word : (p k : ℕ) → p < x .now .pool .pages → Absent (view (x .now)) p → k < slotCount → name (x .now .store) p k ≡ name (x .map) p k
+  unheld-word p k n a l = I .content .absentWord p k n a l
 
-  pub absent-byte : (p i : ℕ) → p < x .now .pool .pages → Absent (view (x .now)) p → payloadStart ≤ i → i < pageSize → byte (x .now .store) p i ≡ byte (x .map) p i
-  absent-byte p i n a from to = I .content .absentByte p i n a from to
+  pub unheld-byte : (p i : ℕ) → p < x .now .pool .pages → Absent (view (x .now)) p → payloadStart ≤ i → i < pageSize → byte (x .now .store) p i ≡ byte (x .map) p i
+  unheld-byte p i n a from to = I .content .absentByte p i n a from to
 
   -- ---- any page
   pub stored-number : (p k : ℕ) → p < x .now .pool .pages → k < slotCount → Number (name (x .now .store) p k)

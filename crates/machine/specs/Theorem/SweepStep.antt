@@ -16,7 +16,7 @@ use Rattle.machine.specs.History.{Point, fixedIn}
 use Rattle.machine.specs.Theorem.View.{view, Occupied, Parent, past-first}
 use Rattle.machine.specs.Theorem.Invariant.{Invariant}
 use Rattle.machine.specs.Theorem.EvictEffect.{Evicted, evicted-is}
-use Rattle.machine.specs.Theorem.Fit.{fit-of}
+use Rattle.machine.specs.Theorem.StateFit.{fit-of}
 use Rattle.machine.specs.Theorem.Keeps.{evict-effect, evict-keeps, load-keeps, sweep-keeps}
 use Rattle.machine.specs.Laws.SweepLaws.{Cooled, sweep-cooled, sweep-sound}
 use Rattle.machine.specs.Theorem.TestReads.{Open, open-of}
