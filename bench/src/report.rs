@@ -1,6 +1,8 @@
 //! The figures as text: a line about the machine, the table, and the rows that miss the goal.
 use crate::rows::{Figure, Grows};
 use crate::stack::Depth;
+use crate::timing::Times;
+use pool_bench::shapes::Shape;
 use std::fmt::Write;
 use std::fs;
 
@@ -8,6 +10,8 @@ use std::fs;
 const MOST: f64 = 1.10;
 const MOST_WHOLE_BUFFER: f64 = 1.00;
 const MOST_STACK: usize = 32 * 1024;
+
+const MET: &str = "met";
 
 const BEGIN: &str = "<!-- figures: bench/run --write -->\n";
 const END: &str = "<!-- end of figures -->\n";
@@ -19,14 +23,59 @@ const HEAD: &str = "\
 
 pub fn text(figures: &[Figure], depths: &[Depth]) -> String {
     let mut text = format!("{}\n\n{HEAD}", machine());
-    let mut missed = 0;
+    let mut missed = Vec::new();
     for figure in figures {
-        let goal = goal(figure, stack_of(figure, depths));
-        missed += usize::from(goal != "met");
-        text += &line(figure, stack_of(figure, depths), &goal);
+        let stack = stack_of(figure, depths);
+        let goal = goal(figure, stack, figures);
+        text += &line(figure, stack, &goal);
+        if goal != MET {
+            missed.push(figure.shape);
+        }
     }
-    let _ = write!(text, "\n{missed} of {} rows miss the goal.\n", figures.len());
-    text
+    let _ = write!(text, "\n{} of {} rows miss the goal", missed.len(), figures.len());
+    for (place, (shape, rows)) in shapes(figures).into_iter().enumerate() {
+        let missed = missed.iter().filter(|missed| **missed == shape).count();
+        let _ = write!(text, "{} {} {missed} of {rows}", if place == 0 { ":" } else { "," }, shape.name());
+    }
+    text + ".\n" + &slopes(figures)
+}
+
+/// What one thing more costs: between two sizes of a call on a shape.
+const SLOPES: [(&str, &str, Shape, usize, usize); 5] = [
+    ("an empty frame", "root", Shape::Opened, 4, 64),
+    ("a frame with a page that names none", "root", Shape::Leaves, 4, 16),
+    ("a frame with a page of 15 words", "root", Shape::Full, 4, 16),
+    ("a stored page in link", "link", Shape::Full, 256, 4096),
+    ("a stored page of one word in open", "open", Shape::Chain, 256, 4096),
+];
+
+/// A table of what one thing more costs, as far as there are rows for it.
+fn slopes(figures: &[Figure]) -> String {
+    let find = |label, shape, size| {
+        let is_it = |row: &&Figure| row.label == label && row.shape == shape && row.size() == size;
+        figures.iter().find(is_it).map(|row| row.times)
+    };
+    let mut text = String::new();
+    for (thing, label, shape, from, to) in SLOPES {
+        if let (Some(first), Some(last)) = (find(label, shape, from), find(label, shape, to)) {
+            let each = |first: f64, last: f64| (last - first) / (to - from) as f64;
+            let (library, baseline) =
+                (each(first.library, last.library), each(first.baseline, last.baseline));
+            let rows = format!("{label}, {}, {from} to {to}", shape.name());
+            let _ = writeln!(text, "| {thing} | {library:.2} | {baseline:.2} | {rows} |");
+        }
+    }
+    if text.is_empty() {
+        text
+    } else {
+        format!("\n| one more | library, ns | baseline, ns | by the rows |\n|---|--:|--:|---|\n{text}")
+    }
+}
+
+/// The shapes that there are rows of, and how many.
+fn shapes(figures: &[Figure]) -> Vec<(Shape, usize)> {
+    let rows = |shape| figures.iter().filter(|figure| figure.shape == shape).count();
+    Shape::ALL.into_iter().map(|shape| (shape, rows(shape))).filter(|(_, rows)| *rows > 0).collect()
 }
 
 /// A page with its figures replaced.
@@ -60,8 +109,8 @@ fn stack_of(figure: &Figure, depths: &[Depth]) -> usize {
     depths.iter().find(|depth| depth.call == figure.call()).map_or(0, |depth| depth.bytes)
 }
 
-/// What of the goal a row misses, or that it is met.
-fn goal(figure: &Figure, stack: usize) -> String {
+/// What of the goal a row misses and why, or that it is met.
+fn goal(figure: &Figure, stack: usize, figures: &[Figure]) -> String {
     let whole_buffer = figure.grows == Grows::Pages && figure.pages > figure.count;
     let tests = [
         (figure.ratio_without_copy() <= MOST, "1.10 without the copy"),
@@ -71,10 +120,28 @@ fn goal(figure: &Figure, stack: usize) -> String {
     ];
     let misses: Vec<&str> = tests.iter().filter(|(met, _)| !met).map(|(_, name)| *name).collect();
     if misses.is_empty() {
-        "met".into()
+        MET.into()
     } else {
-        format!("misses {}", misses.join(", "))
+        format!("misses {}: {}", misses.join(", "), reason(figure, figures))
     }
+}
+
+/// Why a row misses: the copy and the call's fixed cost alone, without which it would keep to 1.10, or what else.
+fn reason(figure: &Figure, figures: &[Figure]) -> &'static str {
+    let Times { library, baseline, copy } = figure.times;
+    match figure.grows {
+        _ if library - copy - fixed_cost(figure.label, figures) <= MOST * baseline => "fixed cost",
+        Grows::Frames => "pass over the frames",
+        Grows::Pages => "pass over the store",
+    }
+}
+
+/// What a call costs more than the baseline whatever the state, the copy apart: by the row with the fewest frames in which the
+/// baseline has least to do.
+fn fixed_cost(label: &str, figures: &[Figure]) -> f64 {
+    let rows = figures.iter().filter(|figure| figure.label == label);
+    let least = rows.min_by(|a, b| a.count.cmp(&b.count).then(a.times.baseline.total_cmp(&b.times.baseline)));
+    least.map_or(0.0, |figure| figure.times.library - figure.times.copy - figure.times.baseline)
 }
 
 /// The machine's kind and load, as Linux tells them.

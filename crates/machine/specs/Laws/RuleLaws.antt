@@ -11,7 +11,7 @@ use Rattle.machine.specs.declared.Pool.{Pool}
 use Rattle.machine.specs.declared.Handle.{Handle}
 use Rattle.machine.specs.Tests.{_and_, Rule, firstBroken, verdict}
 use Rattle.machine.specs.Laws.TestLaws.{and-true, first-kept, pick-either, verdict-no, verdict-yes, numbered, broken-then, parts-kept}
-use Rattle.machine.specs.Machine.{State, recordAt, pageIn, occupied}
+use Rattle.machine.specs.Machine.{State, isUsed, recordAt, pageIn, occupied}
 use Rattle.machine.specs.Laws.AgreementFacts.{make-occupied}
 use Rattle.machine.specs.Answers.{Answer, refused, done, Out, out, doneAnswer}
 use Rattle.machine.specs.Rules.{handleFits, rule3, rule4, rule6}
@@ -23,7 +23,7 @@ use Rattle.machine.specs.Laws.Ready.{Kept, rules-kept}
 -- rule 3: the handle's frame is one of the F frames and holds its page, which is pinned
 pub record Held (p : Pool) (h : Handle) : Type 0 where
   pub below : h .frame .0 < p .count
-  pub used : recordAt (p .records) (h .frame .0) .used ≡ true
+  pub used : isUsed (recordAt (p .records) (h .frame .0)) ≡ true
   pub page : pageIn (p .records) (h .frame .0) ≡ h .page .0
   pub pins : 0 < recordAt (p .records) (h .frame .0) .pins
 
@@ -32,7 +32,7 @@ unfolding handleFits
 held-of p h t =
     let r = recordAt (p .records) (h .frame .0) in
     let a = and-true (ltb (h .frame .0) (p .count)) _ t in
-    let b = and-true (r .used) _ (a .1) in
+    let b = and-true (isUsed r) _ (a .1) in
     let c = and-true (eqb (r .page .0) (h .page .0)) (ltb 0 (r .pins)) (b .1) in
     record { below = ltb-true _ _ (a .0); used = b .0; page = eqb-true _ _ (c .0); pins = ltb-true 0 _ (c .1) }
 

@@ -17,8 +17,9 @@ use Rattle.machine.specs.declared.Pool.{Pool}
 use Rattle.machine.specs.declared.Standing.{Standing}
 use Rattle.machine.specs.declared.Standing.the-variants.{Root, Pinned, Parent, Evictable}
 use Rattle.machine.specs.Tests.{pick, _and_, _or_, some}
+use Rattle.machine.specs.Laws.Flags.{same-flag}
 use Rattle.machine.specs.Laws.TestLaws.{clash, case, on, off, is-off, same, and-left, both, or-none, or-off, true-some, some-true, pick-either}
-use Rattle.machine.specs.Machine.{State, withPool, isRoot, blank, cooled, recordAt}
+use Rattle.machine.specs.Machine.{State, withPool, isRoot, blank, isUsed, recordAt}
 use Rattle.machine.specs.Laws.AgreementFacts.{InRange}
 use Rattle.machine.specs.Sweep.{Class, rest, warm, yield, yields, Kind, classOf, kind, Swept, after, emptyFrom, firstEmpty, childless, standing, evictable, isOpen, lookLeaves, lookTakes, sweepFrom, mostLooks, sweep, withSwept}
 use Rattle.machine.specs.Rules.{rule15}
@@ -330,8 +331,8 @@ swept-ready s h =
       sized = h .sized;
       hand = c .hand;
       inRange = λ f l. in-range f (c .each f) (h .inRange f l);
-      dirtyUsed = λ f l d. c .each f .used ∙ h .dirtyUsed f l (sym (c .each f .dirty) ∙ d);
-      words = λ f k l u. h .words f k l (sym (c .each f .used) ∙ u);
+      dirtyUsed = λ f l d. same-flag (c .each f .used) ∙ h .dirtyUsed f l (sym (same-flag (c .each f .dirty)) ∙ d);
+      words = λ f k l u. h .words f k l (sym (same-flag (c .each f .used)) ∙ u);
     }
   where
     after-sweep : Pool
@@ -344,20 +345,22 @@ swept-ready s h =
       usage = c .usage (r .usage);
       parent = rw (c .parent) (r .parent);
       slot = rw (c .slot) (r .slot);
+      used = rw (c .used) (r .used);
+      dirty = rw (c .dirty) (r .dirty);
     }
 
 -- ---- the first empty frame
 
 -- of the n frames from h on, e is an empty one, or none is empty and e is F
 data Vacant (rs : List FrameRecord) (F n h e : ℕ) : Type 0 where
-  vacant : e < F → recordAt rs e .used ≡ false → Vacant rs F n h e
-  none : e ≡ F → ((g d : ℕ) → g < F → Away F h g d → d < n → recordAt rs g .used ≡ true) → Vacant rs F n h e
+  vacant : e < F → isUsed (recordAt rs e) ≡ false → Vacant rs F n h e
+  none : e ≡ F → ((g d : ℕ) → g < F → Away F h g d → d < n → isUsed (recordAt rs g) ≡ true) → Vacant rs F n h e
 
-vacant-suc : (rs : List FrameRecord) (F n h e : ℕ) → h < F → recordAt rs h .used ≡ true → Vacant rs F n (after F h) e → Vacant rs F (suc n) h e
+vacant-suc : (rs : List FrameRecord) (F n h e : ℕ) → h < F → isUsed (recordAt rs h) ≡ true → Vacant rs F n (after F h) e → Vacant rs F (suc n) h e
 vacant-suc rs F n h e hF u (vacant l x) = vacant l x
 vacant-suc rs F n h e hF u (none x k) = none x go
   where
-    go : (g d : ℕ) → g < F → Away F h g d → d < suc n → recordAt rs g .used ≡ true
+    go : (g d : ℕ) → g < F → Away F h g d → d < suc n → isUsed (recordAt rs g) ≡ true
     go g zero gF a l = rw (away-here F h g hF a) u
     go g (suc d) gF a l = k g d gF (away-next F h g d hF gF a) (omega arith)
 
@@ -368,8 +371,8 @@ vacant-from rs F (suc n) h hF = pick-by (Vacant rs F (suc n) h) _ _ _ (λ u. vac
 
 -- the first empty frame is below F and empty, or it is F and every frame is used
 pub data FirstEmpty (p : Pool) : Type 0 where
-  empty : firstEmpty p < p .count → recordAt (p .records) (firstEmpty p) .used ≡ false → FirstEmpty p
-  full : ((f : ℕ) → f < p .count → recordAt (p .records) f .used ≡ true) → firstEmpty p ≡ p .count → FirstEmpty p
+  empty : firstEmpty p < p .count → isUsed (recordAt (p .records) (firstEmpty p)) ≡ false → FirstEmpty p
+  full : ((f : ℕ) → f < p .count → isUsed (recordAt (p .records) f) ≡ true) → firstEmpty p ≡ p .count → FirstEmpty p
 
 pub first-empty : (p : Pool) → p .hand .0 < p .count → FirstEmpty p
 first-empty p hF = go (vacant-from (p .records) (p .count) (p .count) (p .hand .0) hF)
@@ -382,7 +385,7 @@ first-empty p hF = go (vacant-from (p .records) (p .count) (p .count) (p .hand .
 
 -- "No frame is empty and a sweep could take none", of the frames alone: every one is used, and none is open to eviction
 pub record Denied (s : State) : Type 0 where
-  pub used : (f : ℕ) → f < s .pool .count → recordAt (s .pool .records) f .used ≡ true
+  pub used : (f : ℕ) → f < s .pool .count → isUsed (recordAt (s .pool .records) f) ≡ true
   pub shut : (f : ℕ) → f < s .pool .count → isOpen (recordAt (s .pool .records) f) (s .frames) f ≡ false
 
 pub denied-of : (s : State) → Ready s → rule15 s .1 ≡ false → Denied s
@@ -393,7 +396,7 @@ denied-of s h e =
       shut = λ f l. is-off _ (λ o. clash (sym (sweep-enough (s .pool) (s .frames) f (h .hand) l (h .inRange f l .usage) o) ∙ r .1));
     }
   where
-    all-used : ltb (firstEmpty (s .pool)) (s .pool .count) ≡ false → FirstEmpty (s .pool) → (f : ℕ) → f < s .pool .count → recordAt (s .pool .records) f .used ≡ true
+    all-used : ltb (firstEmpty (s .pool)) (s .pool .count) ≡ false → FirstEmpty (s .pool) → (f : ℕ) → f < s .pool .count → isUsed (recordAt (s .pool .records) f) ≡ true
     all-used n (empty l u) = absurd (clash (sym (lt-ltb _ _ l) ∙ n))
     all-used n (full u e) = u
 

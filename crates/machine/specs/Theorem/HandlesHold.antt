@@ -9,7 +9,7 @@ use Rattle.machine.specs.declared.FrameRecord.{FrameRecord}
 use Rattle.machine.specs.declared.Handle.{Handle}
 use Rattle.machine.specs.Tests.{pick}
 use Rattle.machine.specs.Laws.TestLaws.{clash}
-use Rattle.machine.specs.Machine.{State, blank, recordAt, pinned, loadedRecord}
+use Rattle.machine.specs.Machine.{State, blank, isUsed, recordAt, pinned, loadedRecord}
 use Rattle.machine.specs.Moves.{plain, evicted, loaded}
 use Rattle.machine.specs.Sweep.{sweep}
 use Rattle.machine.specs.Rules.{wordOf}
@@ -39,13 +39,13 @@ answerOf o = o .answer
 pinned-holder : (s : State) (g : ℕ) → g < length (s .pool .records) → Occupied (view s) g → Holder (view (changeRecord s g pinned)) (view s .page g) g
 pinned-holder s g l o =
     let e = change-here (s .pool .records) g (pinned (recordAt (s .pool .records) g)) l in
-    record { at = record { lt = o .lt; on = ap (λ (r : FrameRecord). r .used) e ∙ o .on }; page = ap (λ (r : FrameRecord). r .page .0) e }
+    record { at = record { lt = o .lt; on = ap isUsed e ∙ o .on }; page = ap (λ (r : FrameRecord). r .page .0) e }
 
 loaded-holder : (s : State) (f k e q : ℕ) → e < s .pool .count → e < length (s .pool .records) → Holder (view (loaded s f k e q)) q e
 unfolding loaded
 loaded-holder s f k e q l m =
     let r = change-here (s .pool .records) e (loadedRecord q f k) m in
-    record { at = record { lt = l; on = ap (λ (t : FrameRecord). t .used) r }; page = ap (λ (t : FrameRecord). t .page .0) r }
+    record { at = record { lt = l; on = ap isUsed r }; page = ap (λ (t : FrameRecord). t .page .0) r }
 
 evicted-records : (s : State) (g : ℕ) → length (evicted s g .pool .records) ≡ length (s .pool .records)
 unfolding evicted

@@ -7,6 +7,7 @@ use native.Mathlib.Omega.{arith}
 use native.Mathlib.Decide.{ℕ-discrete}
 use Rattle.page.specs.Figures.{slotCount}
 use Rattle.page.specs.Word.{frameWord, Number}
+use Rattle.machine.specs.Laws.Flags.{same-flag}
 use Rattle.machine.specs.Machine.{State, withPool}
 use Rattle.machine.specs.Moves.{evicted, loaded}
 use Rattle.machine.specs.Sweep.{sweep, withSwept}
@@ -66,7 +67,7 @@ module _ (x : Point) (I : Invariant x) (full : (f : ℕ) → f < x .now .pool .c
   victim-lt = sweep-sound (x .now .pool) (x .now .frames) (I .neat .hand) t .0
 
   still-occupied : (f : ℕ) → f < x .now .pool .count → Occupied (view swept) f
-  still-occupied f l = record { lt = l; on = cool .each f .used ∙ full f l }
+  still-occupied f l = record { lt = l; on = same-flag (cool .each f .used) ∙ full f l }
 
   still-open : Open (view swept) victim
   still-open = record { notRoot = victim-open .notRoot; unpinned = cool .each victim .pins ∙ victim-open .unpinned; leaf = victim-open .leaf }
