@@ -171,8 +171,8 @@ impl Trial {
         let (small, page) = (self.random.below(80) as u8, self.page(state));
         let record = &mut state.pool.records[frame];
         match self.random.below(7) {
-            0 => record.used ^= 1,
-            1 => record.dirty ^= 1,
+            0 => record.used = small % 3,
+            1 => record.dirty = small % 3,
             2 => record.usage = small % 5,
             3 => record.slot = small % 18,
             4 => record.parent = FrameIndex(small),

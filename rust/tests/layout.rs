@@ -7,8 +7,8 @@ fn expect_pool(pool: Pool) {
     for i in 0..MOST_FRAMES as u8 {
         let wide = u16::from(i);
         let expected = FrameRecord {
-            used: u8::from(i % 2 == 1),
-            dirty: u8::from(i % 3 == 1),
+            used: 192 + i,
+            dirty: 255 - i,
             usage: i,
             slot: 64 + i,
             parent: FrameIndex(128 + i),

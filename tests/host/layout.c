@@ -18,8 +18,8 @@ static void expect_pool(struct pool pool)
 {
     for (unsigned i = 0; i < POOL_MOST_FRAMES; i++) {
         struct pool_record record = pool.records[i];
-        EXPECT(record.used, i % 2 == 1);
-        EXPECT(record.dirty, i % 3 == 1);
+        EXPECT(record.used, 192 + i);
+        EXPECT(record.dirty, 255 - i);
         EXPECT(record.usage, i);
         EXPECT(record.slot, 64 + i);
         EXPECT(record.parent, 128 + i);

@@ -122,6 +122,42 @@ fn the_first_broken_rule_answers() {
     }
 }
 
+/// A flag is 0 or 1: any other byte, of an occupied frame, an empty one or a record from F on, is refused.
+#[test]
+fn a_flag_is_zero_or_one() {
+    let (mut trial, [root, five, six]) = two_children();
+    trial.accept(Call::Unfix(six));
+    trial.accept(Call::Write(five, 0, vec![1]));
+    let calls = [
+        Call::Root,
+        Call::Fix(root, 3),
+        Call::Unfix(five),
+        Call::Show(five),
+        Call::Peek(9),
+        Call::Word(root, 1),
+        Call::Write(five, 0, vec![2]),
+        Call::Link(root, 0, 9),
+        Call::Unlink(root, 3),
+        Call::Evict(6),
+        Call::Settle,
+        Call::Find(5),
+    ];
+    let agreed = trial.state;
+    for call in &calls {
+        Trial { state: agreed.clone() }.accept(call.clone());
+    }
+    let flags: [fn(&mut FrameRecord) -> &mut u8; 2] = [|record| &mut record.used, |record| &mut record.dirty];
+    for frame in [0, 1, 2, 3, 4, 33, 63] {
+        for (flag, byte) in flags.iter().flat_map(|flag| (2..=255).map(move |byte| (flag, byte))) {
+            let mut trial = Trial { state: agreed.clone() };
+            *flag(trial.record(frame)) = byte;
+            for call in &calls {
+                assert_eq!(trial.number(call.clone()), 2, "{call:?}: {:?}", trial.record(frame));
+            }
+        }
+    }
+}
+
 /// Pages 5 and 6 in frames 1 and 2, under slots 1 and 2 of the root, all three pinned.
 fn two_children() -> (Trial, [Handle; 3]) {
     let mut trial = Trial::open(4, 16, &[(0, 1, 5), (0, 2, 6), (0, 3, 7)]);

@@ -4,7 +4,6 @@ use mathlib.Core.Path.{_≡_}
 use mathlib.Core.Logic.{_≢_}
 use mathlib.Core.Bool.{Bool, true, false}
 use mathlib.Core.List.{List}
-use mir.Val.{boolByte}
 use lib.Dec.{eqb, ltb, leb}
 use lib.ListN.{length, getD, set}
 use Rattle.page.specs.Figures.{pageSize, slotCount, mostFrames, recordCount, maxUsage, maxPins, wordSize}
@@ -13,7 +12,7 @@ use Rattle.page.specs.Page.{name}
 use Rattle.machine.specs.declared.FrameRecord.{FrameRecord}
 use Rattle.machine.specs.declared.Pool.{Pool}
 use Rattle.machine.specs.Tests.{pick, _and_}
-use Rattle.machine.specs.Machine.{recordAt, pageIn}
+use Rattle.machine.specs.Machine.{isUsed, recordAt, pageIn}
 use Rattle.machine.specs.Agreement.{agree}
 use Rattle.machine.specs.Laws.Parents.{climb}
 use Rattle.seen.specs.Seen.{Seen}
@@ -26,8 +25,8 @@ use Rattle.agreement.specs.Twice.{Passed, Progress}
 
 -- the all-zero record
 pub record Blank (r : FrameRecord) : Type 0 where
-  pub used : r .used ≡ false
-  pub dirty : r .dirty ≡ false
+  pub used : r .used ≡ 0
+  pub dirty : r .dirty ≡ 0
   pub usage : r .usage ≡ 0
   pub slot : r .slot ≡ 0
   pub parent : r .parent .0 ≡ 0
@@ -35,8 +34,8 @@ pub record Blank (r : FrameRecord) : Type 0 where
   pub page : r .page .0 ≡ 0
 
 -- a record's fields before its parent, and those after it, as the digits of one number
-abbrev pub firstFields : Bool → Bool → ℕ → ℕ → ℕ
-firstFields used dirty usage slot = boolByte used + 256 * boolByte dirty + 65536 * usage + 16777216 * slot
+abbrev pub firstFields : ℕ → ℕ → ℕ → ℕ → ℕ
+firstFields used dirty usage slot = used + 256 * dirty + 65536 * usage + 16777216 * slot
 
 abbrev pub lastFields : ℕ → ℕ → ℕ
 lastFields pins page = pins + 65536 * page
@@ -55,9 +54,10 @@ pub record Gathers (r : FrameRecord) (before after : Type 0) : Type 0 where
 
 -- frame 0's record
 pub record RootFits (r : FrameRecord) : Type 0 where
-  pub used : r .used ≡ true
+  pub used : isUsed r ≡ true
   pub pins : r .pins ≤ maxPins
   pub usage : r .usage ≤ maxUsage
+  pub dirty : r .dirty ≤ 1
   pub slot : r .slot ≡ 0
   pub parent : r .parent .0 ≡ 0
   pub page : r .page .0 ≡ 0
@@ -66,6 +66,7 @@ pub record RootFits (r : FrameRecord) : Type 0 where
 pub record Resident (F N : ℕ) (r : FrameRecord) : Type 0 where
   pub pins : r .pins ≤ maxPins
   pub usage : r .usage ≤ maxUsage
+  pub dirty : r .dirty ≤ 1
   pub slot : r .slot < slotCount
   pub parent : r .parent .0 < F
   pub page : r .page .0 < N
@@ -79,9 +80,9 @@ pub record Linked (fs : List ℕ) (f : ℕ) (r : FrameRecord) (above : Bool) : T
 -- the record of frame f, and the word that names it
 pub record Fits (fs : List ℕ) (F N f : ℕ) (r : FrameRecord) (above : Bool) : Type 0 where
   pub root : f ≡ 0 → RootFits r
-  pub resident : f ≢ 0 → r .used ≡ true → Resident F N r
-  pub linked : f ≢ 0 → r .used ≡ true → Linked fs f r above
-  pub empty : r .used ≡ false → Blank r
+  pub resident : f ≢ 0 → isUsed r ≡ true → Resident F N r
+  pub linked : f ≢ 0 → isUsed r ≡ true → Linked fs f r above
+  pub empty : isUsed r ≡ false → Blank r
 
 -- the records from F on are all zero
 abbrev pub RestBlank : List FrameRecord → ℕ → Type 0
@@ -103,7 +104,7 @@ numberIn rs fs N f j = pick (eqb j 0) (pageIn rs f) (numberBelow N (name fs f (j
 
 -- the numbers of the frames one after the other, 0 for an empty frame's
 unfoldable pub numbers : List FrameRecord → List ℕ → ℕ → ℕ → ℕ
-numbers rs fs N i = pick (recordAt rs (i / perFrame) .used) (numberIn rs fs N (i / perFrame) (i % perFrame)) 0
+numbers rs fs N i = pick (isUsed (recordAt rs (i / perFrame))) (numberIn rs fs N (i / perFrame) (i % perFrame)) 0
 
 -- ---- the words that are not below N, which are to be swizzled, and the frames that they are to name
 
@@ -113,22 +114,22 @@ overFrom fs N at k = leb N (nameAt fs (at + wordSize * k))
 
 -- word j, slot j % 16 of frame j / 16, is in an occupied frame and not below N
 unfoldable pub isOver : List FrameRecord → List ℕ → ℕ → ℕ → Bool
-isOver rs fs N j = recordAt rs (j / slotCount) .used and leb N (name fs (j / slotCount) (j % slotCount))
+isOver rs fs N j = isUsed (recordAt rs (j / slotCount)) and leb N (name fs (j / slotCount) (j % slotCount))
 
 -- frame f's record is in use
-abbrev pub isUsed : List FrameRecord → ℕ → Bool
-isUsed rs f = recordAt rs f .used
+abbrev pub usedIn : List FrameRecord → ℕ → Bool
+usedIn rs f = isUsed (recordAt rs f)
 
 -- ---- the whole pass
 
 -- the record of a frame's parent is in use; the code asks before it knows the parent's range
 abbrev pub aboveUsed : List FrameRecord → FrameRecord → Bool
-aboveUsed rs r = recordAt rs (r .parent .0 % recordCount) .used
+aboveUsed rs r = isUsed (recordAt rs (r .parent .0 % recordCount))
 
 pub record FramesFit (rs : List FrameRecord) (fs : List ℕ) (F N : ℕ) : Type 0 where
   pub fits : (f : ℕ) → f < F → Fits fs F N f (recordAt rs f) (aboveUsed rs (recordAt rs f))
   pub once : (i j : ℕ) → i < j → j < perFrame * F → numbers rs fs N i ≡ numbers rs fs N j → numbers rs fs N i ≡ 0
-  pub even : countIf (slotCount * F) (isOver rs fs N) + 1 ≡ countIf F (isUsed rs)
+  pub even : countIf (slotCount * F) (isOver rs fs N) + 1 ≡ countIf F (usedIn rs)
 
 -- ---- tables of numbers
 
@@ -188,16 +189,16 @@ pub record NumbersNoted (fs : List ℕ) (N at page : ℕ) (seen seen' : Seen) (o
 
 -- the row has the numbers of frame f from place i on
 pub record HasNumbers (fs : List ℕ) (N f : ℕ) (r : FrameRecord) (row : ℕ → ℕ) (i : ℕ) : Type 0 where
-  pub page : r .used ≡ true → row i ≡ r .page .0
-  pub words : r .used ≡ true → HasWords fs N (pageSize * f) row (i + 1)
-  pub empty : r .used ≡ false → (j : ℕ) → j < perFrame → row (i + j) ≡ 0
+  pub page : isUsed r ≡ true → row i ≡ r .page .0
+  pub words : isUsed r ≡ true → HasWords fs N (pageSize * f) row (i + 1)
+  pub empty : isUsed r ≡ false → (j : ℕ) → j < perFrame → row (i + j) ≡ 0
 
 -- what is told of frame f
 pub record FrameNoted (fs : List ℕ) (F N f : ℕ) (r : FrameRecord) (above : Bool) (seen seen' : Seen) (over : ℕ) (ok : Bool) : Type 0 where
   pub few : over ≤ slotCount
   pub fits : ok ≡ true → Fits fs F N f r above
-  pub counts : ok ≡ true → r .used ≡ true → over ≡ countIf slotCount (overFrom fs N (pageSize * f))
-  pub nothing : ok ≡ true → r .used ≡ false → over ≡ 0
+  pub counts : ok ≡ true → isUsed r ≡ true → over ≡ countIf slotCount (overFrom fs N (pageSize * f))
+  pub nothing : ok ≡ true → isUsed r ≡ false → over ≡ 0
   pub notes : (row : ℕ → ℕ) (i : ℕ) → HasNumbers fs N f r row i → Passed row i seen → Fits fs F N f r above → Progress row (i + perFrame) seen' ok
 
 -- ---- the parents
@@ -226,7 +227,7 @@ pub record Before (rs : List FrameRecord) (fs : List ℕ) (F N f : ℕ) (seen : 
   pub size : length residents ≡ mostFrames
   pub held : Entries (pageIn rs) f residents
   pub clear : (g : ℕ) → f ≤ g → entry residents g ≡ 0
-  pub counted : occupied ≡ countIf f (isUsed rs)
+  pub counted : occupied ≡ countIf f (usedIn rs)
   pub named : over ≡ countIf (slotCount * f) (isOver rs fs N)
 
 -- before the parents are followed

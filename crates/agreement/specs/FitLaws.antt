@@ -2,14 +2,14 @@
 use Prim.Native.Nat.{ℕ, zero, suc, _+_, _*_, _-_, _/_, _%_, _<_, _≤_}
 use mathlib.Core.Path.{_≡_, refl, sym, _∙_, ap}
 use mathlib.Core.Logic.{_≢_}
-use mathlib.Core.Bool.{Bool, true, false, not}
+use mathlib.Core.Bool.{Bool, true, false}
 use mathlib.Core.List.{List}
 use native.Mathlib.Numerals.{add-one}
 use native.Mathlib.Omega.{arith}
 use native.Mathlib.Nat.{add-zero, add-assoc}
 use native.Mathlib.Decide.{ℕ-discrete, decLt}
 use borrow.Author.Count.{below-more}
-use borrow.Author.Tests.{lt-ltb, le-ltb, le-leb, lt-leb, eq-eqb, ne-eqb, eqb-true, not-true}
+use borrow.Author.Tests.{lt-ltb, le-ltb, le-leb, lt-leb, eq-eqb, ne-eqb, eqb-true}
 use mir.Val.{boolByte}
 use lib.Dec.{eqb}
 use lib.ListN.{length, set, replicate, length-set, length-replicate}
@@ -21,7 +21,7 @@ use Rattle.page.specs.Page.{slot, name, name-row}
 use Rattle.machine.specs.declared.FrameRecord.{FrameRecord}
 use Rattle.machine.specs.Tests.{_and_}
 use Rattle.machine.specs.Laws.TestLaws.{pick-yes, pick-no, both, and-true, and-yes, and-no, clash}
-use Rattle.machine.specs.Machine.{recordAt, pageIn}
+use Rattle.machine.specs.Machine.{isUsed, recordAt, pageIn}
 use Rattle.machine.specs.Agreement.{isBlank}
 use Rattle.seen.specs.Fold.{fold}
 use Rattle.agreement.specs.Counting.{countIf, count-zero, count-yes, count-no, count-add, count-ext, count-none, count-le}
@@ -32,15 +32,15 @@ use Rattle.agreement.specs.Fit.{Blank, firstFields, lastFields, NoField,
 pub blank-of : (r : FrameRecord) → isBlank r ≡ true → Blank r
 unfolding isBlank
 blank-of r t =
-    let a = and-true (not (r .used)) _ t in
-    let b = and-true (not (r .dirty)) _ (a .1) in
+    let a = and-true (eqb (r .used) 0) _ t in
+    let b = and-true (eqb (r .dirty) 0) _ (a .1) in
     let c = and-true (eqb (r .usage) 0) _ (b .1) in
     let d = and-true (eqb (r .slot) 0) _ (c .1) in
     let e = and-true (eqb (r .parent .0) 0) _ (d .1) in
     let f = and-true (eqb (r .pins) 0) (eqb (r .page .0) 0) (e .1) in
     record {
-      used = not-true _ (a .0);
-      dirty = not-true _ (b .0);
+      used = eqb-true _ 0 (a .0);
+      dirty = eqb-true _ 0 (b .0);
       usage = eqb-true _ 0 (c .0);
       slot = eqb-true _ 0 (d .0);
       parent = eqb-true _ 0 (e .0);
@@ -51,8 +51,11 @@ blank-of r t =
 pub of-blank : (r : FrameRecord) → Blank r → isBlank r ≡ true
 unfolding isBlank
 of-blank r h =
-    both _ _ (ap not (h .used)) (both _ _ (ap not (h .dirty)) (both _ _ (eq-eqb _ 0 (h .usage)) (both _ _ (eq-eqb _ 0 (h .slot))
+    both _ _ (eq-eqb _ 0 (h .used)) (both _ _ (eq-eqb _ 0 (h .dirty)) (both _ _ (eq-eqb _ 0 (h .usage)) (both _ _ (eq-eqb _ 0 (h .slot))
     (both _ _ (eq-eqb _ 0 (h .parent)) (both _ _ (eq-eqb _ 0 (h .pins)) (eq-eqb _ 0 (h .page)))))))
+
+pub blank-unused : (r : FrameRecord) → Blank r → isUsed r ≡ false
+blank-unused r b = ne-eqb (r .used) 1 (λ e. omega (arith, b .used))
 
 -- ---- numbers or-ed together
 
@@ -64,19 +67,15 @@ nothing-or a b x y = rw (x, y) (or-zero-l 0)
 
 -- ---- a record's fields as digits
 
-no-byte : (b : Bool) → boolByte b ≡ 0 → b ≡ false
-no-byte false e = refl
-no-byte true e = absurd (omega arith)
-
 module _ (r : FrameRecord) (x y : ℕ) (first : x ≡ firstFields (r .used) (r .dirty) (r .usage) (r .slot)) (last : y ≡ lastFields (r .pins) (r .page .0)) where
   fields-blank : NoField x (r .parent .0) y → Blank r
   fields-blank n =
       let a : firstFields (r .used) (r .dirty) (r .usage) (r .slot) ≡ 0 = sym first ∙ n .first in
       let z : lastFields (r .pins) (r .page .0) ≡ 0 = sym last ∙ n .last in
-      record { used = no-byte (r .used) (omega arith); dirty = no-byte (r .dirty) (omega arith); usage = omega arith; slot = omega arith; parent = n .parent; pins = omega arith; page = omega arith }
+      record { used = omega arith; dirty = omega arith; usage = omega arith; slot = omega arith; parent = n .parent; pins = omega arith; page = omega arith }
 
   blank-fields : Blank r → NoField x (r .parent .0) y
-  blank-fields b = record { first = first ∙ rw (b .used, b .dirty) (omega (arith, b .usage, b .slot)); parent = b .parent; last = omega (arith, b .pins, b .page) }
+  blank-fields b = record { first = omega (arith, first, b .used, b .dirty, b .usage, b .slot); parent = b .parent; last = omega (arith, b .pins, b .page) }
 
   pub gathers : (a p z : ℕ) → Gathers r (NoField a p z) (NoField (bitOr a x) (bitOr p (r .parent .0)) (bitOr z y))
   gathers a p z = record {
@@ -142,27 +141,27 @@ module _ (rs : List FrameRecord) (fs : List ℕ) (N f : ℕ) where
     at-place : (perFrame * f + j) % perFrame ≡ j
     at-place = omega arith
 
-    pub numbers-used : recordAt rs f .used ≡ true → numbers rs fs N (perFrame * f + j) ≡ numberIn rs fs N f j
+    pub numbers-used : isUsed (recordAt rs f) ≡ true → numbers rs fs N (perFrame * f + j) ≡ numberIn rs fs N f j
     unfolding numbers
     numbers-used u = rw (at-frame, at-place) (sym (pick-yes 0 u refl))
 
-    pub numbers-empty : recordAt rs f .used ≡ false → numbers rs fs N (perFrame * f + j) ≡ 0
+    pub numbers-empty : isUsed (recordAt rs f) ≡ false → numbers rs fs N (perFrame * f + j) ≡ 0
     unfolding numbers
     numbers-empty u = rw (at-frame, at-place) (sym (pick-no _ u refl))
 
-  pub numbers-page : recordAt rs f .used ≡ true → numbers rs fs N (perFrame * f) ≡ pageIn rs f
+  pub numbers-page : isUsed (recordAt rs f) ≡ true → numbers rs fs N (perFrame * f) ≡ pageIn rs f
   unfolding numberIn
   numbers-page u =
       ap (numbers rs fs N) (sym (add-zero (perFrame * f))) ∙ numbers-used 0 (omega arith) u ∙ sym (pick-yes (numberBelow N (name fs f (0 - 1))) (eq-eqb 0 0 refl) refl)
 
-  pub numbers-word : (k : ℕ) → k < slotCount → recordAt rs f .used ≡ true → numbers rs fs N (perFrame * f + (1 + k)) ≡ numberBelow N (name fs f k)
+  pub numbers-word : (k : ℕ) → k < slotCount → isUsed (recordAt rs f) ≡ true → numbers rs fs N (perFrame * f + (1 + k)) ≡ numberBelow N (name fs f k)
   unfolding numberIn
   numbers-word k h u =
       let e : 1 + k - 1 ≡ k = omega arith in
       numbers-used (1 + k) (omega arith) u ∙ sym (pick-no (pageIn rs f) (ne-eqb (1 + k) 0 (λ z. omega arith)) refl) ∙ ap (λ (x : ℕ). numberBelow N (name fs f x)) e
 
   -- the row has the words of an occupied frame
-  has-words : recordAt rs f .used ≡ true → HasWords fs N (pageSize * f) (numbers rs fs N) (perFrame * f + 1)
+  has-words : isUsed (recordAt rs f) ≡ true → HasWords fs N (pageSize * f) (numbers rs fs N) (perFrame * f + 1)
   has-words u k h = ap (numbers rs fs N) (add-assoc (perFrame * f) 1 k) ∙ numbers-word k h u ∙ ap (numberBelow N) (name-row fs f k)
 
   -- the row has the numbers of frame f
@@ -171,25 +170,25 @@ module _ (rs : List FrameRecord) (fs : List ℕ) (N f : ℕ) where
 
   -- ---- the words that are not below N, counted frame by frame
 
-  over-at : (k : ℕ) → k < slotCount → recordAt rs f .used ≡ true → isOver rs fs N (slotCount * f + k) ≡ overFrom fs N (pageSize * f) k
+  over-at : (k : ℕ) → k < slotCount → isUsed (recordAt rs f) ≡ true → isOver rs fs N (slotCount * f + k) ≡ overFrom fs N (pageSize * f) k
   unfolding isOver overFrom slot
   over-at k h u =
       let a : (slotCount * f + k) / slotCount ≡ f = omega arith in
       let b : (slotCount * f + k) % slotCount ≡ k = omega arith in
       rw (a, b) (sym (and-yes u refl))
 
-  pub over-used : recordAt rs f .used ≡ true → countIf (slotCount * (f + 1)) (isOver rs fs N) ≡ countIf (slotCount * f) (isOver rs fs N) + countIf slotCount (overFrom fs N (pageSize * f))
+  pub over-used : isUsed (recordAt rs f) ≡ true → countIf (slotCount * (f + 1)) (isOver rs fs N) ≡ countIf (slotCount * f) (isOver rs fs N) + countIf slotCount (overFrom fs N (pageSize * f))
   over-used u =
       let e : slotCount * (f + 1) ≡ slotCount * f + slotCount = omega arith in
       rw e (count-add (slotCount * f) slotCount (isOver rs fs N) ∙ ap (λ (k : ℕ). countIf (slotCount * f) (isOver rs fs N) + k) (count-ext slotCount _ _ (λ k h. over-at k h u)))
 
-  none-over : (k : ℕ) → k < slotCount → recordAt rs f .used ≡ false → isOver rs fs N (slotCount * f + k) ≡ false
+  none-over : (k : ℕ) → k < slotCount → isUsed (recordAt rs f) ≡ false → isOver rs fs N (slotCount * f + k) ≡ false
   unfolding isOver
   none-over k h u =
       let a : (slotCount * f + k) / slotCount ≡ f = omega arith in
       rw a (sym (and-no _ u))
 
-  pub over-empty : recordAt rs f .used ≡ false → countIf (slotCount * (f + 1)) (isOver rs fs N) ≡ countIf (slotCount * f) (isOver rs fs N)
+  pub over-empty : isUsed (recordAt rs f) ≡ false → countIf (slotCount * (f + 1)) (isOver rs fs N) ≡ countIf (slotCount * f) (isOver rs fs N)
   over-empty u =
       let e : slotCount * (f + 1) ≡ slotCount * f + slotCount = omega arith in
       rw e (count-add (slotCount * f) slotCount (isOver rs fs N) ∙ ap (λ (k : ℕ). countIf (slotCount * f) (isOver rs fs N) + k) (count-none slotCount _ (λ k h. none-over k h u)) ∙ add-zero _)
@@ -211,13 +210,13 @@ module _ (fs : List ℕ) (F N f : ℕ) (r : FrameRecord) (above : Bool) where
   pub fits-root : f ≡ 0 → RootFits r → Fits fs F N f r above
   fits-root z k = record { root = λ e. k; resident = λ n. absurd (n z); linked = λ n. absurd (n z); empty = λ u. absurd (clash (sym (k .used) ∙ u)) }
 
-  pub fits-linked : f ≢ 0 → r .used ≡ true → Resident F N r → Linked fs f r above → Fits fs F N f r above
+  pub fits-linked : f ≢ 0 → isUsed r ≡ true → Resident F N r → Linked fs f r above → Fits fs F N f r above
   fits-linked n u k l = record { root = λ z. absurd (n z); resident = λ m v. k; linked = λ m v. l; empty = λ v. absurd (clash (sym u ∙ v)) }
 
   pub fits-empty : f ≢ 0 → Blank r → Fits fs F N f r above
-  fits-empty n b = record { root = λ z. absurd (n z); resident = λ m v. absurd (clash (sym v ∙ b .used)); linked = λ m v. absurd (clash (sym v ∙ b .used)); empty = λ v. b }
+  fits-empty n b = record { root = λ z. absurd (n z); resident = λ m v. absurd (clash (sym v ∙ blank-unused r b)); linked = λ m v. absurd (clash (sym v ∙ blank-unused r b)); empty = λ v. b }
 
-  pub page-below : 1 ≤ N → Fits fs F N f r above → r .used ≡ true → r .page .0 < N
+  pub page-below : 1 ≤ N → Fits fs F N f r above → isUsed r ≡ true → r .page .0 < N
   page-below o k u = elim (ℕ-discrete f 0) [
     | yes z ↦ omega (arith, k .root z .page)
     | no z ↦ k .resident z u .page

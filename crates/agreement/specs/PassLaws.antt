@@ -12,13 +12,13 @@ use lib.Seq.{getD-set-other}
 use Rattle.page.specs.Figures.{slotCount, mostFrames, recordCount}
 use Rattle.machine.specs.declared.FrameRecord.{FrameRecord}
 use Rattle.machine.specs.Laws.TestLaws.{case, on, off}
-use Rattle.machine.specs.Machine.{recordAt, pageIn}
+use Rattle.machine.specs.Machine.{isUsed, recordAt, pageIn}
 use Rattle.seen.specs.Seen.{Seen}
 use Rattle.residents.specs.Residents.{Residents}
 use Rattle.residents.specs.Handed.{Clear}
 use Rattle.agreement.specs.Counting.{countIf, count-zero, count-more, count-le}
 use Rattle.agreement.specs.Twice.{Progress, pass-none, not-twice}
-use Rattle.agreement.specs.Fit.{Blank, Gathers, Fits, perFrame, numbers, isOver, isUsed, aboveUsed, RestBlank, FramesFit, FrameNoted, entry, parentIn, Before, Settled}
+use Rattle.agreement.specs.Fit.{Blank, Gathers, Fits, perFrame, numbers, isOver, usedIn, aboveUsed, RestBlank, FramesFit, FrameNoted, entry, parentIn, Before, Settled}
 use Rattle.agreement.specs.FitLaws.{entries-more, has-numbers, over-used, over-empty}
 
 -- an entry of a table of zeros
@@ -39,12 +39,12 @@ module _ (rs : List FrameRecord) (fs : List ℕ) (F N : ℕ) where
     size = ap length (C .noPage) ∙ length-replicate {A = ℕ} mostFrames 0;
     held = λ g a. absurd (omega arith);
     clear = λ g a. rw (C .noPage) (clear-at mostFrames g);
-    counted = sym (count-zero (isUsed rs));
+    counted = sym (count-zero (usedIn rs));
     named = sym (count-zero (isOver rs fs N));
   }
 
   pub before-few : (f : ℕ) (seen : Seen) (t residents : List ℕ) (occupied over : ℕ) → Before rs fs F N f seen t residents occupied over → (occupied ≤ f) × (over ≤ slotCount * f)
-  before-few f seen t residents occupied over B = (rw (B .counted) (count-le f (isUsed rs)), rw (B .named) (count-le (slotCount * f) (isOver rs fs N)))
+  before-few f seen t residents occupied over B = (rw (B .counted) (count-le f (usedIn rs)), rw (B .named) (count-le (slotCount * f) (isOver rs fs N)))
 
   module _ (f : ℕ) (seen : Seen) (t residents : List ℕ) (occupied over : ℕ) (B : Before rs fs F N f seen t residents occupied over) (l : f < F)
       (seen' : Seen) (more : ℕ) (ok : Bool) (D : FrameNoted fs F N f (recordAt rs f) (aboveUsed rs (recordAt rs f)) seen seen' more ok) where
@@ -60,7 +60,7 @@ module _ (rs : List FrameRecord) (fs : List ℕ) (F N : ℕ) where
         not-twice (numbers rs fs N) (perFrame * (f + 1)) (perFrame * F) (omega arith) (fit .once) (rw z at (progress (fit .fits f l)))
 
     over-more : ok ≡ true → over + more ≡ countIf (slotCount * (f + 1)) (isOver rs fs N)
-    over-more z = elim (case (recordAt rs f .used)) [
+    over-more z = elim (case (isUsed (recordAt rs f))) [
       | on u ↦ sum (B .named) (D .counts z u) ∙ sym (over-used rs fs N f u)
       | off u ↦ sum (B .named) (D .nothing z u) ∙ add-zero _ ∙ sym (over-empty rs fs N f u)
     ]
@@ -69,7 +69,7 @@ module _ (rs : List FrameRecord) (fs : List ℕ) (F N : ℕ) where
         sum a b = rw (a, b)
 
     -- the frame fits
-    pub before-more : f < mostFrames → ok ≡ true → Before rs fs F N (f + 1) seen' (set t f (parentIn rs f)) (set residents f (pageIn rs f)) (occupied + boolByte (recordAt rs f .used)) (over + more)
+    pub before-more : f < mostFrames → ok ≡ true → Before rs fs F N (f + 1) seen' (set t f (parentIn rs f)) (set residents f (pageIn rs f)) (occupied + boolByte (isUsed (recordAt rs f))) (over + more)
     before-more m z = record {
       most = omega arith;
       fits = λ g m. elim (ℕ-discrete g f) [ yes e ↦ rw e (D .fits z) | no e ↦ B .fits g (omega arith) ];
@@ -79,7 +79,7 @@ module _ (rs : List FrameRecord) (fs : List ℕ) (F N : ℕ) where
       size = length-set residents f (pageIn rs f) ∙ B .size;
       held = entries-more (pageIn rs) residents f _ (omega (arith, B .size)) refl (B .held);
       clear = λ g a. getD-set-other residents f g (pageIn rs f) 0 (λ e. omega arith) ∙ B .clear g (omega arith);
-      counted = ap (λ (n : ℕ). n + boolByte (recordAt rs f .used)) (B .counted) ∙ sym (count-more f (isUsed rs));
+      counted = ap (λ (n : ℕ). n + boolByte (isUsed (recordAt rs f))) (B .counted) ∙ sym (count-more f (usedIn rs));
       named = over-more z;
     }
 

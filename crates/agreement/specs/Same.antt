@@ -7,7 +7,8 @@ use mathlib.Core.List.{List}
 use native.Mathlib.Omega.{arith}
 use native.Mathlib.Nat.{le-refl}
 use native.Mathlib.Decide.{ℕ-discrete, decLt}
-use borrow.Author.Tests.{le-leb, leb-true}
+use borrow.Author.Tests.{eqb-true, le-leb, leb-true}
+use lib.Dec.{eqb}
 use Rattle.page.specs.Figures.{slotCount, recordCount}
 use Rattle.page.specs.Word.{frameIn, frameWord, Number, Swizzled, high, low, reading}
 use Rattle.page.specs.Page.{name}
@@ -15,7 +16,7 @@ use Rattle.machine.specs.declared.FrameRecord.{FrameRecord}
 use Rattle.machine.specs.declared.Pool.{Pool}
 use Rattle.machine.specs.Tests.{_and_}
 use Rattle.machine.specs.Laws.TestLaws.{clash, case, on, off, is-off, both, and-true}
-use Rattle.machine.specs.Machine.{recordAt, pageIn, occupied}
+use Rattle.machine.specs.Machine.{isUsed, recordAt, pageIn, occupied}
 use Rattle.machine.specs.Agreement.{parentOf, parentSlotOf, agree}
 use Rattle.machine.specs.Laws.AgreementFacts.{occupied-lt, occupied-used, make-occupied, InRange, Points, Agreed, facts, tests}
 use Rattle.machine.specs.Laws.Parents.{climb-zero, climb-suc, climb-reach, reach-climb}
@@ -23,16 +24,20 @@ use Rattle.seen.specs.Seen.{Seen}
 use Rattle.agreement.specs.Sizes.{Sizes}
 use Rattle.agreement.specs.Deciding.{Decides, holds, fails}
 use Rattle.agreement.specs.Counting.{countIf, without, without-of, without-other, count-without, Into, into-le, into-all}
-use Rattle.agreement.specs.Fit.{Blank, RootFits, Resident, Linked, Fits, RestBlank, perFrame, numbers, numberBelow, isOver, isUsed, aboveUsed, FramesFit, parentIn, entry, AllLead, Settled, Outcome}
+use Rattle.agreement.specs.Fit.{Blank, RootFits, Resident, Linked, Fits, RestBlank, perFrame, numbers, numberBelow, isOver, usedIn, aboveUsed, FramesFit, parentIn, entry, AllLead, Settled, Outcome}
 use Rattle.agreement.specs.FitLaws.{blank-of, of-blank, below-low, below-high, numbers-page, numbers-word, numbers-empty}
 use Rattle.agreement.specs.Steps.{Below, climb-same}
 
-over-of : (rs : List FrameRecord) (fs : List ℕ) (N j : ℕ) → isOver rs fs N j ≡ true → (recordAt rs (j / slotCount) .used ≡ true) × (N ≤ name fs (j / slotCount) (j % slotCount))
+-- a flag that is 1 is in its range
+flag-range : {b : ℕ} → eqb b 1 ≡ true → b ≤ 1
+flag-range {b} u = let e : b ≡ 1 = eqb-true b 1 u in omega arith
+
+over-of : (rs : List FrameRecord) (fs : List ℕ) (N j : ℕ) → isOver rs fs N j ≡ true → (isUsed (recordAt rs (j / slotCount)) ≡ true) × (N ≤ name fs (j / slotCount) (j % slotCount))
 unfolding isOver
-over-of rs fs N j t = let a = and-true (recordAt rs (j / slotCount) .used) _ t in (a .0, leb-true N _ (a .1))
+over-of rs fs N j t = let a = and-true (isUsed (recordAt rs (j / slotCount))) _ t in (a .0, leb-true N _ (a .1))
 
 -- the word in slot k of frame f
-of-over : (rs : List FrameRecord) (fs : List ℕ) (N f k : ℕ) → k < slotCount → recordAt rs f .used ≡ true → N ≤ name fs f k → isOver rs fs N (slotCount * f + k) ≡ true
+of-over : (rs : List FrameRecord) (fs : List ℕ) (N f k : ℕ) → k < slotCount → isUsed (recordAt rs f) ≡ true → N ≤ name fs f k → isOver rs fs N (slotCount * f + k) ≡ true
 unfolding isOver
 of-over rs fs N f k h u l =
     let a : (slotCount * f + k) / slotCount ≡ f = omega arith in
@@ -45,18 +50,18 @@ module _ (p : Pool) (fs : List ℕ) (S : Sizes (p .count) (p .pages) fs) where
     root-fits : RootFits (recordAt (p .records) 0)
     root-fits = fits 0 (omega (arith, S .least)) .root refl
 
-    resident : (f : ℕ) → f ≢ 0 → f < p .count → recordAt (p .records) f .used ≡ true → Resident (p .count) (p .pages) (recordAt (p .records) f)
+    resident : (f : ℕ) → f ≢ 0 → f < p .count → isUsed (recordAt (p .records) f) ≡ true → Resident (p .count) (p .pages) (recordAt (p .records) f)
     resident f n l u = fits f l .resident n u
 
-    linked : (f : ℕ) → f ≢ 0 → f < p .count → recordAt (p .records) f .used ≡ true → Linked fs f (recordAt (p .records) f) (recordAt (p .records) (parentOf p f) .used)
+    linked : (f : ℕ) → f ≢ 0 → f < p .count → isUsed (recordAt (p .records) f) ≡ true → Linked fs f (recordAt (p .records) f) (isUsed (recordAt (p .records) (parentOf p f)))
     linked f n l u =
         let e : parentOf p f % recordCount ≡ parentOf p f = omega (arith, resident f n l u .parent, S .most) in
         let k = fits f l .linked n u in
-        record { occupied = sym (ap (λ (i : ℕ). recordAt (p .records) i .used) e) ∙ k .occupied; word = k .word }
+        record { occupied = sym (ap (λ (i : ℕ). isUsed (recordAt (p .records) i)) e) ∙ k .occupied; word = k .word }
 
     -- the frames but the root's
     isOther : ℕ → Bool
-    isOther = without 0 (isUsed (p .records))
+    isOther = without 0 (usedIn (p .records))
 
     -- where the word stands that names frame f
     place : ℕ → ℕ
@@ -66,14 +71,14 @@ module _ (p : Pool) (fs : List ℕ) (S : Sizes (p .count) (p .pages) fs) where
     words-of : Into (p .count) (slotCount * p .count) isOther (isOver (p .records) fs (p .pages)) place
     unfolding place isOther
     words-of = record {
-      below = λ f l t. let o = without-of 0 (isUsed (p .records)) f t in let r = resident f (o .0) l (o .1) in omega (arith, r .parent, r .slot);
+      below = λ f l t. let o = without-of 0 (usedIn (p .records)) f t in let r = resident f (o .0) l (o .1) in omega (arith, r .parent, r .slot);
       lands = λ f l t.
-          let o = without-of 0 (isUsed (p .records)) f t in
+          let o = without-of 0 (usedIn (p .records)) f t in
           let k = linked f (o .0) l (o .1) in
           of-over (p .records) fs (p .pages) (parentOf p f) (parentSlotOf p f) (resident f (o .0) l (o .1) .slot) (k .occupied) (omega (arith, k .word, S .pages));
       apart = λ f g l m t v e.
-          let o = without-of 0 (isUsed (p .records)) f t in
-          let q = without-of 0 (isUsed (p .records)) g v in
+          let o = without-of 0 (usedIn (p .records)) f t in
+          let q = without-of 0 (usedIn (p .records)) g v in
           let a = resident f (o .0) l (o .1) in
           let b = resident g (q .0) m (q .1) in
           let x : parentOf p f ≡ parentOf p g = omega (arith, a .slot, b .slot) in
@@ -83,15 +88,15 @@ module _ (p : Pool) (fs : List ℕ) (S : Sizes (p .count) (p .pages) fs) where
     }
 
     -- where there are no more such words, each names a frame that points back to it
-    over-named : countIf (slotCount * p .count) (isOver (p .records) fs (p .pages)) + 1 ≡ countIf (p .count) (isUsed (p .records))
+    over-named : countIf (slotCount * p .count) (isOver (p .records) fs (p .pages)) + 1 ≡ countIf (p .count) (usedIn (p .records))
         → (f k : ℕ) → occupied p f ≡ true → k < slotCount → p .pages ≤ name fs f k → (g : ℕ) × Points p g f k × (name fs f k ≡ frameWord g)
     unfolding place isOther
     over-named even f k o h l =
-        let all : countIf (p .count) (isUsed (p .records)) ≡ countIf (p .count) isOther + 1 = count-without (p .count) 0 (isUsed (p .records)) (omega (arith, S .least)) (root-fits .used) in
+        let all : countIf (p .count) (usedIn (p .records)) ≡ countIf (p .count) isOther + 1 = count-without (p .count) 0 (usedIn (p .records)) (omega (arith, S .least)) (root-fits .used) in
         let few : countIf (slotCount * p .count) (isOver (p .records) fs (p .pages)) ≤ countIf (p .count) isOther = omega arith in
         let r = into-all (p .count) (slotCount * p .count) isOther (isOver (p .records) fs (p .pages)) place words-of few
         (slotCount * f + k) (omega (arith, occupied-lt p f o)) (of-over (p .records) fs (p .pages) f k h (occupied-used p f o) l) in
-        let t = without-of 0 (isUsed (p .records)) (r .0) (r .2) in
+        let t = without-of 0 (usedIn (p .records)) (r .0) (r .2) in
         let a = resident (r .0) (t .0) (r .1) (t .1) in
         let e : slotCount * parentOf p (r .0) + parentSlotOf p (r .0) ≡ slotCount * f + k = r .3 in
         let x : parentOf p (r .0) ≡ f = omega (arith, a .slot) in
@@ -146,15 +151,15 @@ module _ (p : Pool) (fs : List ℕ) (S : Sizes (p .count) (p .pages) fs) where
 
     blank-range : (r : FrameRecord) → Blank r → InRange p r
     blank-range r b =
-        record { page = omega (arith, b .page, S .some); pins = omega (arith, b .pins); usage = omega (arith, b .usage); parent = omega (arith, b .parent, S .least); slot = omega (arith, b .slot) }
+        record { page = omega (arith, b .page, S .some); pins = omega (arith, b .pins); usage = omega (arith, b .usage); parent = omega (arith, b .parent, S .least); slot = omega (arith, b .slot); used = omega (arith, b .used); dirty = omega (arith, b .dirty) }
 
     in-range : (f : ℕ) → f < recordCount → InRange p (recordAt (p .records) f)
     in-range f l = elim (decLt f (p .count)) [
       | no m ↦ blank-range _ (rest f (omega arith) l)
       | yes m ↦ elim (ℕ-discrete f 0) [
-        | yes z ↦ rw z (record { page = omega (arith, root .page, S .some); pins = root .pins; usage = root .usage; parent = omega (arith, root .parent, S .least); slot = omega (arith, root .slot) })
-        | no z ↦ elim (case (recordAt (p .records) f .used)) [
-          | on u ↦ let r = resident (fit .fits) f z m u in record { page = r .page; pins = r .pins; usage = r .usage; parent = r .parent; slot = r .slot }
+        | yes z ↦ rw z (record { page = omega (arith, root .page, S .some); pins = root .pins; usage = root .usage; parent = omega (arith, root .parent, S .least); slot = omega (arith, root .slot); used = flag-range (root .used); dirty = root .dirty })
+        | no z ↦ elim (case (isUsed (recordAt (p .records) f))) [
+          | on u ↦ let r = resident (fit .fits) f z m u in record { page = r .page; pins = r .pins; usage = r .usage; parent = r .parent; slot = r .slot; used = flag-range u; dirty = r .dirty }
           | off u ↦ blank-range _ (fit .fits f m .empty u)
         ]
       ]
@@ -164,7 +169,7 @@ module _ (p : Pool) (fs : List ℕ) (S : Sizes (p .count) (p .pages) fs) where
     blank-record f l o = elim (decLt f (p .count)) [
       | no m ↦ rest f (omega arith) l
       | yes m ↦
-          let u : recordAt (p .records) f .used ≡ false = is-off _ (λ v. clash (sym (make-occupied p f m v) ∙ o)) in
+          let u : isUsed (recordAt (p .records) f) ≡ false = is-off _ (λ v. clash (sym (make-occupied p f m v) ∙ o)) in
           fit .fits f m .empty u
     ]
 
@@ -214,7 +219,7 @@ module _ (p : Pool) (fs : List ℕ) (S : Sizes (p .count) (p .pages) fs) where
 
   -- ================ from the facts to the code's tests
   module _ (A : Agreed p fs) where
-    unused : (f : ℕ) → recordAt (p .records) f .used ≡ false → occupied p f ≡ false
+    unused : (f : ℕ) → isUsed (recordAt (p .records) f) ≡ false → occupied p f ≡ false
     unused f u = is-off _ (λ o. clash (sym (occupied-used p f o) ∙ u))
 
     is-rest : RestBlank (p .records) (p .count)
@@ -225,6 +230,7 @@ module _ (p : Pool) (fs : List ℕ) (S : Sizes (p .count) (p .pages) fs) where
       used = occupied-used p 0 (A .root);
       pins = A .inRange 0 (omega arith) .pins;
       usage = A .inRange 0 (omega arith) .usage;
+      dirty = A .inRange 0 (omega arith) .dirty;
       slot = A .rootSlot;
       parent = A .rootParent;
       page = A .rootPage;
@@ -233,12 +239,12 @@ module _ (p : Pool) (fs : List ℕ) (S : Sizes (p .count) (p .pages) fs) where
     is-resident : (f : ℕ) → f < p .count → f ≢ 0 → occupied p f ≡ true → Resident (p .count) (p .pages) (recordAt (p .records) f)
     is-resident f l n o =
         let r = A .inRange f (omega (arith, S .most)) in
-        record { pins = r .pins; usage = r .usage; slot = r .slot; parent = r .parent; page = r .page; other = λ e. n (A .apart f 0 o (A .root) (e ∙ sym (A .rootPage))) }
+        record { pins = r .pins; usage = r .usage; dirty = r .dirty; slot = r .slot; parent = r .parent; page = r .page; other = λ e. n (A .apart f 0 o (A .root) (e ∙ sym (A .rootPage))) }
 
     is-linked : (f : ℕ) → f < p .count → f ≢ 0 → occupied p f ≡ true → Linked fs f (recordAt (p .records) f) (aboveUsed (p .records) (recordAt (p .records) f))
     is-linked f l n o =
         let e : parentOf p f % recordCount ≡ parentOf p f = omega (arith, is-resident f l n o .parent, S .most) in
-        record { occupied = ap (λ (i : ℕ). recordAt (p .records) i .used) e ∙ occupied-used p _ (A .parent f o n); word = A .parentWord f o n }
+        record { occupied = ap (λ (i : ℕ). isUsed (recordAt (p .records) i)) e ∙ occupied-used p _ (A .parent f o n); word = A .parentWord f o n }
 
     is-fit : (f : ℕ) → f < p .count → Fits fs (p .count) (p .pages) f (recordAt (p .records) f) (aboveUsed (p .records) (recordAt (p .records) f))
     is-fit f l = record {
@@ -268,7 +274,7 @@ module _ (p : Pool) (fs : List ℕ) (S : Sizes (p .count) (p .pages) fs) where
         ]
 
     at-frame : (i f j : ℕ) → i ≡ perFrame * f + j → j < perFrame → f < p .count → At i
-    at-frame i f j e h l = elim (case (recordAt (p .records) f .used)) [
+    at-frame i f j e h l = elim (case (isUsed (recordAt (p .records) f))) [
       | off u ↦ nothing (ap (numbers (p .records) fs (p .pages)) e ∙ numbers-empty (p .records) fs (p .pages) f j h u)
       | on u ↦ elim (ℕ-discrete j 0) [
         | yes z ↦ let q : i ≡ perFrame * f = omega arith in
@@ -308,7 +314,7 @@ module _ (p : Pool) (fs : List ℕ) (S : Sizes (p .count) (p .pages) fs) where
     unfolding isOther
     frames-of = record {
       below = λ j l t. occupied-lt p _ (swizzled j l t .at);
-      lands = λ j l t. let q = swizzled j l t in without-other 0 (isUsed (p .records)) _ (q .other) ∙ occupied-used p _ (q .at);
+      lands = λ j l t. let q = swizzled j l t in without-other 0 (usedIn (p .records)) _ (q .other) ∙ occupied-used p _ (q .at);
       apart = λ i j l m t v e.
           let a = swizzled i l t in
           let b = swizzled j m v in
@@ -317,12 +323,12 @@ module _ (p : Pool) (fs : List ℕ) (S : Sizes (p .count) (p .pages) fs) where
           omega arith;
     }
 
-    is-even : countIf (slotCount * p .count) (isOver (p .records) fs (p .pages)) + 1 ≡ countIf (p .count) (isUsed (p .records))
+    is-even : countIf (slotCount * p .count) (isOver (p .records) fs (p .pages)) + 1 ≡ countIf (p .count) (usedIn (p .records))
     unfolding isOther
     is-even =
         let a : countIf (slotCount * p .count) (isOver (p .records) fs (p .pages)) ≤ countIf (p .count) (isOther is-fit) = into-le _ _ _ _ _ frames-of in
         let b : countIf (p .count) (isOther is-fit) ≤ countIf (slotCount * p .count) (isOver (p .records) fs (p .pages)) = into-le _ _ _ _ _ (words-of is-fit) in
-        let c : countIf (p .count) (isUsed (p .records)) ≡ countIf (p .count) (isOther is-fit) + 1 = count-without (p .count) 0 (isUsed (p .records)) (omega (arith, S .least)) (is-root .used) in
+        let c : countIf (p .count) (usedIn (p .records)) ≡ countIf (p .count) (isOther is-fit) + 1 = count-without (p .count) 0 (usedIn (p .records)) (omega (arith, S .least)) (is-root .used) in
         omega arith
 
     is-frames : FramesFit (p .records) fs (p .count) (p .pages)

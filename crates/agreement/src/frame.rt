@@ -40,7 +40,7 @@ fn is_fitting(
     if frame.0 == 0 {
         return crate::record::root_fits(rec);
     }
-    if rec.used {
+    if rec.used == 1 {
         if !crate::record::resident_fits(rec, count, pages) {
             return false;
         }
@@ -68,7 +68,7 @@ pub fn note(
             fits: false,
         };
     }
-    if rec.used {
+    if rec.used == 1 {
         let start = FrameIndex::start(frame);
         return crate::words::note_numbers(frames, start, rec.page, pages, seen);
     }

@@ -34,12 +34,12 @@ pub fn agrees(pool: Pool, frames: &[u8], residents: &mut Residents, seen: &mut S
         let rec = records[f];
         let above = records[page::wide::from_u8(rec.parent.0) % FrameIndex::MOST];
         let frame = FrameIndex(f as u8);
-        let noted = frame::note(frames, frame, rec, above.used, count, n, seen);
+        let noted = frame::note(frames, frame, rec, above.used == 1, count, n, seen);
         if !noted.fits {
             return false;
         }
         over += noted.over;
-        occupied += rec.used as u32;
+        occupied += (rec.used == 1) as u32;
         parents[f] = rec.parent.0;
         residents[f] = rec.page.0;
         f += 1;

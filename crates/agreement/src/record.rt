@@ -6,8 +6,11 @@ ghost use mathlib.Core.Path.{_≡_};
 ghost use Rattle.agreement.specs.Deciding.{Decides};
 ghost use Rattle.agreement.specs.Fit.{Blank, firstFields, lastFields, RootFits, Resident};
 
+// The largest value of a flag.
+const MAX_FLAG: u8 = 1;
+
 // A record's fields before its parent, and those after it, as the digits of one number.
-pub fn first_fields(used: bool, dirty: bool, usage: u8, slot: u8) -> u32
+pub fn first_fields(used: u8, dirty: u8, usage: u8, slot: u8) -> u32
     ensures { λ r. ⌜ r ≡ firstFields used dirty usage slot ⌝ }
 {
     used as u32 + 256 * (dirty as u32) + 65536 * (usage as u32) + 16777216 * (slot as u32)
@@ -23,10 +26,10 @@ pub fn last_fields(pins: u16, page: u16) -> u32
 pub fn is_blank(rec: FrameRecord) -> bool
     ensures { λ r. ⌜ Decides r (Blank rec) ⌝ }
 {
-    if rec.used {
+    if rec.used != 0 {
         return false;
     }
-    if rec.dirty {
+    if rec.dirty != 0 {
         return false;
     }
     if rec.usage != 0 {
@@ -54,6 +57,9 @@ pub fn root_fits(rec: FrameRecord) -> bool
     if FrameIndex::MAX_USAGE < rec.usage {
         return false;
     }
+    if MAX_FLAG < rec.dirty {
+        return false;
+    }
     if rec.slot != 0 {
         return false;
     }
@@ -63,7 +69,7 @@ pub fn root_fits(rec: FrameRecord) -> bool
     if rec.page.0 != 0 {
         return false;
     }
-    rec.used
+    rec.used == 1
 }
 
 // Is another occupied frame's record in range, and its page not the root's.
@@ -74,6 +80,9 @@ pub fn resident_fits(rec: FrameRecord, count: usize, pages: u32) -> bool
         return false;
     }
     if FrameIndex::MAX_USAGE < rec.usage {
+        return false;
+    }
+    if MAX_FLAG < rec.dirty {
         return false;
     }
     if PageNumber::SLOTS <= rec.slot as usize {

@@ -17,7 +17,7 @@ fn dirtied(rec: FrameRecord) -> FrameRecord
     ensures { λ r. ⌜ r ≡ dirty rec ⌝ }
 {
     let mut next = rec;
-    next.dirty = true;
+    next.dirty = 1;
     next
 }
 

@@ -13,7 +13,7 @@ use Rattle.machine.specs.declared.Handle.{Handle}
 use Rattle.machine.specs.declared.Pool.{Pool}
 use Rattle.machine.specs.Tests.{_and_, firstBroken}
 use Rattle.machine.specs.Laws.TestLaws.{and-no}
-use Rattle.machine.specs.Machine.{State, recordAt}
+use Rattle.machine.specs.Machine.{State, isUsed, recordAt}
 use Rattle.machine.specs.Rules.{handleFits}
 use Rattle.machine.specs.Calls.{poolRules}
 use Rattle.machine.specs.Laws.Ready.{Kept, rules-kept}
@@ -24,7 +24,7 @@ recordPlace h = h .frame .0 % mostFrames
 
 -- rule 3, of F frames and the record at that place
 unfoldable pub heldFits : ℕ → FrameRecord → Handle → Bool
-heldFits F r h = ltb (h .frame .0) F and r .used and eqb (r .page .0) (h .page .0) and ltb 0 (r .pins)
+heldFits F r h = ltb (h .frame .0) F and isUsed r and eqb (r .page .0) (h .page .0) and ltb 0 (r .pins)
 
 -- the frame is its own place where it is one of F; where it isn't, the record says nothing
 pub held-fits : (p : Pool) (h : Handle) → p .count ≤ mostFrames → heldFits (p .count) (recordAt (p .records) (recordPlace h)) h ≡ handleFits p h
@@ -33,8 +33,8 @@ held-fits p h l = elim (decLt (h .frame .0) (p .count)) [
   | yes b ↦ let e : recordPlace h ≡ h .frame .0 = omega arith in rw e
   | no b ↦
       let e : ltb (h .frame .0) (p .count) ≡ false = le-ltb (h .frame .0) (p .count) (omega arith) in
-      sym (and-no (recordAt (p .records) (recordPlace h) .used and eqb (recordAt (p .records) (recordPlace h) .page .0) (h .page .0) and ltb 0 (recordAt (p .records) (recordPlace h) .pins)) e)
-      ∙ and-no (recordAt (p .records) (h .frame .0) .used and eqb (recordAt (p .records) (h .frame .0) .page .0) (h .page .0) and ltb 0 (recordAt (p .records) (h .frame .0) .pins)) e
+      sym (and-no (isUsed (recordAt (p .records) (recordPlace h)) and eqb (recordAt (p .records) (recordPlace h) .page .0) (h .page .0) and ltb 0 (recordAt (p .records) (recordPlace h) .pins)) e)
+      ∙ and-no (isUsed (recordAt (p .records) (h .frame .0)) and eqb (recordAt (p .records) (h .frame .0) .page .0) (h .page .0) and ltb 0 (recordAt (p .records) (h .frame .0) .pins)) e
 ]
 
 -- how many pages there are in so many bytes

@@ -52,7 +52,7 @@ fn handle_fits(count: usize, held: FrameRecord, handle: Handle) -> bool
     if count <= handle.frame.0 as usize {
         return false;
     }
-    if held.used {
+    if held.used == 1 {
         if held.page.0 != handle.page.0 {
             return false;
         }

@@ -20,7 +20,7 @@ parentSlotOf p f = recordAt (p .records) f .slot
 -- a record is all zero
 unfoldable pub isBlank : FrameRecord → Bool
 isBlank r =
-    not (r .used) and not (r .dirty) and eqb (r .usage) 0 and eqb (r .slot) 0 and eqb (r .parent .0) 0 and eqb (r .pins) 0 and eqb (r .page .0) 0
+    eqb (r .used) 0 and eqb (r .dirty) 0 and eqb (r .usage) 0 and eqb (r .slot) 0 and eqb (r .parent .0) 0 and eqb (r .pins) 0 and eqb (r .page .0) 0
 
 -- "Frame 0 holds page 0 and has no parent (its two parent fields are 0)."
 unfoldable pub rootInPlace : Pool → Bool
@@ -37,7 +37,7 @@ handInRange p = ltb (p .hand .0) (p .count)
 
 -- "Every field is in its range."
 unfoldable pub fieldsInRange : Pool → FrameRecord → Bool
-fieldsInRange p r = ltb (r .page .0) (p .pages) and leb (r .pins) maxPins and leb (r .usage) maxUsage and ltb (r .parent .0) (p .count) and ltb (r .slot) slotCount
+fieldsInRange p r = ltb (r .page .0) (p .pages) and leb (r .pins) maxPins and leb (r .usage) maxUsage and ltb (r .parent .0) (p .count) and ltb (r .slot) slotCount and leb (r .used) 1 and leb (r .dirty) 1
 
 unfoldable pub allInRange : Pool → Bool
 allInRange p = every recordCount (λ f. fieldsInRange p (recordAt (p .records) f))

@@ -2,6 +2,7 @@
 pub mod TestLaws
 pub mod PlainLaws
 pub mod AgreementFacts
+pub mod Flags
 pub mod Parents
 pub mod FoundLaws
 pub mod SweepLaws

@@ -1,6 +1,6 @@
 -- The machine: records, frames and store as values.
 use Prim.Native.Nat.{ℕ, zero, suc, _+_, _-_, min}
-use mathlib.Core.Bool.{Bool, true, false}
+use mathlib.Core.Bool.{Bool}
 use mathlib.Core.List.{List}
 use lib.Dec.{eqb, ltb}
 use lib.ListN.{getD, set, replicate}
@@ -38,15 +38,15 @@ isRoot f = eqb f 0
 
 -- the all-zero record, an empty frame's
 abbrev pub blank : FrameRecord
-blank = record { used = false; dirty = false; usage = 0; slot = 0; parent = frameIndex 0; pins = 0; page = pageNumber 0 }
+blank = record { used = 0; dirty = 0; usage = 0; slot = 0; parent = frameIndex 0; pins = 0; page = pageNumber 0 }
 
 -- page 0's record as open makes it: pins 0, usage 0, clean, no parent
 abbrev pub rootRecord : FrameRecord
-rootRecord = record { used = true; dirty = false; usage = 0; slot = 0; parent = frameIndex 0; pins = 0; page = pageNumber 0 }
+rootRecord = record { used = 1; dirty = 0; usage = 0; slot = 0; parent = frameIndex 0; pins = 0; page = pageNumber 0 }
 
 -- the record of page q, loaded for slot k of frame f: "pins 1, heat 1, clean, its parent recorded"
 abbrev pub loadedRecord : ℕ → ℕ → ℕ → FrameRecord
-loadedRecord q f k = record { used = true; dirty = false; usage = 1; slot = k; parent = frameIndex f; pins = 1; page = pageNumber q }
+loadedRecord q f k = record { used = 1; dirty = 0; usage = 1; slot = k; parent = frameIndex f; pins = 1; page = pageNumber q }
 
 -- "gains one pin and one heat (heat stops at 3)"
 abbrev pub pinned : FrameRecord → FrameRecord
@@ -56,19 +56,31 @@ pinned r = record { used = r .used; dirty = r .dirty; usage = min maxUsage (r .u
 abbrev pub unpinned : FrameRecord → FrameRecord
 unpinned r = record { used = r .used; dirty = r .dirty; usage = r .usage; slot = r .slot; parent = r .parent; pins = r .pins - 1; page = r .page }
 
+-- another usage (heat)
+abbrev pub withUsage : FrameRecord → ℕ → FrameRecord
+withUsage r u = record { used = r .used; dirty = r .dirty; usage = u; slot = r .slot; parent = r .parent; pins = r .pins; page = r .page }
+
 -- one usage (heat) off
 abbrev pub cooled : FrameRecord → FrameRecord
-cooled r = record { used = r .used; dirty = r .dirty; usage = r .usage - 1; slot = r .slot; parent = r .parent; pins = r .pins; page = r .page }
+cooled r = withUsage r (r .usage - 1)
 
 -- one usage (heat) more, to 3 at most
 abbrev pub warmed : FrameRecord → FrameRecord
-warmed r = record { used = r .used; dirty = r .dirty; usage = min maxUsage (r .usage + 1); slot = r .slot; parent = r .parent; pins = r .pins; page = r .page }
+warmed r = withUsage r (min maxUsage (r .usage + 1))
 
 abbrev pub dirtied : FrameRecord → FrameRecord
-dirtied r = record { used = r .used; dirty = true; usage = r .usage; slot = r .slot; parent = r .parent; pins = r .pins; page = r .page }
+dirtied r = record { used = r .used; dirty = 1; usage = r .usage; slot = r .slot; parent = r .parent; pins = r .pins; page = r .page }
 
 abbrev pub cleaned : FrameRecord → FrameRecord
-cleaned r = record { used = r .used; dirty = false; usage = r .usage; slot = r .slot; parent = r .parent; pins = r .pins; page = r .page }
+cleaned r = record { used = r .used; dirty = 0; usage = r .usage; slot = r .slot; parent = r .parent; pins = r .pins; page = r .page }
+
+-- ---- the two flags, which are bytes: 1 is yes and 0 is no; "Every field is in its range" refuses any other
+
+abbrev pub isUsed : FrameRecord → Bool
+isUsed r = eqb (r .used) 1
+
+abbrev pub isDirty : FrameRecord → Bool
+isDirty r = eqb (r .dirty) 1
 
 -- the record of frame f
 abbrev pub recordAt : List FrameRecord → ℕ → FrameRecord
@@ -96,12 +108,12 @@ openedPool F N = record { records = set (replicate recordCount blank) 0 rootReco
 
 -- frame f is one of the F frames, and is occupied
 unfoldable pub occupied : Pool → ℕ → Bool
-occupied p f = ltb f (p .count) and recordAt (p .records) f .used
+occupied p f = ltb f (p .count) and isUsed (recordAt (p .records) f)
 
 -- the first frame from i on that holds page q, among n of them, and else the frame after those
 unfoldable pub foundFrom : List FrameRecord → ℕ → ℕ → ℕ → ℕ
 foundFrom rs q zero i = i
-foundFrom rs q (suc n) i = pick (recordAt rs i .used and eqb (pageIn rs i) q) i (foundFrom rs q n (i + 1))
+foundFrom rs q (suc n) i = pick (isUsed (recordAt rs i) and eqb (pageIn rs i) q) i (foundFrom rs q n (i + 1))
 
 -- the frame that holds page q, or F
 abbrev pub found : Pool → ℕ → ℕ

@@ -8,7 +8,7 @@ use Rattle.page.specs.Page.{slot, putSlot, pageOf, putPage}
 use Rattle.machine.specs.declared.FrameRecord.{FrameRecord}
 use Rattle.machine.specs.declared.Pool.{Pool}
 use Rattle.machine.specs.Tests.{pick}
-use Rattle.machine.specs.Machine.{State, state, blank, loadedRecord, cleaned, recordAt, pageIn, withRecord, withRecords}
+use Rattle.machine.specs.Machine.{State, state, blank, loadedRecord, cleaned, isDirty, recordAt, pageIn, withRecord, withRecords}
 
 -- ---- "The image of a resident page is its bytes with each swizzled word replaced by the number of the page in that frame."
 
@@ -32,7 +32,7 @@ imageOf rs fs f = imageTo (pageIn rs) (pageOf fs f) slotCount
 
 -- the store with the image of the page in frame f, whose record is r, if that is dirty
 unfoldable pub writtenOutBy : (ℕ → ℕ) → FrameRecord → List ℕ → List ℕ → ℕ → List ℕ
-writtenOutBy page r fs st f = pick (r .dirty) (putPage st (r .page .0) (imageTo page (pageOf fs f) slotCount)) st
+writtenOutBy page r fs st f = pick (isDirty r) (putPage st (r .page .0) (imageTo page (pageOf fs f) slotCount)) st
 
 abbrev pub writtenOut : List FrameRecord → List ℕ → List ℕ → ℕ → List ℕ
 writtenOut rs fs st f = writtenOutBy (pageIn rs) (recordAt rs f) fs st f

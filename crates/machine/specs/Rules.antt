@@ -10,7 +10,7 @@ use Rattle.page.specs.Page.{name}
 use Rattle.machine.specs.declared.Pool.{Pool}
 use Rattle.machine.specs.declared.Handle.{Handle}
 use Rattle.machine.specs.Tests.{_and_, _or_, Rule}
-use Rattle.machine.specs.Machine.{State, recordAt, found}
+use Rattle.machine.specs.Machine.{State, isUsed, recordAt, found}
 use Rattle.machine.specs.Agreement.{agree}
 use Rattle.machine.specs.Soundness.{sound}
 use Rattle.machine.specs.Sweep.{firstEmpty, isOpen, sweep}
@@ -25,7 +25,7 @@ lengthsFit F N fs st =
 unfoldable pub handleFits : Pool → Handle → Bool
 handleFits p h =
     let r = recordAt (p .records) (h .frame .0) in
-    ltb (h .frame .0) (p .count) and r .used and eqb (r .page .0) (h .page .0) and ltb 0 (r .pins)
+    ltb (h .frame .0) (p .count) and isUsed r and eqb (r .page .0) (h .page .0) and ltb 0 (r .pins)
 
 -- the offset is at most 192 and the length at most 192 − offset
 unfoldable pub rangeFits : ℕ → ℕ → Bool

@@ -13,7 +13,7 @@ use Rattle.machine.specs.declared.Pool.{Pool}
 use Rattle.machine.specs.declared.Standing.{Standing}
 use Rattle.machine.specs.declared.Standing.the-variants.{Root, Pinned, Parent, Evictable}
 use Rattle.machine.specs.Tests.{pick, _and_, every}
-use Rattle.machine.specs.Machine.{recordAt, frameIndex, isRoot, cooled, warmed}
+use Rattle.machine.specs.Machine.{isUsed, recordAt, frameIndex, isRoot, cooled, warmed}
 
 -- what a sweep ends with: whether a frame was taken and which, the looks, and the records and the hand after it
 pub record Swept : Type 0 where
@@ -30,7 +30,7 @@ after F h = pick (ltb (h + 1) F) (h + 1) 0
 -- the first empty frame of the n from h on, going round, or F
 unfoldable pub emptyFrom : List FrameRecord → ℕ → ℕ → ℕ → ℕ
 emptyFrom rs F zero h = F
-emptyFrom rs F (suc n) h = pick (recordAt rs h .used) (emptyFrom rs F n (after F h)) h
+emptyFrom rs F (suc n) h = pick (isUsed (recordAt rs h)) (emptyFrom rs F n (after F h)) h
 
 -- "the first empty one at or after the hand, going round", or F
 abbrev pub firstEmpty : Pool → ℕ

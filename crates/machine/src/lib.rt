@@ -5,8 +5,9 @@ use page::PageNumber;
 // What is known of one frame (document 01: its record). The all-zero record is the empty frame's.
 #[repr(C)]
 pub struct FrameRecord {
-    pub used: bool,
-    pub dirty: bool,
+    // Two flags, each a byte that is 0 or 1: what a host hands in is any byte, and rule 2 refuses the others.
+    pub used: u8,
+    pub dirty: u8,
     // Document 01: heat.
     pub usage: u8,
     pub slot: u8,

@@ -14,7 +14,7 @@ use Rattle.page.specs.Page.{slot, name, pageOf, putSlot, putPage, slot-pageOf, 
 use Rattle.machine.specs.declared.FrameRecord.{FrameRecord}
 use Rattle.machine.specs.declared.Pool.{Pool}
 use Rattle.machine.specs.Laws.TestLaws.{every-true, pick-yes, pick-no}
-use Rattle.machine.specs.Machine.{State, state, cleaned, recordAt, pageIn, withRecord, withRecords}
+use Rattle.machine.specs.Machine.{State, state, cleaned, isDirty, recordAt, pageIn, withRecord, withRecords}
 use Rattle.machine.specs.Moves.{imageTo, writtenOutBy, writtenOutTo, cleanedTo, settled}
 use Rattle.machine.specs.Sweep.{childless}
 use Rattle.machine.specs.Laws.MoveLaws.{image-length, image-own, writtenOutBy-ext, writtenOutTo-zero, writtenOutTo-suc, cleanedTo-zero, cleanedTo-suc, cleanedTo-above}
@@ -49,17 +49,17 @@ renamed-put b fs c d f k j o n m w hc hk ho hn hw hd = rw (hd, hw, ho, hn, hc, h
 
 -- ---- writing out
 
-pub written-clean : (page : ℕ → ℕ) (r : FrameRecord) (fs st : List ℕ) (f : ℕ) → r .dirty ≡ false → st ≡ writtenOutBy page r fs st f
+pub written-clean : (page : ℕ → ℕ) (r : FrameRecord) (fs st : List ℕ) (f : ℕ) → isDirty r ≡ false → st ≡ writtenOutBy page r fs st f
 unfolding writtenOutBy
 written-clean page r fs st f d = pick-no _ d refl
 
-pub written-dirty : (page : ℕ → ℕ) (r : FrameRecord) (fs st ts : List ℕ) (f : ℕ) → r .dirty ≡ true → ts ≡ putPage st (r .page .0) (imageTo page (pageOf fs f) slotCount)
+pub written-dirty : (page : ℕ → ℕ) (r : FrameRecord) (fs st ts : List ℕ) (f : ℕ) → isDirty r ≡ true → ts ≡ putPage st (r .page .0) (imageTo page (pageOf fs f) slotCount)
     → ts ≡ writtenOutBy page r fs st f
 unfolding writtenOutBy
 written-dirty page r fs st ts f d e = pick-yes _ d e
 
 -- the pages by the table are those by the records
-written-by-table : (rs : List FrameRecord) (t : List ℕ) (r : FrameRecord) (fs st : List ℕ) (f : ℕ) → Residents rs t → (r .dirty ≡ true → Named fs f)
+written-by-table : (rs : List FrameRecord) (t : List ℕ) (r : FrameRecord) (fs st : List ℕ) (f : ℕ) → Residents rs t → (isDirty r ≡ true → Named fs f)
     → writtenOutBy (pageBy t) r fs st f ≡ writtenOutBy (pageIn rs) r fs st f
 written-by-table rs t r fs st f h n = writtenOutBy-ext (pageBy t) (pageIn rs) r fs st f n (h .right)
 

@@ -8,6 +8,7 @@ use Rattle.page.specs.Figures.{pageSize, slotCount, mostFrames}
 use Rattle.page.specs.Word.{frameWord}
 use Rattle.page.specs.Page.{name, pageOf, putPage}
 use Rattle.machine.specs.declared.FrameRecord.{FrameRecord}
+use Rattle.machine.specs.Machine.{isDirty}
 use Rattle.machine.specs.Moves.{imageTo, writtenOutBy}
 
 -- every swizzled word of frame f names one of 64 frames
@@ -23,7 +24,7 @@ pub record Placed (q : ℕ) (fs st : List ℕ) (f : ℕ) : Type 0 where
 -- the page in frame f, whose record is r, can be written out
 pub record Writable (r : FrameRecord) (fs st : List ℕ) (f : ℕ) : Type 0 where
   pub placed : Placed (r .page .0) fs st f
-  pub words : r .dirty ≡ true → Named fs f
+  pub words : isDirty r ≡ true → Named fs f
 
 -- page q in the store is now the page in frame f as it is: its image, whatever page is in which frame
 abbrev pub StoredAsIs : ℕ → List ℕ → ℕ → List ℕ → List ℕ → Type 0

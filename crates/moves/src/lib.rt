@@ -19,8 +19,8 @@ pub fn empty_record() -> FrameRecord
     ensures { λ r. ⌜ r ≡ blank ⌝ }
 {
     FrameRecord {
-        used: false,
-        dirty: false,
+        used: 0,
+        dirty: 0,
         usage: 0,
         slot: 0,
         parent: FrameIndex(0),
@@ -60,8 +60,8 @@ pub fn load_page(
     let word = page::word::renamed(old, FrameIndex::word(frame));
     page::slot::put_in_slot(frames, parent, slot, word);
     FrameRecord {
-        used: true,
-        dirty: false,
+        used: 1,
+        dirty: 0,
         usage: 1,
         slot: slot as u8,
         parent,
@@ -81,7 +81,7 @@ pub fn settle_pages(pool: Pool, residents: &Residents, frames: &[u8], store: &mu
     while f < count {
         let mut record = next.records[f];
         out::write_out(record, residents, frames, store, FrameIndex(f as u8));
-        record.dirty = false;
+        record.dirty = 0;
         next.records[f] = record;
         f += 1;
     }

@@ -58,8 +58,7 @@ pub fn write_out(
     requires { ⌜ Writable rec (now frames) (now store) (frame .0) ⌝ }
     ensures { λ _. ⌜ now (store .exit) ≡ writtenOutBy (pageBy (now (residents .entry))) rec (now (frames .entry)) (now (store .entry)) (frame .0) ⌝ }
 {
-    let dirty = rec.dirty;
-    if !dirty {
+    if rec.dirty != 1 {
         return;
     }
     let page = rec.page;
@@ -71,8 +70,7 @@ pub fn write_bytes_out(rec: FrameRecord, frames: &[u8], store: &mut [u8], frame:
     requires { ⌜ Writable rec (now frames) (now store) (frame .0) × (childless (now frames) (frame .0) ≡ true) ⌝ }
     ensures { λ _. ⌜ WrittenAsIs rec (now (frames .entry)) (frame .0) (now (store .entry)) (now (store .exit)) ⌝ }
 {
-    let dirty = rec.dirty;
-    if !dirty {
+    if rec.dirty != 1 {
         return;
     }
     let page = rec.page;

@@ -10,11 +10,11 @@ use pool::PageNumber;
 use pool::Place;
 use pool::Pool;
 
-// Records in which no number stands twice, and the two flags go their own ways.
+// Records in which no number stands twice.
 fn marked_pool() -> Pool {
     let blank = FrameRecord {
-        used: false,
-        dirty: false,
+        used: 0,
+        dirty: 0,
         usage: 0,
         slot: 0,
         parent: FrameIndex(0),
@@ -25,8 +25,8 @@ fn marked_pool() -> Pool {
     let mut i = 0;
     while i < FrameIndex::MOST {
         records[i] = FrameRecord {
-            used: i % 2 == 1,
-            dirty: i % 3 == 1,
+            used: 192 + i as u8,
+            dirty: 255 - i as u8,
             usage: i as u8,
             slot: 64 + i as u8,
             parent: FrameIndex(128 + i as u8),

@@ -29,7 +29,7 @@ fn opened_pool(count: u16, pages: u16) -> Pool
     ensures { λ r. ⌜ r ≡ openedPool count pages ⌝ }
 {
     let mut pool = blank_pool(count, pages);
-    pool.records[0].used = true;
+    pool.records[0].used = 1;
     pool
 }
 

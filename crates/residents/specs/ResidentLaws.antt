@@ -26,8 +26,8 @@ use Rattle.residents.specs.Residents.{pageBy, Residents, inTable, holdsP
 blank-page : (r : FrameRecord) → isBlank r ≡ true → r .page .0 ≡ 0
 unfolding isBlank
 blank-page r t =
-    let a = and-true (not (r .used)) _ t in
-    let b = and-true (not (r .dirty)) _ (a .1) in
+    let a = and-true (eqb (r .used) 0) _ t in
+    let b = and-true (eqb (r .dirty) 0) _ (a .1) in
     let c = and-true (eqb (r .usage) 0) _ (b .1) in
     let d = and-true (eqb (r .slot) 0) _ (c .1) in
     let e = and-true (eqb (r .parent .0) 0) _ (d .1) in

@@ -13,7 +13,7 @@ use Rattle.page.specs.declared.PageNumber.{PageNumber}
 use Rattle.page.specs.Figures.{pageSize, mostFrames}
 use Rattle.machine.specs.Tests.{pick, _and_, firstBroken}
 use Rattle.machine.specs.Laws.TestLaws.{case, on, off, both, and-yes, and-no, or-none, pick-yes}
-use Rattle.machine.specs.Machine.{State, recordAt, pageIn, occupied, foundFrom, found}
+use Rattle.machine.specs.Machine.{State, isUsed, recordAt, pageIn, occupied, foundFrom, found}
 use Rattle.machine.specs.Sweep.{after, emptyFrom, firstEmpty}
 use Rattle.machine.specs.Laws.SweepLaws.{after-in}
 use Rattle.machine.specs.Laws.AgreementFacts.{occupied-used}
@@ -39,7 +39,7 @@ module _ (s : State) (K : Kept s) {residents : List ℕ} {seen : Seen} (H : Hand
   in-range : {f : ℕ} → f < s .pool .count → f < mostFrames
   in-range l = omega (arith, K .sized .most)
 
-  holds-used : (f : ℕ) → f < s .pool .count → holdsPage residents f ≡ recordAt (s .pool .records) f .used
+  holds-used : (f : ℕ) → f < s .pool .count → holdsPage residents f ≡ isUsed (recordAt (s .pool .records) f)
   unfolding occupied
   holds-used f l = holds-page s (K .sized .most) (K .agreed) residents (H .held) f (in-range l) ∙ sym (and-yes (lt-ltb f (s .pool .count) l) refl)
 
@@ -48,13 +48,13 @@ module _ (s : State) (K : Kept s) {residents : List ℕ} {seen : Seen} (H : Hand
   same-page : (f : ℕ) → f < s .pool .count → pageBy residents f ≡ pageIn (s .pool .records) f
   same-page f l = H .held .right f (in-range l)
 
-  empty-page : (f : ℕ) → f < s .pool .count → recordAt (s .pool .records) f .used ≡ false → pageBy residents f ≡ 0
+  empty-page : (f : ℕ) → f < s .pool .count → isUsed (recordAt (s .pool .records) f) ≡ false → pageBy residents f ≡ 0
   unfolding holdsPage
   empty-page f l u = eqb-true _ 0 (not-false _ (or-none (eqb f 0) _ (holds-used f l ∙ u) .1))
 
   -- an empty frame's entry is 0, which is page 0's number too
-  same-test : (q : ℕ) → q ≢ 0 → (f : ℕ) → f < s .pool .count → eqb (pageBy residents f) q ≡ (recordAt (s .pool .records) f .used and eqb (pageIn (s .pool .records) f) q)
-  same-test q z f l = elim (case (recordAt (s .pool .records) f .used)) [
+  same-test : (q : ℕ) → q ≢ 0 → (f : ℕ) → f < s .pool .count → eqb (pageBy residents f) q ≡ (isUsed (recordAt (s .pool .records) f) and eqb (pageIn (s .pool .records) f) q)
+  same-test q z f l = elim (case (isUsed (recordAt (s .pool .records) f))) [
     | on u ↦ and-yes u (ap (λ p. eqb p q) (same-page f l))
     | off u ↦ ne-eqb _ q (λ e. z (sym e ∙ empty-page f l u)) ∙ and-no _ u
   ]

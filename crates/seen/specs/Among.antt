@@ -1,17 +1,16 @@
 -- Rows of numbers, `w k` being number k of the row w, as the 16 words of a page: which numbers are among them. Assumes nothing.
-use Prim.Native.Nat.{ℕ, zero, suc, _+_, _*_, _<_}
-use mathlib.Core.Path.{_≡_, sym, _∙_, ap}
+use Prim.Native.Nat.{ℕ, _+_, _*_, _<_}
+use mathlib.Core.Path.{_≡_, sym, _∙_}
 use mathlib.Core.Logic.{_≢_}
 use mathlib.Core.Bool.{Bool, true, false, not}
 use mathlib.Core.List.{List}
 use native.Mathlib.Numerals.{add-one}
-use native.Mathlib.Nat.{add-zero}
 use native.Mathlib.Omega.{arith}
 use borrow.Author.Tests.{eq-eqb, ne-eqb, eqb-true, not-false}
 use lib.Dec.{eqb}
 use Rattle.page.specs.Figures.{slotCount}
 use Rattle.machine.specs.Tests.{_or_, some}
-use Rattle.machine.specs.Laws.TestLaws.{clash, case, on, off, same, is-off, or-left, or-right, or-second, some-zero, some-suc, true-some, some-true, some-false, some-ext}
+use Rattle.machine.specs.Laws.TestLaws.{clash, is-off, some-zero, some-suc, true-some, some-true, some-false}
 use Rattle.seen.specs.Fold.{or-same}
 
 -- one of the first m numbers is x

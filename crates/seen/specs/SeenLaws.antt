@@ -6,13 +6,13 @@ use mathlib.Core.Bool.{Bool, true, false, not}
 use native.Mathlib.Numerals.{add-one}
 use native.Mathlib.Omega.{arith}
 use native.Mathlib.Decide.{ℕ-discrete}
-use borrow.Author.Tests.{eq-eqb, ne-eqb, lt-ltb, ltb-true, not-true, not-false}
+use borrow.Author.Tests.{eq-eqb, ne-eqb, lt-ltb, ltb-true, not-true}
 use lib.Dec.{eqb, ltb}
 use lib.ListN.{length, set, length-set, length-replicate, getD-replicate}
 use lib.Seq.{getD-set-same, getD-set-other}
 use Rattle.page.specs.Figures.{mostPages}
 use Rattle.machine.specs.Tests.{_and_, _or_, every}
-use Rattle.machine.specs.Laws.TestLaws.{clash, case, on, off, same, is-off, both, and-true, and-yes, and-no, or-left, or-right, or-second, or-none, or-off, every-zero, every-suc, every-true, true-every, every-false}
+use Rattle.machine.specs.Laws.TestLaws.{clash, case, on, off, same, is-off, both, and-true, and-no, or-left, or-right, or-second, or-none, or-off, every-zero, every-true, true-every, every-false}
 use Rattle.seen.specs.Fold.{or-same}
 use Rattle.seen.specs.Among.{among, among-zero, among-hit, among-none}
 use Rattle.seen.specs.Seen.{Seen, none, noted, Table, Tells, Notes, fresh, Marked}
@@ -89,7 +89,8 @@ fresh-ext s t w N h k = same _ _ (half s t h) (half t s (λ x p l. sym (h x p l)
 -- ---- a row marked, one number after the other
 
 every-more : (n : ℕ) (t : ℕ → Bool) → every (n + 1) t ≡ (every n t and t n)
-every-more n t = rw (add-one n) (every-suc n t)
+unfolding every
+every-more n t = rw (add-one n) refl
 
 module _ (w : ℕ → ℕ) (N : ℕ) (before : Seen) where
   abbrev isFresh : ℕ → Bool

@@ -1,5 +1,5 @@
 -- A store is sound exactly where each page goes on from the pages before it: its numbers are fresh. Assumes nothing.
-use Prim.Native.Nat.{ℕ, _+_, _*_, _<_, _≤_}
+use Prim.Native.Nat.{ℕ, _+_, _<_, _≤_}
 use mathlib.Core.Path.{_≡_, refl, sym, _∙_, ap}
 use mathlib.Core.Logic.{_≢_}
 use mathlib.Core.Bool.{Bool, true, false, not}
@@ -9,7 +9,7 @@ use native.Mathlib.Omega.{arith}
 use native.Mathlib.Decide.{decLt, ℕ-discrete}
 use borrow.Author.Tests.{eq-eqb, ne-eqb, lt-ltb, eqb-true, eqb-false, ltb-true, not-true}
 use lib.Dec.{eqb}
-use Rattle.page.specs.Figures.{pageSize, slotCount, mostPages}
+use Rattle.page.specs.Figures.{slotCount, mostPages}
 use Rattle.page.specs.Page.{slot, pageWords}
 use Rattle.machine.specs.Tests.{_or_, every, some}
 use Rattle.machine.specs.Laws.TestLaws.{clash, same, is-off, both, and-true, use⇒, make⇒, every-true, true-every, every-false, every-ext, every-step, every-zero, some-zero, some-suc, some-true, true-some}

@@ -25,8 +25,8 @@ pub fn field(random: &mut Random, state: &mut State) {
     let (count, pages) = (state.pool.count, state.pool.pages);
     let record = any_record(random, state);
     match random.below(7) {
-        0 => record.used ^= 1,
-        1 => record.dirty ^= 1,
+        0 => record.used = figure_near(random, 2) as u8,
+        1 => record.dirty = figure_near(random, 2) as u8,
         2 => record.usage = figure_near(random, u16::from(MAX_USAGE) + 1) as u8,
         3 => record.slot = figure_near(random, 16) as u8,
         4 => record.parent.0 = figure_near(random, count) as u8,
@@ -40,8 +40,8 @@ pub fn bit(random: &mut Random, state: &mut State) {
     let (narrow, wide) = (1u8 << random.below(8), 1u16 << random.below(16));
     let record = any_record(random, state);
     match random.below(7) {
-        0 => record.used ^= 1,
-        1 => record.dirty ^= 1,
+        0 => record.used ^= narrow,
+        1 => record.dirty ^= narrow,
         2 => record.usage ^= narrow,
         3 => record.slot ^= narrow,
         4 => record.parent.0 ^= narrow,
@@ -64,8 +64,8 @@ pub fn whole(random: &mut Random, state: &mut State) {
 /// A record with fields in their ranges or one above.
 fn made_up(random: &mut Random, state: &State) -> FrameRecord {
     FrameRecord {
-        used: random.percent(70).into(),
-        dirty: random.percent(50).into(),
+        used: random.pick(&[0, 0, 1, 1, 1, 1, 2]),
+        dirty: random.pick(&[0, 0, 1, 1, 2]),
         usage: random.below(5) as u8,
         slot: random.below(17) as u8,
         parent: FrameIndex(random.below(usize::from(state.pool.count) + 1) as u8),

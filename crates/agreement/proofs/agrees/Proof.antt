@@ -5,7 +5,7 @@ use Prim.Native.Nat.{_≤_, _-_}
 use native.Mathlib.Omega.{arith}
 use mathlib.Core.Path.{refl}
 use Rattle.page.specs.Figures.{mostFrames}
-use Rattle.machine.specs.Machine.{recordAt}
+use Rattle.machine.specs.Machine.{isUsed, recordAt}
 use Rattle.agreement.specs.Fit.{NoField, Before}
 use Rattle.agreement.specs.FitLaws.{bool-small, gathers}
 use Rattle.agreement.specs.PassLaws.{before-first, before-few, misfit, before-more, frames-even, settle, RestTo, rest-none, rest-more}
@@ -62,21 +62,21 @@ cast-t30 : tie.Need-cast-t30 Inv-loop μ-loop Inv-loop2 μ-loop2
 cast-t30 c = search needs
 
 note-requires : tie.Need-note-requires Inv-loop μ-loop Inv-loop2 μ-loop2
-note-requires c κs = (rw (c .before .before .before .before .before .before .before .before .before .from-u16 .ensures) (c .before .before .before .before .before .before .before .before .before .before .before .before .pre .0), c .before .before .before .before .loop-test .taken, c .before .before .before .before .before .loop .inv .1 .passed .tells .table)
+note-requires c κs = (rw (c .before .before .before .before .before .before .before .before .before .before .from-u16 .ensures) (c .before .before .before .before .before .before .before .before .before .before .before .before .before .pre .0), c .before .before .before .before .before .loop-test .taken, c .before .before .before .before .before .before .loop .inv .1 .passed .tells .table)
 
 returns-2 : tie.Need-returns-2 Inv-loop μ-loop Inv-loop2 μ-loop2
 returns-2 c =
-    end-frames (c .before .before .before .before .before .before .before .before .before .before .before .before .before .before .before .args .pool) _ (c .before .before .before .before .before .before .before .before .before .before .before .before .before .before .before .pre .0) _ (c .before .before .before .before .before .before .before .before .before .before .before .before .from-u16 .ensures) _ _
-    (misfit _ _ _ _ _ _ _ _ _ _ (c .before .before .before .before .before .before .before .before .loop .inv .1) (c .before .before .before .before .before .before .before .loop-test .taken) (c .before .before .note .last .1 .1 .1 .1 .1 .1 .0) (c .before .before .note .result .over) (c .before .before .note .result .fits) (rw (c .before .before .before .before .before .from-u82 .ensures) at (c .before .before .note .ensures)) (not-true _ (c .if2 .taken)))
+    end-frames (c .before .before .before .before .before .before .before .before .before .before .before .before .before .before .before .before .args .pool) _ (c .before .before .before .before .before .before .before .before .before .before .before .before .before .before .before .before .pre .0) _ (c .before .before .before .before .before .before .before .before .before .before .before .before .before .from-u16 .ensures) _ _
+    (misfit _ _ _ _ _ _ _ _ _ _ (c .before .before .before .before .before .before .before .before .before .loop .inv .1) (c .before .before .before .before .before .before .before .before .loop-test .taken) (c .before .before .note .last .1 .1 .1 .1 .1 .1 .0) (c .before .before .note .result .over) (c .before .before .note .result .fits) (rw (c .before .before .before .before .before .before .from-u82 .ensures) at (c .before .before .note .ensures)) (not-true _ (c .if2 .taken)))
 
 add-over : tie.Need-add-over Inv-loop μ-loop Inv-loop2 μ-loop2
-add-over c = omega (arith, before-few _ _ _ _ _ _ _ _ _ _ (c .before .before .before .before .before .before .before .before .before .loop .inv .1) .1, c .before .before .before .note .ensures .few)
+add-over c = omega (arith, before-few _ _ _ _ _ _ _ _ _ _ (c .before .before .before .before .before .before .before .before .before .before .loop .inv .1) .1, c .before .before .before .note .ensures .few)
 
 cast-occupied : tie.Need-cast-occupied Inv-loop μ-loop Inv-loop2 μ-loop2
 cast-occupied c = search needs
 
 add-occupied : tie.Need-add-occupied Inv-loop μ-loop Inv-loop2 μ-loop2
-add-occupied c = omega (arith, before-few _ _ _ _ _ _ _ _ _ _ (c .before .before .before .before .before .before .before .before .before .before .loop .inv .1) .0, bool-small (recordAt (c .before .before .before .before .before .before .before .before .before .before .before .before .before .before .before .before .before .args .pool .records) (c .before .before .before .before .before .before .before .before .before .before .loop .f) .used))
+add-occupied c = omega (arith, before-few _ _ _ _ _ _ _ _ _ _ (c .before .before .before .before .before .before .before .before .before .before .before .loop .inv .1) .0, bool-small (isUsed (recordAt (c .before .before .before .before .before .before .before .before .before .before .before .before .before .before .before .before .before .before .args .pool .records) (c .before .before .before .before .before .before .before .before .before .before .before .loop .f))))
 
 array-write-parents : tie.Need-array-write-parents Inv-loop μ-loop Inv-loop2 μ-loop2
 array-write-parents c = search needs
@@ -94,7 +94,7 @@ loop-less : tie.Need-loop-less Inv-loop μ-loop Inv-loop2 μ-loop2
 loop-less c = search needs
 
 loop-again : tie.Need-loop-again Inv-loop μ-loop Inv-loop2 μ-loop2
-loop-again c = (c .before .before .before .before .before .before .before .before .before .before .loop .inv .0, before-more _ _ _ _ _ _ _ _ _ _ (c .before .before .before .before .before .before .before .before .before .before .loop .inv .1) (c .before .before .before .before .before .before .before .before .before .loop-test .taken) _ _ (c .before .before .before .before .note .result .fits) (rw (c .before .before .before .before .before .before .before .from-u82 .ensures) at (c .before .before .before .before .note .ensures)) (omega arith) (not-false _ (c .before .before .if2 .left)))
+loop-again c = (c .before .before .before .before .before .before .before .before .before .before .before .loop .inv .0, before-more _ _ _ _ _ _ _ _ _ _ (c .before .before .before .before .before .before .before .before .before .before .before .loop .inv .1) (c .before .before .before .before .before .before .before .before .before .before .loop-test .taken) _ _ (c .before .before .before .before .note .result .fits) (rw (c .before .before .before .before .before .before .before .before .from-u82 .ensures) at (c .before .before .before .before .note .ensures)) (omega arith) (not-false _ (c .before .before .if2 .left)))
 
 loop2-holds : tie.Need-loop2-holds Inv-loop μ-loop Inv-loop2 μ-loop2
 loop2-holds c = (c .loop-test .left, omega (arith, c .before .loop .inv .1 .most), rest-none _ _ _ _ (c .before .loop .inv .1 .most) (record { first = refl; parent = refl; last = refl }))

@@ -13,18 +13,18 @@ use Rattle.machine.specs.declared.FrameRecord.{FrameRecord}
 use Rattle.machine.specs.declared.Pool.{Pool}
 use Rattle.machine.specs.Tests.{_and_, _or_, _⇒_}
 use Rattle.machine.specs.Laws.TestLaws.{case, on, off, use⇒, make⇒, both, and-true, or-second, or-left, or-right, every-true, true-every}
-use Rattle.machine.specs.Machine.{recordAt, pageIn, occupied}
+use Rattle.machine.specs.Machine.{isUsed, recordAt, pageIn, occupied}
 use Rattle.machine.specs.Agreement.{parentOf, parentSlotOf, isBlank, rootInPlace, pagesApart, handInRange, fieldsInRange, allInRange, emptyBlank, parentsName, pointsBack, swizzledPointBack, absent, numbersAbsent, numbersOnce, reachesRoot, allReachRoot, agree}
 
 pub occupied-lt : (p : Pool) (f : ℕ) → occupied p f ≡ true → f < p .count
 unfolding occupied
 occupied-lt p f e = ltb-true f (p .count) (and-true (ltb f (p .count)) _ e .0)
 
-pub occupied-used : (p : Pool) (f : ℕ) → occupied p f ≡ true → recordAt (p .records) f .used ≡ true
+pub occupied-used : (p : Pool) (f : ℕ) → occupied p f ≡ true → isUsed (recordAt (p .records) f) ≡ true
 unfolding occupied
-occupied-used p f e = and-true (ltb f (p .count)) (recordAt (p .records) f .used) e .1
+occupied-used p f e = and-true (ltb f (p .count)) (isUsed (recordAt (p .records) f)) e .1
 
-pub make-occupied : (p : Pool) (f : ℕ) → f < p .count → recordAt (p .records) f .used ≡ true → occupied p f ≡ true
+pub make-occupied : (p : Pool) (f : ℕ) → f < p .count → isUsed (recordAt (p .records) f) ≡ true → occupied p f ≡ true
 unfolding occupied
 make-occupied p f l u = both _ _ (lt-ltb f (p .count) l) u
 
@@ -54,6 +54,8 @@ pub record InRange (p : Pool) (r : FrameRecord) : Type 0 where
   pub usage : r .usage ≤ maxUsage
   pub parent : r .parent .0 < p .count
   pub slot : r .slot < slotCount
+  pub used : r .used ≤ 1
+  pub dirty : r .dirty ≤ 1
 
 pub in-range : (p : Pool) (r : FrameRecord) → fieldsInRange p r ≡ true → InRange p r
 unfolding fieldsInRange
@@ -62,12 +64,14 @@ in-range p r t =
     let b = and-true (leb (r .pins) maxPins) _ (a .1) in
     let c = and-true (leb (r .usage) maxUsage) _ (b .1) in
     let d = and-true (ltb (r .parent .0) (p .count)) _ (c .1) in
-    record { page = ltb-true _ _ (a .0); pins = leb-true _ maxPins (b .0); usage = leb-true _ maxUsage (c .0); parent = ltb-true _ _ (d .0); slot = ltb-true _ slotCount (d .1) }
+    let e = and-true (ltb (r .slot) slotCount) _ (d .1) in
+    let f = and-true (leb (r .used) 1) _ (e .1) in
+    record { page = ltb-true _ _ (a .0); pins = leb-true _ maxPins (b .0); usage = leb-true _ maxUsage (c .0); parent = ltb-true _ _ (d .0); slot = ltb-true _ slotCount (e .0); used = leb-true _ 1 (f .0); dirty = leb-true _ 1 (f .1) }
 
 pub of-range : (p : Pool) (r : FrameRecord) → InRange p r → fieldsInRange p r ≡ true
 unfolding fieldsInRange
 of-range p r h =
-    both _ _ (lt-ltb _ _ (h .page)) (both _ _ (le-leb _ maxPins (h .pins)) (both _ _ (le-leb _ maxUsage (h .usage)) (both _ _ (lt-ltb _ _ (h .parent)) (lt-ltb _ slotCount (h .slot)))))
+    both _ _ (lt-ltb _ _ (h .page)) (both _ _ (le-leb _ maxPins (h .pins)) (both _ _ (le-leb _ maxUsage (h .usage)) (both _ _ (lt-ltb _ _ (h .parent)) (both _ _ (lt-ltb _ slotCount (h .slot)) (both _ _ (le-leb _ 1 (h .used)) (le-leb _ 1 (h .dirty)))))))
 
 pub record Agreed (p : Pool) (fs : List ℕ) : Type 0 where
   pub root : occupied p 0 ≡ true

@@ -12,13 +12,13 @@ use Rattle.machine.specs.declared.FrameRecord.{FrameRecord}
 use Rattle.machine.specs.declared.Pool.{Pool}
 use Rattle.machine.specs.Tests.{_and_}
 use Rattle.machine.specs.Laws.TestLaws.{clash, case, on, off, both, and-left, and-right, pick-yes, pick-no}
-use Rattle.machine.specs.Machine.{recordAt, pageIn, occupied, foundFrom, found}
+use Rattle.machine.specs.Machine.{isUsed, recordAt, pageIn, occupied, foundFrom, found}
 use Rattle.machine.specs.Laws.AgreementFacts.{occupied-lt, occupied-used, make-occupied, Agreed}
 
 -- ---- among n frames from i on
 
 abbrev holds : List FrameRecord → ℕ → ℕ → Bool
-holds rs q g = recordAt rs g .used and eqb (pageIn rs g) q
+holds rs q g = isUsed (recordAt rs g) and eqb (pageIn rs g) q
 
 -- frame x is the first of them that holds page q, or x is the frame after them and none does
 data Search (rs : List FrameRecord) (q n i x : ℕ) : Type 0 where
@@ -45,7 +45,7 @@ module _ (p : Pool) (q : ℕ) where
   -- a frame that is found is occupied and holds the page
   pub found-holds : found p q < p .count → (occupied p (found p q) ≡ true) × (pageIn (p .records) (found p q) ≡ q)
   found-holds l = elim (search-from (p .records) q (p .count) 0) [
-    | hit a b t ↦ (make-occupied p (found p q) l (and-left _ _ t), eqb-true _ q (and-right (recordAt (p .records) (found p q) .used) _ t))
+    | hit a b t ↦ (make-occupied p (found p q) l (and-left _ _ t), eqb-true _ q (and-right (isUsed (recordAt (p .records) (found p q))) _ t))
     | miss a t ↦ absurd (omega arith)
   ]
 

@@ -15,7 +15,7 @@ use Rattle.page.specs.Octets.{Octets, octets-putSlot, octets-pageOf, slot-lt, b
 use Rattle.machine.specs.declared.FrameRecord.{FrameRecord}
 use Rattle.machine.specs.Tests.{pick}
 use Rattle.machine.specs.Laws.TestLaws.{every-true, pick-yes, pick-either}
-use Rattle.machine.specs.Machine.{State, blank, cleaned, recordAt, pageIn}
+use Rattle.machine.specs.Machine.{State, blank, cleaned, isDirty, recordAt, pageIn}
 use Rattle.machine.specs.Moves.{plain, imaged, imageTo, imageOf, writtenOutBy, writtenOut, writtenOutTo, cleanedTo, settled, evicted, loaded}
 use Rattle.machine.specs.Sweep.{childless}
 use Rattle.machine.specs.Laws.Ready.{Sized, Ready}
@@ -80,10 +80,10 @@ image-ext a b g (suc n) l h e = rw (image-ext a b g n (omega arith) h e, plain-e
 -- ---- writing out
 
 -- where a and b give the same pages to 64 frames, and a dirty page's swizzled words name one of those
-pub writtenOutBy-ext : (a b : ℕ → ℕ) (r : FrameRecord) (fs st : List ℕ) (f : ℕ) → (r .dirty ≡ true → (k : ℕ) → k < slotCount → name fs f k < frameWord mostFrames)
+pub writtenOutBy-ext : (a b : ℕ → ℕ) (r : FrameRecord) (fs st : List ℕ) (f : ℕ) → (isDirty r ≡ true → (k : ℕ) → k < slotCount → name fs f k < frameWord mostFrames)
     → ((j : ℕ) → j < mostFrames → a j ≡ b j) → writtenOutBy a r fs st f ≡ writtenOutBy b r fs st f
 unfolding writtenOutBy pick
-writtenOutBy-ext a b r fs st f h e = by-dirty (r .dirty) h
+writtenOutBy-ext a b r fs st f h e = by-dirty (isDirty r) h
   where
     by-dirty : (d : Bool) → (d ≡ true → (k : ℕ) → k < slotCount → name fs f k < frameWord mostFrames)
         → pick d (putPage st (r .page .0) (imageTo a (pageOf fs f) slotCount)) st ≡ pick d (putPage st (r .page .0) (imageTo b (pageOf fs f) slotCount)) st
@@ -94,7 +94,7 @@ pub writtenOutBy-length : (page : ℕ → ℕ) (r : FrameRecord) (fs st : List �
     → length (writtenOutBy page r fs st f) ≡ length st
 unfolding writtenOutBy
 writtenOutBy-length page r fs st f F N lf ls hf hp =
-    pick-either (λ (x : List ℕ). length x ≡ length st) (r .dirty) _ _
+    pick-either (λ (x : List ℕ). length x ≡ length st) (isDirty r) _ _
     (putPage-length st (r .page .0) _ N ls (image-length page (pageOf fs f) slotCount ∙ pageOf-length fs f F lf hf) hp) refl
 
 pub writtenOutTo-zero : (rs : List FrameRecord) (fs st : List ℕ) → writtenOutTo rs fs st 0 ≡ st
@@ -146,40 +146,6 @@ evicted-sized s f R l =
       store = writtenOutBy-length _ (recordAt (s .pool .records) f) (s .frames) (s .store) f _ _ (z .frames) (z .store) l (R .inRange f l .page) ∙ z .store;
     }
 
-pub loaded-counts : (s : State) (f k e q : ℕ) → (loaded s f k e q .pool .count ≡ s .pool .count) × (loaded s f k e q .pool .pages ≡ s .pool .pages)
-unfolding loaded
-loaded-counts s f k e q = (refl, refl)
-
-pub loaded-sized : (s : State) (f k e q : ℕ) → Sized s → e < s .pool .count → q < s .pool .pages → Sized (loaded s f k e q)
-unfolding loaded
-loaded-sized s f k e q z he hq =
-    record {
-      least = z .least;
-      most = z .most;
-      some = z .some;
-      pages = z .pages;
-      frames = putSlot-length (putPage (s .frames) e (pageOf (s .store) q)) f k _
-          ∙ putPage-length (s .frames) e (pageOf (s .store) q) _ (z .frames) (pageOf-length (s .store) q _ (z .store) hq) he ∙ z .frames;
-      store = z .store;
-    }
-
-pub settled-counts : (s : State) → (settled s .pool .count ≡ s .pool .count) × (settled s .pool .pages ≡ s .pool .pages)
-unfolding settled
-settled-counts s = (refl, refl)
-
-pub settled-sized : (s : State) → Ready s → Sized (settled s)
-unfolding settled
-settled-sized s R =
-    let z = R .sized in
-    record {
-      least = z .least;
-      most = z .most;
-      some = z .some;
-      pages = z .pages;
-      frames = z .frames;
-      store = writtenOutTo-length (s .pool .records) (s .frames) (s .store) _ _ (z .frames) (z .store) (λ f l. R .inRange f l .page) (s .pool .count) (omega arith) ∙ z .store;
-    }
-
 -- ---- "A page written out and loaded again is that page."
 
 -- a word put into one page leaves the bytes of every other
@@ -199,7 +165,7 @@ pageOf-putSlot-other b p k w q n l hq hk ne =
     sym (byte-first (pageOf (putSlot b p k w) q) i) ∙ byte-pageOf (putSlot b p k w) q i h ∙ byte-putSlot-other b p k w q i hk ne h ∙ sym (byte-pageOf b q i h) ∙ byte-first (pageOf b q) i)
 
 -- an eviction writes a dirty page's image to the store
-pub evicted-stored : (s : State) (f : ℕ) → Ready s → f < s .pool .count → recordAt (s .pool .records) f .dirty ≡ true
+pub evicted-stored : (s : State) (f : ℕ) → Ready s → f < s .pool .count → isDirty (recordAt (s .pool .records) f) ≡ true
     → pageOf (evicted s f .store) (pageIn (s .pool .records) f) ≡ imageOf (s .pool .records) (s .frames) f
 unfolding evicted writtenOutBy
 evicted-stored s f R l d =
@@ -235,7 +201,7 @@ pub record CameBack (s : State) (f up k e : ℕ) : Type 0 where
   pub same : pageOf (outAndIn s f up k e .frames) e ≡ pageOf (s .frames) f
 
 -- of any dirty page without a swizzled word (a dirty record is in use), for any slot of any frame but its own new one
-pub written-out-and-loaded : (s : State) (f up k e : ℕ) → Ready s → Octets (s .frames) → f < s .pool .count → recordAt (s .pool .records) f .dirty ≡ true → childless (s .frames) f ≡ true
+pub written-out-and-loaded : (s : State) (f up k e : ℕ) → Ready s → Octets (s .frames) → f < s .pool .count → isDirty (recordAt (s .pool .records) f) ≡ true → childless (s .frames) f ≡ true
     → k < slotCount → e < s .pool .count → e ≢ up → CameBack s f up k e
 written-out-and-loaded s f up k e R o l d c hk he ne =
     let stored = evicted-stored s f R l d in

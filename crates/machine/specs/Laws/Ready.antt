@@ -1,11 +1,11 @@
 -- What rules 1 and 2 give to the code: counts, lengths, ranges, and where swizzled words lead. Assumes nothing.
 use Prim.Native.Nat.{ℕ, _+_, _*_, _-_, _<_, _≤_}
 use mathlib.Core.Path.{_≡_, sym, _∙_}
-use mathlib.Core.Bool.{true, false, not}
+use mathlib.Core.Bool.{true, false}
 use mathlib.Core.List.{List, []}
 use native.Mathlib.Omega.{arith}
 use native.Mathlib.Decide.{decLt}
-use borrow.Author.Tests.{eqb-true, leb-true, le-leb, eq-eqb, not-true}
+use borrow.Author.Tests.{eqb-true, leb-true, le-leb, eq-eqb, ne-eqb}
 use lib.Dec.{eqb, leb}
 use lib.ListN.{length}
 use Rattle.page.specs.Figures.{pageSize, slotCount, leastFrames, mostFrames, mostPages}
@@ -14,7 +14,7 @@ use Rattle.page.specs.Page.{name}
 use Rattle.machine.specs.declared.FrameRecord.{FrameRecord}
 use Rattle.machine.specs.Tests.{_and_, firstBroken}
 use Rattle.machine.specs.Laws.TestLaws.{clash, and-true, both, first-kept, case, on, off}
-use Rattle.machine.specs.Machine.{State, recordAt, occupied}
+use Rattle.machine.specs.Machine.{State, isUsed, isDirty, recordAt, occupied}
 use Rattle.machine.specs.Agreement.{isBlank, agree}
 use Rattle.machine.specs.Laws.AgreementFacts.{InRange, Points, Agreed, facts, make-occupied, occupied-lt, occupied-used}
 use Rattle.machine.specs.Rules.{lengthsFit}
@@ -67,24 +67,27 @@ pub record Ready (s : State) : Type 0 where
   pub sized : Sized s
   pub hand : s .pool .hand .0 < s .pool .count
   pub inRange : (f : ℕ) → f < s .pool .count → InRange (s .pool) (recordAt (s .pool .records) f)
-  pub dirtyUsed : (f : ℕ) → f < s .pool .count → recordAt (s .pool .records) f .dirty ≡ true → recordAt (s .pool .records) f .used ≡ true
-  pub words : (f k : ℕ) → f < s .pool .count → recordAt (s .pool .records) f .used ≡ true → k < slotCount → name (s .frames) f k < frameWord mostFrames
+  pub dirtyUsed : (f : ℕ) → f < s .pool .count → isDirty (recordAt (s .pool .records) f) ≡ true → isUsed (recordAt (s .pool .records) f) ≡ true
+  pub words : (f k : ℕ) → f < s .pool .count → isUsed (recordAt (s .pool .records) f) ≡ true → k < slotCount → name (s .frames) f k < frameWord mostFrames
 
-blank-clean : (r : FrameRecord) → isBlank r ≡ true → r .dirty ≡ false
+blank-clean : (r : FrameRecord) → isBlank r ≡ true → isDirty r ≡ false
 unfolding isBlank
-blank-clean r t = let a = and-true (not (r .used)) _ t in not-true _ (and-true (not (r .dirty)) _ (a .1) .0)
+blank-clean r t =
+    let a = and-true (eqb (r .used) 0) _ t in
+    let b = eqb-true (r .dirty) 0 (and-true (eqb (r .dirty) 0) _ (a .1) .0) in
+    ne-eqb (r .dirty) 1 (λ e. omega arith)
 
 module _ (s : State) (K : Kept s) where
   most : s .pool .count ≤ mostFrames
   most = K .sized .most
 
-  dirty-used : (f : ℕ) → f < s .pool .count → recordAt (s .pool .records) f .dirty ≡ true → recordAt (s .pool .records) f .used ≡ true
+  dirty-used : (f : ℕ) → f < s .pool .count → isDirty (recordAt (s .pool .records) f) ≡ true → isUsed (recordAt (s .pool .records) f) ≡ true
   dirty-used f l d = elim (case (occupied (s .pool) f)) [
     | on o ↦ occupied-used (s .pool) f o
     | off o ↦ absurd (clash (sym d ∙ blank-clean _ (K .agreed .blank f (omega (arith, most)) o)))
   ]
 
-  low-words : (f k : ℕ) → f < s .pool .count → recordAt (s .pool .records) f .used ≡ true → k < slotCount → name (s .frames) f k < frameWord mostFrames
+  low-words : (f k : ℕ) → f < s .pool .count → isUsed (recordAt (s .pool .records) f) ≡ true → k < slotCount → name (s .frames) f k < frameWord mostFrames
   low-words f k l u h = elim (reading (name (s .frames) f k)) [
     | low a ↦ omega arith
     | high j a ↦

@@ -8,7 +8,7 @@ use Rattle.machine.specs.declared.FrameRecord.{FrameRecord}
 use Rattle.machine.specs.Machine.{State, withPool, withRecords}
 use Rattle.machine.specs.Answers.{done}
 use Rattle.machine.specs.Calls.{settleCall}
-use Rattle.machine.specs.Tables.Rows.{empty, child, resident, names, swizzledTo, nothing, page, machine, Case, leaves, refuses, allHold}
+use Rattle.machine.specs.Tables.Rows.{made, empty, child, resident, names, swizzledTo, nothing, page, machine, Case, leaves, refuses, allHold}
 
 -- three frames over four pages, all clean: the hand, and the record and the first words of each frame
 abbrev three : ℕ → FrameRecord × List (List ℕ) → FrameRecord × List (List ℕ) → FrameRecord × List (List ℕ) → State
@@ -32,8 +32,8 @@ beyond s r = withPool s (withRecords (s .pool) (set (s .pool .records) 3 r))
 abbrev disagrees : State → Case
 disagrees s = refuses settleCall s 2
 
-pub table : List Case
-table =
+pub agreeTable : List Case
+agreeTable =
     leaves (settleCall (three 2 root one free)) done (three 2 root one free)
     -- "Frame 0 holds page 0 and has no parent (its two parent fields are 0)."
     ∷ disagrees (three 2 (empty, []) free free)
@@ -48,6 +48,8 @@ table =
     ∷ disagrees (three 2 root (child 0 0 4 0 0, []) free)
     ∷ disagrees (three 2 root (resident 1 65536 0, []) free)
     ∷ disagrees (three 2 root (resident 1 0 4, []) free)
+    ∷ disagrees (three 2 root (made 2 0 3 0 0 0 1, names 3 ∷ []) free)
+    ∷ disagrees (three 2 root (made 1 2 3 0 0 0 1, names 3 ∷ []) free)
     -- "An empty frame's record, and any record from F on, is all zero"
     ∷ disagrees (three 2 (resident 0 1 3, []) (empty, []) (child 0 0 0 0 1, []))
     ∷ disagrees (beyond (three 2 root one free) (child 0 0 2 0 0))
@@ -72,8 +74,8 @@ words =
     ∷ disagrees (three 2 (resident 0 1 3, []) (child 2 0 1 0 0, swizzledTo 2 ∷ []) (child 1 0 2 0 0, swizzledTo 1 ∷ []))
     ∷ []
 
-pub agree-rows : allHold table ≡ true
-unfolding table allHold
+pub agree-rows : allHold agreeTable ≡ true
+unfolding agreeTable allHold
 agree-rows = refl
 
 pub agree-word-rows : allHold words ≡ true

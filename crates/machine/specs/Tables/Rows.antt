@@ -25,23 +25,23 @@ joined = foldr (λ (x y : List ℕ). x ++ y) []
 -- ---- small machines
 
 -- a record by its fields: used, dirty, usage count (heat), slot, parent, pins, page
-abbrev made : Bool → Bool → ℕ → ℕ → ℕ → ℕ → ℕ → FrameRecord
+abbrev pub made : ℕ → ℕ → ℕ → ℕ → ℕ → ℕ → ℕ → FrameRecord
 made used dirty usage slot parent pins page =
     record { used = used; dirty = dirty; usage = usage; slot = slot; parent = frameIndex parent; pins = pins; page = pageNumber page }
 
 abbrev pub empty : FrameRecord
-empty = made false false 0 0 0 0 0
+empty = made 0 0 0 0 0 0 0
 
 -- page p, clean, with its pins and usage count, by slot k of frame f; and by the root's slot p − 1, the root itself by none
 abbrev pub child : ℕ → ℕ → ℕ → ℕ → ℕ → FrameRecord
-child f k p pins usage = made true false usage k f pins p
+child f k p pins usage = made 1 0 usage k f pins p
 
 abbrev pub resident : ℕ → ℕ → ℕ → FrameRecord
 resident p pins usage = child 0 (p - 1) p pins usage
 
 -- the same, dirty
 abbrev pub changed : ℕ → ℕ → ℕ → FrameRecord
-changed p pins usage = made true true usage (p - 1) 0 pins p
+changed p pins usage = made 1 1 usage (p - 1) 0 pins p
 
 -- a word: a page number below 256, a frame index with bit 31, or nothing
 abbrev pub names : ℕ → List ℕ
@@ -89,12 +89,8 @@ which (number p) = 5
 which (frame f) = 6
 which nowhere = 7
 
-abbrev flag : Bool → ℕ
-flag false = 0
-flag true = 1
-
 abbrev fields : FrameRecord → List ℕ
-fields r = flag (r .used) ∷ flag (r .dirty) ∷ r .usage ∷ r .slot ∷ r .parent .0 ∷ r .pins ∷ r .page .0 ∷ []
+fields r = r .used ∷ r .dirty ∷ r .usage ∷ r .slot ∷ r .parent .0 ∷ r .pins ∷ r .page .0 ∷ []
 
 -- all of a machine: every record's fields, F, N, the hand, and both buffers with their lengths
 abbrev whole : State → List ℕ

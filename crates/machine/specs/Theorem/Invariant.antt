@@ -10,23 +10,25 @@ use Rattle.page.specs.Page.{name, byte}
 use Rattle.page.specs.Octets.{Octets}
 use Rattle.machine.specs.declared.FrameRecord.{FrameRecord}
 use Rattle.machine.specs.declared.Pool.{Pool}
-use Rattle.machine.specs.Machine.{blank, recordAt}
+use Rattle.machine.specs.Machine.{blank, isUsed, recordAt}
 use Rattle.machine.specs.Laws.Ready.{Sized}
 use Rattle.machine.specs.Theorem.View.{View, view, Occupied, Absent, Shape, Map, Content, MapSound}
 use Rattle.machine.specs.History.{Balance, Point}
 
 -- a record's fields are in their ranges; an empty frame's is blank, the root's has no parent
 pub record NeatRecord (f : ℕ) (r : FrameRecord) : Type 0 where
+  pub used : r .used ≤ 1
+  pub dirty : r .dirty ≤ 1
   pub usage : r .usage ≤ maxUsage
   pub pins : r .pins ≤ maxPins
-  pub empty : r .used ≡ false → r ≡ blank
+  pub empty : isUsed r ≡ false → r ≡ blank
   pub rootParent : f ≡ 0 → r .parent .0 ≡ 0
   pub rootSlot : f ≡ 0 → r .slot ≡ 0
 
 pub record Neat (p : Pool) : Type 0 where
   pub hand : p .hand .0 < p .count
   pub at : (f : ℕ) → NeatRecord f (recordAt (p .records) f)
-  pub beyond : (f : ℕ) → p .count ≤ f → recordAt (p .records) f .used ≡ false
+  pub beyond : (f : ℕ) → p .count ≤ f → isUsed (recordAt (p .records) f) ≡ false
 
 -- the records' pins are the balance, and a pinned page is in the frame of the answer that pinned it
 pub record Pins (v : View) (b : Balance) : Type 0 where

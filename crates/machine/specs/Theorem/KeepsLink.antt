@@ -10,12 +10,12 @@ use Rattle.page.specs.Word.{Number, nameOf}
 use Rattle.page.specs.Page.{putSlot, putSlot-length, slot-putSlot-same, slot-putSlot-page, byte-putSlot}
 use Rattle.page.specs.Octets.{octets-putSlot}
 use Rattle.machine.specs.declared.FrameRecord.{FrameRecord}
-use Rattle.machine.specs.Machine.{State, recordAt, dirtied}
+use Rattle.machine.specs.Machine.{State, isDirty, recordAt, dirtied}
 use Rattle.machine.specs.Calls.{relinked}
 use Rattle.machine.specs.History.{Point}
 use Rattle.machine.specs.Theorem.View.{View, view, Occupied, NoRoot, single-root}
 use Rattle.machine.specs.Theorem.Invariant.{Invariant, mapOf}
-use Rattle.machine.specs.Theorem.LinkEffect.{Linked, MapLinked, Unnamed, link-sound, link-shape, link-content}
+use Rattle.machine.specs.Theorem.LinkEffect.{LinkedView, MapLinked, Unnamed, link-sound, link-shape, link-content}
 use Rattle.machine.specs.Theorem.PinsEffect.{pins-kept}
 use Rattle.machine.specs.Theorem.SlotChange.{slot-putSlot-other}
 use Rattle.machine.specs.Theorem.RecordChange.{SamePlace, change-here, change-other, change-same, change-steady, neat-change, neat-place, record-lt, lengths-kept}
@@ -53,12 +53,12 @@ module _ (x : Point) (I : Invariant x) (f : ℕ) (of : Occupied (view (x .now)) 
   samePlace : SamePlace (recordAt rs f) r
   samePlace = record { used = refl; page = refl; parent = refl; slot = refl }
 
-  linked : Linked v (view (relinked s f k y)) f k n
+  linked : LinkedView v (view (relinked s f k y)) f k n
   linked = record {
     steady = change-steady s f r (putSlot (s .frames) f k y) (s .store) lt samePlace;
     pins = change-same rs f r (λ t. t .pins) lt refl;
-    dirtyF = ap (λ t. t .dirty) (change-here rs f r lt);
-    dirty = λ g m. ap (λ t. t .dirty) (change-other rs f r g m);
+    dirtyF = ap isDirty (change-here rs f r lt);
+    dirty = λ g m. ap isDirty (change-other rs f r g m);
     word = ap nameOf (slot-putSlot-same (s .frames) f k y _ (I .sized .frames) (of .lt) hk small) ∙ names;
     wordPage = λ g j hg hj m. ap nameOf (slot-putSlot-page (s .frames) f k y g j hk hj (λ z. m (sym z)));
     wordSlot = λ g j hg hj m. ap nameOf (slot-putSlot-other (s .frames) f k y g j hk hj m);
@@ -75,7 +75,7 @@ module _ (x : Point) (I : Invariant x) (f : ℕ) (of : Occupied (view (x .now)) 
     sized = lengths-kept _ (s .store) (I .sized) (putSlot-length (s .frames) f k y) refl;
     records = length-set rs f r ∙ I .records;
     mapLength = putSlot-length (x .map) (v .page f) k y ∙ I .mapLength;
-    neat = neat-change (s .pool) f r lt (of .lt) (neat-place f (recordAt rs f) r (of .on) samePlace (I .neat .at f .usage) (I .neat .at f .pins) (I .neat .at f)) (I .neat);
+    neat = neat-change (s .pool) f r lt (of .lt) (neat-place f (recordAt rs f) r (of .on) samePlace (omega arith) (I .neat .at f .usage) (I .neat .at f .pins) (I .neat .at f)) (I .neat);
     frameOctets = octets-putSlot (s .frames) f k y (I .frameOctets);
     storeOctets = I .storeOctets;
     mapOctets = octets-putSlot (x .map) (v .page f) k y (I .mapOctets);

@@ -12,12 +12,12 @@ use Rattle.page.specs.Page.{slot, name, pageOf, putPage, putSlot-length, slot-p
 use Rattle.page.specs.Octets.{octets-putSlot, octets-pageOf, octets-putPage}
 use Rattle.machine.specs.declared.FrameRecord.{FrameRecord}
 use Rattle.machine.specs.Laws.TestLaws.{clash}
-use Rattle.machine.specs.Machine.{State, loadedRecord}
+use Rattle.machine.specs.Machine.{State, loadedRecord, isUsed, isDirty}
 use Rattle.machine.specs.Moves.{loaded}
 use Rattle.machine.specs.History.{Point, fixedIn}
 use Rattle.machine.specs.Theorem.View.{View, view, Occupied, Absent, first-root}
 use Rattle.machine.specs.Theorem.Invariant.{Invariant, mapOf}
-use Rattle.machine.specs.Theorem.LoadEffect.{Loaded, Fits, absent-fits, empty-other, load-shape, load-content}
+use Rattle.machine.specs.Theorem.LoadEffect.{Loaded, MayComeIn, absent-fits, empty-other, load-shape, load-content}
 use Rattle.machine.specs.Theorem.PinsEffect.{pins-loaded}
 use Rattle.machine.specs.Theorem.SlotChange.{slot-putSlot-other}
 use Rattle.machine.specs.Theorem.RecordChange.{change-here, change-other, neat-change, record-lt, lengths-kept}
@@ -33,7 +33,7 @@ module _ (x : Point) (I : Invariant x) where
   rs = x .now .pool .records
 
   -- a page named by a resident page's number fits
-  pub always-fits : (f k : ℕ) → Occupied v f → k < slotCount → Number (v .word f k) → v .word f k ≢ 0 → Fits v (v .word f k)
+  pub always-fits : (f k : ℕ) → Occupied v f → k < slotCount → Number (v .word f k) → v .word f k ≢ 0 → MayComeIn v (v .word f k)
   always-fits f k of hk l nz = absent-fits v (mapOf (x .map)) (I .shape) (I .content) (I .sound) (v .word f k) (I .shape .numberLt f k of hk l) (I .shape .numberAbsent f k of hk l nz)
 
   module _ (f k e q : ℕ) (of : Occupied v f) (hk : k < slotCount) (eF : e < v .F) (free : v .used e ≡ false) (names : v .word f k ≡ q) (low : Number q) (nz : q ≢ 0) where
@@ -49,7 +49,7 @@ module _ (x : Point) (I : Invariant x) where
     qAbsent : Absent v q
     qAbsent = rw names at (I .shape .numberAbsent f k of hk (rw names low) (rw names nz))
 
-    qFits : Fits v q
+    qFits : MayComeIn v q
     qFits = rw names at (always-fits f k of hk (rw names low) (rw names nz))
 
     other : (g : ℕ) → Occupied v g → g ≢ e
@@ -82,17 +82,17 @@ module _ (x : Point) (I : Invariant x) where
       sameN = refl;
       roots = refl;
       each = refl;
-      usedE = ap (λ t. t .used) (change-here rs e r lt);
+      usedE = ap isUsed (change-here rs e r lt);
       pageE = ap (λ t. t .page .0) (change-here rs e r lt);
       upE = ap (λ t. t .parent .0) (change-here rs e r lt);
       upSlotE = ap (λ t. t .slot) (change-here rs e r lt);
-      dirtyE = ap (λ t. t .dirty) (change-here rs e r lt);
+      dirtyE = ap isDirty (change-here rs e r lt);
       pinsE = ap (λ t. t .pins) (change-here rs e r lt);
-      used = λ g n. ap (λ t. t .used) (change-other rs e r g n);
+      used = λ g n. ap isUsed (change-other rs e r g n);
       page = λ g n. ap (λ t. t .page .0) (change-other rs e r g n);
       up = λ g n. ap (λ t. t .parent .0) (change-other rs e r g n);
       upSlot = λ g n. ap (λ t. t .slot) (change-other rs e r g n);
-      dirty = λ g n. ap (λ t. t .dirty) (change-other rs e r g n);
+      dirty = λ g n. ap isDirty (change-other rs e r g n);
       pins = λ g n. ap (λ t. t .pins) (change-other rs e r g n);
       wordE = λ j hj. ap nameOf (slot-putSlot-page between f k _ e j hk hj (other f of) ∙ slot-putPage-same (s .frames) e page _ j (I .sized .frames) pageLength eF hj ∙ slot-pageOf (s .store) q j hj);
       bytesE = λ i h l. byte-putSlot between f k _ e i hk h l ∙ byte-putPage-same (s .frames) e page _ i (I .sized .frames) pageLength eF l ∙ sym (byte-first page i) ∙ byte-pageOf (s .store) q i l;
@@ -114,7 +114,7 @@ module _ (x : Point) (I : Invariant x) where
       records = length-set rs e r ∙ I .records;
       mapLength = I .mapLength;
       neat = neat-change (s .pool) e r lt eF
-          (record { usage = omega arith; pins = omega arith; empty = λ z. absurd (clash z); rootParent = λ z. absurd (notRoot z); rootSlot = λ z. absurd (notRoot z) }) (I .neat);
+          (record { used = omega arith; dirty = omega arith; usage = omega arith; pins = omega arith; empty = λ z. absurd (clash z); rootParent = λ z. absurd (notRoot z); rootSlot = λ z. absurd (notRoot z) }) (I .neat);
       frameOctets = octets-putSlot between f k _ (octets-putPage (s .frames) e page (I .frameOctets) (octets-pageOf (s .store) q (I .storeOctets)));
       storeOctets = I .storeOctets;
       mapOctets = I .mapOctets;

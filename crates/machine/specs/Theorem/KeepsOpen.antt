@@ -15,7 +15,7 @@ use Rattle.page.specs.Word.{nameOf}
 use Rattle.page.specs.Page.{name, byte, pageOf, putPage, pageOf-length, putPage-length, slot-putPage-same, byte-putPage-same, slot-pageOf, byte-pageOf, byte-first}
 use Rattle.page.specs.Octets.{Octets, octets-putPage, octets-pageOf}
 use Rattle.machine.specs.Laws.TestLaws.{clash, and-true, both, use⇒, every-true}
-use Rattle.machine.specs.Machine.{State, blank, rootRecord, recordAt, openedPool}
+use Rattle.machine.specs.Machine.{State, blank, rootRecord, isUsed, recordAt, openedPool}
 use Rattle.machine.specs.Soundness.{wordsBelow, wordsOnce, sound}
 use Rattle.machine.specs.Rules.{lengthsFit}
 use Rattle.machine.specs.Calls.{opened}
@@ -77,10 +77,10 @@ module _ (F N : ℕ) where
   opened-neat some = record {
     hand = unfold openedPool in some;
     at = λ g. elim (ℕ-discrete g 0) [
-      | yes z ↦ rw (z, root-record) (record { usage = omega arith; pins = omega arith; empty = λ e. absurd (clash e); rootParent = λ e. refl; rootSlot = λ e. refl })
+      | yes z ↦ rw (z, root-record) (record { used = omega arith; dirty = omega arith; usage = omega arith; pins = omega arith; empty = λ e. absurd (clash e); rootParent = λ e. refl; rootSlot = λ e. refl })
       | no z ↦ rw (other-record g z) (neat-blank g)
     ];
-    beyond = λ g h. ap (λ r. r .used) (other-record g (let l : F ≤ g = rw opened-count at h in omega arith));
+    beyond = λ g h. ap isUsed (other-record g (let l : F ≤ g = rw opened-count at h in omega arith));
   }
 
 -- ---- the invariant
@@ -97,7 +97,7 @@ module _ (fs st : List ℕ) (F N : ℕ) (of : Octets fs) (os : Octets st) (Z : L
 
   -- frame 0 alone is occupied
   only : (g : ℕ) → Occupied v g → g ≡ 0
-  only g o = elim (ℕ-discrete g 0) [ yes z ↦ z | no z ↦ absurd (clash (sym (o .on) ∙ ap (λ r. r .used) (other-record F N g z))) ]
+  only g o = elim (ℕ-discrete g 0) [ yes z ↦ z | no z ↦ absurd (clash (sym (o .on) ∙ ap isUsed (other-record F N g z))) ]
 
   page-zero : (g : ℕ) → Occupied v g → v .page g ≡ 0
   page-zero g o = rw (only g o) (ap (λ r. r .page .0) (root-record F N))
@@ -123,7 +123,7 @@ module _ (fs st : List ℕ) (F N : ℕ) (of : Octets fs) (os : Octets st) (Z : L
     some = rw (opened-pages F N) (Z .some);
     pages = rw (opened-pages F N) (Z .pages);
     someRoots = omega arith;
-    root = λ f l. let z : f ≡ 0 = omega arith in rw z (record { lt = rw (opened-count F N) (omega (arith, Z .least)); on = ap (λ r. r .used) (root-record F N) });
+    root = λ f l. let z : f ≡ 0 = omega arith in rw z (record { lt = rw (opened-count F N) (omega (arith, Z .least)); on = ap isUsed (root-record F N) });
     rootPage = λ f l. let z : f ≡ 0 = omega arith in rw z (ap (λ r. r .page .0) (root-record F N) ∙ sym (mul-zero _));
     pageLt = λ g o. rw (page-zero g o, opened-pages F N) (Z .some);
     apart = λ f g a b e. only f a ∙ sym (only g b);

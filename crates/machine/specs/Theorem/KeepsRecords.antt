@@ -1,39 +1,41 @@
 -- Effects on the records alone keep the invariant: a pin more or less, and the usage counts and the hand that a sweep leaves.
 use mathlib.Core.Path.{_≡_, refl, sym, ap, _∙_}
 use mathlib.Core.Logic.{_≢_}
-use mathlib.Core.Bool.{false}
 use mathlib.Core.List.{List}
 use Prim.Native.Nat.{ℕ, _≤_, _<_}
 use native.Mathlib.Omega.{arith}
 use lib.ListN.{length, length-set}
 use Rattle.page.specs.Figures.{recordCount, maxUsage, maxPins}
+use Rattle.machine.specs.Laws.Flags.{same-flag}
 use Rattle.machine.specs.declared.FrameRecord.{FrameRecord}
 use Rattle.machine.specs.declared.Pool.{Pool}
-use Rattle.machine.specs.Machine.{State, withPool, withRecord, blank, recordAt, pinned, unpinned}
+use Rattle.machine.specs.Machine.{State, withPool, withRecord, blank, isDirty, recordAt, pinned, unpinned}
 use Rattle.machine.specs.Sweep.{Swept, withSwept}
 use Rattle.machine.specs.Laws.SweepLaws.{Cooler, Cooled}
 use Rattle.machine.specs.Calls.{changeRecord}
 use Rattle.machine.specs.History.{Balance, Point, fixedIn, unfixed}
 use Rattle.machine.specs.Theorem.View.{View, view, Occupied}
 use Rattle.machine.specs.Theorem.Invariant.{NeatRecord, Neat, Pins, Invariant, mapOf}
-use Rattle.machine.specs.Theorem.KeepEffect.{Steady, Kept, kept-shape, kept-content, quiet-rewritten}
+use Rattle.machine.specs.Theorem.KeepEffect.{Steady, KeptView, kept-shape, kept-content, quiet-rewritten}
 use Rattle.machine.specs.Theorem.PinsEffect.{pins-kept, pins-pinned, pins-unpinned}
 use Rattle.machine.specs.Theorem.RecordChange.{SamePlace, change-here, change-other, change-same, change-steady, neat-change, neat-place, record-lt}
 
 -- a record that a sweep cooled is as neat: an empty frame's stays blank
 cooler-neat : (f : ℕ) (r q : FrameRecord) → Cooler r q → NeatRecord f r → NeatRecord f q
 cooler-neat f r q c n = record {
+  used = rw (c .used) (n .used);
+  dirty = rw (c .dirty) (n .dirty);
   usage = c .usage (n .usage);
   pins = rw (c .pins) (n .pins);
-  empty = λ e. blanked (n .empty (sym (c .used) ∙ e));
+  empty = λ e. blanked (n .empty (sym (same-flag (c .used)) ∙ e));
   rootParent = λ z. ap (λ i. i .0) (c .parent) ∙ n .rootParent z;
   rootSlot = λ z. c .slot ∙ n .rootSlot z;
 }
   where
     blanked : r ≡ blank → q ≡ blank
     blanked e =
-        let u : q .used ≡ false = c .used ∙ ap (λ t. t .used) e in
-        let d : q .dirty ≡ false = c .dirty ∙ ap (λ t. t .dirty) e in
+        let u : q .used ≡ 0 = c .used ∙ ap (λ t. t .used) e in
+        let d : q .dirty ≡ 0 = c .dirty ∙ ap (λ t. t .dirty) e in
         let h : q .usage ≡ 0 = omega (arith, c .falls (ap (λ (t : FrameRecord). t .pins) e), ap (λ (t : FrameRecord). t .usage) e) in
         let l : q .slot ≡ 0 = c .slot ∙ ap (λ t. t .slot) e in
         let a : q .parent ≡ blank .parent = c .parent ∙ ap (λ t. t .parent) e in
@@ -52,7 +54,7 @@ module _ (x : Point) (I : Invariant x) where
   rs = x .now .pool .records
 
   -- other records of the same pages, as dirty as they were
-  repooled : (q : Pool) → Steady v (view (withPool s q)) → length (q .records) ≡ recordCount → Neat q → ((g : ℕ) → recordAt (q .records) g .dirty ≡ v .dirty g)
+  repooled : (q : Pool) → Steady v (view (withPool s q)) → length (q .records) ≡ recordCount → Neat q → ((g : ℕ) → isDirty (recordAt (q .records) g) ≡ v .dirty g)
       → (b : Balance) → Pins (view (withPool s q)) b → Invariant (record { now = withPool s q; map = x .map; balance = b })
   repooled q K len N dirty b B = record {
     sized = rw (K .sameF, K .sameN) (I .sized);
@@ -69,7 +71,7 @@ module _ (x : Point) (I : Invariant x) where
     pins = B;
   }
     where
-      kept : Kept v (view (withPool s q))
+      kept : KeptView v (view (withPool s q))
       kept = record { steady = K; word = λ g k hg hk. refl }
 
   -- ---- pins
@@ -79,14 +81,14 @@ module _ (x : Point) (I : Invariant x) where
     lt = record-lt x I f (of .lt)
 
     -- the record r in place of frame f's, where its pins are the balance b's: those of f are r's, the others as they were
-    repinned : (r : FrameRecord) → SamePlace (recordAt rs f) r → r .dirty ≡ v .dirty f → r .usage ≤ maxUsage → r .pins ≤ maxPins → (b : Balance)
+    repinned : (r : FrameRecord) → SamePlace (recordAt rs f) r → r .dirty ≡ recordAt rs f .dirty → r .usage ≤ maxUsage → r .pins ≤ maxPins → (b : Balance)
         → (Steady v (view (withPool s (withRecord (s .pool) f r))) → recordAt (withRecord (s .pool) f r .records) f .pins ≡ r .pins
         → ((g : ℕ) → g ≢ f → recordAt (withRecord (s .pool) f r .records) g .pins ≡ v .pins g) → Pins (view (withPool s (withRecord (s .pool) f r))) b)
         → Invariant (record { now = withPool s (withRecord (s .pool) f r); map = x .map; balance = b })
     repinned r P d hu hp b B =
         let K : Steady v (view (withPool s (withRecord (s .pool) f r))) = change-steady s f r (s .frames) (s .store) lt P in
         repooled (withRecord (s .pool) f r) K (length-set rs f r ∙ I .records)
-        (neat-change (s .pool) f r lt (of .lt) (neat-place f (recordAt rs f) r (of .on) P hu hp (I .neat .at f)) (I .neat)) (change-same rs f r (λ t. t .dirty) lt d) b
+        (neat-change (s .pool) f r lt (of .lt) (neat-place f (recordAt rs f) r (of .on) P (rw d (I .neat .at f .dirty)) hu hp (I .neat .at f)) (I .neat)) (change-same rs f r isDirty lt (same-flag d)) b
         (B K (ap (λ t. t .pins) (change-here rs f r lt)) (λ g n. ap (λ t. t .pins) (change-other rs f r g n)))
 
     pub pin-keeps : v .pins f ≢ maxPins → Invariant (record { now = changeRecord s f pinned; map = x .map; balance = fixedIn f (v .page f) (x .balance) })
@@ -107,9 +109,9 @@ module _ (x : Point) (I : Invariant x) where
         (record {
           hand = C .hand;
           at = λ f. cooler-neat f (recordAt rs f) (recordAt (w .records) f) (C .each f) (I .neat .at f);
-          beyond = λ f h. C .each f .used ∙ I .neat .beyond f h;
+          beyond = λ f h. same-flag (C .each f .used) ∙ I .neat .beyond f h;
         })
-        (λ g. C .each g .dirty) (x .balance) (pins-kept _ _ K (x .balance) (I .pins) (λ g. C .each g .pins))
+        (λ g. same-flag (C .each g .dirty)) (x .balance) (pins-kept _ _ K (x .balance) (I .pins) (λ g. C .each g .pins))
       where
         K : Steady v (view (withPool s (withSwept (s .pool) w)))
         K = record {
@@ -117,7 +119,7 @@ module _ (x : Point) (I : Invariant x) where
           sameN = refl;
           roots = refl;
           each = refl;
-          used = λ g. C .each g .used;
+          used = λ g. same-flag (C .each g .used);
           page = λ g. ap (λ p. p .0) (C .each g .page);
           up = λ g. ap (λ p. p .0) (C .each g .parent);
           upSlot = λ g. C .each g .slot;

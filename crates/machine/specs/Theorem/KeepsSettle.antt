@@ -14,17 +14,17 @@ use Rattle.page.specs.Octets.{Octets, buffer-ext}
 use Rattle.machine.specs.declared.FrameRecord.{FrameRecord}
 use Rattle.machine.specs.declared.Pool.{Pool}
 use Rattle.machine.specs.Laws.TestLaws.{clash, case, on, off}
-use Rattle.machine.specs.Machine.{State, recordAt, cleaned, withRecords, found}
+use Rattle.machine.specs.Machine.{State, isUsed, isDirty, recordAt, cleaned, withRecords, found}
 use Rattle.machine.specs.Laws.AgreementFacts.{occupied-used, make-occupied}
 use Rattle.machine.specs.Moves.{plain, writtenOut, writtenOutTo, cleanedTo, settled}
 use Rattle.machine.specs.History.{Point}
 use Rattle.machine.specs.Theorem.View.{View, view, Occupied, Absent, Content}
 use Rattle.machine.specs.Theorem.Invariant.{NeatRecord, Neat, Invariant, mapOf}
-use Rattle.machine.specs.Theorem.KeepEffect.{Kept, kept-shape, steady-was, steady-plain}
+use Rattle.machine.specs.Theorem.KeepEffect.{KeptView, kept-shape, steady-was, steady-plain}
 use Rattle.machine.specs.Theorem.PinsEffect.{pins-kept}
 use Rattle.machine.specs.Laws.MoveLaws.{writtenOutTo-length}
 use Rattle.machine.specs.Laws.FoundLaws.{found-holds, found-none}
-use Rattle.machine.specs.Theorem.WriteOut.{out-octets, out-wordStays, out-byteStays, out-word, out-byte, plain-lt, plain-some}
+use Rattle.machine.specs.Theorem.ImageOut.{out-octets, out-wordStays, out-byteStays, out-word, out-byte, plain-lt, plain-some}
 use Rattle.machine.specs.Theorem.RecordChange.{change-same, neat-change, lengths-kept}
 
 -- ---- the records marked clean
@@ -42,7 +42,7 @@ cleaned-same part e rs zero h g = refl
 cleaned-same part e rs (suc n) h g = change-same (cleanedTo rs n) n _ part (rw (cleaned-length rs n) h) (e _) g ∙ cleaned-same part e rs n (omega arith) g
 
 neat-cleaned : (f : ℕ) (r : FrameRecord) → NeatRecord f r → NeatRecord f (cleaned r)
-neat-cleaned f r n = record { usage = n .usage; pins = n .pins; empty = λ e. ap (λ t. cleaned t) (n .empty e); rootParent = n .rootParent; rootSlot = n .rootSlot }
+neat-cleaned f r n = record { used = n .used; dirty = omega arith; usage = n .usage; pins = n .pins; empty = λ e. ap (λ t. cleaned t) (n .empty e); rootParent = n .rootParent; rootSlot = n .rootSlot }
 
 cleaned-neat : (p : Pool) → Neat p → (n : ℕ) → n ≤ p .count → n ≤ length (p .records) → Neat (withRecords p (cleanedTo (p .records) n))
 unfolding cleanedTo
@@ -76,7 +76,7 @@ module _ (x : Point) (I : Invariant x) where
   ]
 
   dirtyUsed : (n : ℕ) → v .dirty n ≡ true → v .used n ≡ true
-  dirtyUsed n d = elim (case (v .used n)) [ on u ↦ u | off u ↦ absurd (clash (sym d ∙ ap (λ r. r .dirty) (I .neat .at n .empty u))) ]
+  dirtyUsed n d = elim (case (v .used n)) [ on u ↦ u | off u ↦ absurd (clash (sym d ∙ ap isDirty (I .neat .at n .empty u))) ]
 
   module _ (b : List ℕ) (lb : length b ≡ pageSize * v .N) (n : ℕ) (hn : n < v .F) where
     outStays : (p : ℕ) → (p ≡ v .page n → v .dirty n ≡ false) → Right b p → Right (writtenOut rs (s .frames) b n) p
@@ -152,7 +152,7 @@ module _ (x : Point) (I : Invariant x) where
   enough : v .F ≤ length rs
   enough = omega (arith, I .records, I .shape .most)
 
-  kept : Kept v (view (settled s))
+  kept : KeptView v (view (settled s))
   unfolding settled
   kept = record {
     steady = record {
@@ -160,7 +160,7 @@ module _ (x : Point) (I : Invariant x) where
       sameN = refl;
       roots = refl;
       each = refl;
-      used = cleaned-same (λ r. r .used) (λ r. refl) rs (v .F) enough;
+      used = cleaned-same isUsed (λ r. refl) rs (v .F) enough;
       page = cleaned-same (λ r. r .page .0) (λ r. refl) rs (v .F) enough;
       up = cleaned-same (λ r. r .parent .0) (λ r. refl) rs (v .F) enough;
       upSlot = cleaned-same (λ r. r .slot) (λ r. refl) rs (v .F) enough;

@@ -4,6 +4,7 @@ use mathlib.Core.Logic.{_≢_}
 use mathlib.Core.Bool.{false}
 use mathlib.Core.List.{List}
 use Prim.Native.Nat.{ℕ, _+_, _≤_, _<_}
+use native.Mathlib.Omega.{arith}
 use native.Mathlib.Decide.{ℕ-discrete}
 use lib.Dec.{eqb}
 use lib.ListN.{length, length-set}
@@ -14,12 +15,12 @@ use Rattle.page.specs.Page.{name, byte, putPayload, putPayload-length, slot-put
 use Rattle.page.specs.Octets.{Octets, octets-putPayload}
 use Rattle.machine.specs.declared.FrameRecord.{FrameRecord}
 use Rattle.machine.specs.Laws.TestLaws.{clash, pick-yes, pick-no, pick-either, case, on, off}
-use Rattle.machine.specs.Machine.{State, recordAt, dirtied}
+use Rattle.machine.specs.Machine.{State, isDirty, recordAt, dirtied}
 use Rattle.machine.specs.Calls.{dirtiedBy, written}
 use Rattle.machine.specs.History.{Point}
 use Rattle.machine.specs.Theorem.View.{View, view, Occupied, Map, MapSound}
 use Rattle.machine.specs.Theorem.Invariant.{Invariant, mapOf}
-use Rattle.machine.specs.Theorem.KeepEffect.{Kept, kept-shape, kept-content, Rewritten}
+use Rattle.machine.specs.Theorem.KeepEffect.{KeptView, kept-shape, kept-content, Rewritten}
 use Rattle.machine.specs.Theorem.PinsEffect.{pins-kept}
 use Rattle.machine.specs.Theorem.RecordChange.{SamePlace, change-here, change-other, change-same, change-steady, neat-change, neat-place, record-lt, lengths-kept}
 
@@ -67,7 +68,10 @@ module _ (x : Point) (I : Invariant x) (f : ℕ) (of : Occupied (view (x .now)) 
   sameUsage : r .usage ≡ recordAt rs f .usage
   sameUsage = pick-either (λ (t : FrameRecord). t .usage ≡ recordAt rs f .usage) (eqb (length d) 0) (recordAt rs f) (dirtied (recordAt rs f)) refl refl
 
-  kept : Kept v w
+  flagDirty : r .dirty ≤ 1
+  flagDirty = pick-either (λ (t : FrameRecord). t .dirty ≤ 1) (eqb (length d) 0) (recordAt rs f) (dirtied (recordAt rs f)) (I .neat .at f .dirty) (omega arith)
+
+  kept : KeptView v w
   kept = record {
     steady = change-steady s f r (putPayload (s .frames) f offset d) (s .store) lt samePlace;
     word = λ g k hg hk. ap nameOf (slot-putPayload (s .frames) f offset d _ (I .sized .frames) (of .lt) fits g k hk);
@@ -81,14 +85,14 @@ module _ (x : Point) (I : Invariant x) (f : ℕ) (of : Occupied (view (x .now)) 
   stillClean : (g : ℕ) → w .dirty g ≡ false → StillClean g
   stillClean g e = elim (ℕ-discrete g f) [
     | yes q ↦ elim (case (eqb (length d) 0)) [
-      | on z ↦ record { clean = rw q (ap (λ (t : FrameRecord). t .dirty) (pick-yes (dirtied (recordAt rs f)) z refl) ∙ sym (here q) ∙ e); nothing = λ y. eqb-true (length d) 0 z }
-      | off z ↦ absurd (clash (ap (λ (t : FrameRecord). t .dirty) (pick-no (recordAt rs f) z refl) ∙ sym (here q) ∙ e))
+      | on z ↦ record { clean = rw q (ap isDirty (pick-yes (dirtied (recordAt rs f)) z refl) ∙ sym (here q) ∙ e); nothing = λ y. eqb-true (length d) 0 z }
+      | off z ↦ absurd (clash (ap isDirty (pick-no (recordAt rs f) z refl) ∙ sym (here q) ∙ e))
     ]
-    | no q ↦ record { clean = sym (ap (λ t. t .dirty) (change-other rs f r g q)) ∙ e; nothing = λ y. absurd (q y) }
+    | no q ↦ record { clean = sym (ap isDirty (change-other rs f r g q)) ∙ e; nothing = λ y. absurd (q y) }
   ]
     where
-      here : g ≡ f → w .dirty g ≡ r .dirty
-      here q = rw q (ap (λ t. t .dirty) (change-here rs f r lt))
+      here : g ≡ f → w .dirty g ≡ isDirty r
+      here q = rw q (ap isDirty (change-here rs f r lt))
 
   -- the map's payload of every other page stays
   elsewhere : (p i : ℕ) → i < pageSize → p ≢ v .page f → byte m p i ≡ byte (x .map) p i
@@ -119,7 +123,7 @@ module _ (x : Point) (I : Invariant x) (f : ℕ) (of : Occupied (view (x .now)) 
     sized = lengths-kept _ (s .store) (I .sized) (putPayload-length (s .frames) f offset d _ (I .sized .frames) (of .lt) fits) refl;
     records = length-set rs f r ∙ I .records;
     mapLength = putPayload-length (x .map) (v .page f) offset d _ (I .mapLength) pN fits ∙ I .mapLength;
-    neat = neat-change (s .pool) f r lt (of .lt) (neat-place f (recordAt rs f) r (of .on) samePlace (rw sameUsage (I .neat .at f .usage)) (rw samePins (I .neat .at f .pins)) (I .neat .at f)) (I .neat);
+    neat = neat-change (s .pool) f r lt (of .lt) (neat-place f (recordAt rs f) r (of .on) samePlace flagDirty (rw sameUsage (I .neat .at f .usage)) (rw samePins (I .neat .at f .pins)) (I .neat .at f)) (I .neat);
     frameOctets = octets-putPayload (s .frames) f offset d (I .frameOctets) od;
     storeOctets = I .storeOctets;
     mapOctets = octets-putPayload (x .map) (v .page f) offset d (I .mapOctets) od;

@@ -12,7 +12,8 @@ use Rattle.page.specs.Figures.{maxUsage, maxPins}
 use Rattle.machine.specs.declared.FrameRecord.{FrameRecord}
 use Rattle.machine.specs.declared.Pool.{Pool}
 use Rattle.machine.specs.Laws.TestLaws.{clash}
-use Rattle.machine.specs.Machine.{State, state, blank, recordAt, withRecord}
+use Rattle.machine.specs.Machine.{State, state, blank, isUsed, recordAt, withRecord}
+use Rattle.machine.specs.Laws.Flags.{same-flag}
 use Rattle.machine.specs.Laws.Ready.{Lengths}
 use Rattle.machine.specs.Theorem.View.{view}
 use Rattle.machine.specs.History.{Point}
@@ -47,7 +48,7 @@ change-steady s f r fs st h P = record {
   sameN = refl;
   roots = refl;
   each = refl;
-  used = change-same (s .pool .records) f r (λ t. t .used) h (P .used);
+  used = change-same (s .pool .records) f r isUsed h (same-flag (P .used));
   page = change-same (s .pool .records) f r (λ t. t .page .0) h (ap (λ p. p .0) (P .page));
   up = change-same (s .pool .records) f r (λ t. t .parent .0) h (ap (λ p. p .0) (P .parent));
   upSlot = change-same (s .pool .records) f r (λ t. t .slot) h (P .slot);
@@ -56,7 +57,7 @@ change-steady s f r fs st h P = record {
 -- ---- neat records
 
 pub neat-blank : (f : ℕ) → NeatRecord f blank
-neat-blank f = record { usage = omega arith; pins = omega arith; empty = λ e. refl; rootParent = λ e. refl; rootSlot = λ e. refl }
+neat-blank f = record { used = omega arith; dirty = omega arith; usage = omega arith; pins = omega arith; empty = λ e. refl; rootParent = λ e. refl; rootSlot = λ e. refl }
 
 pub neat-change : (p : Pool) (f : ℕ) (r : FrameRecord) → f < length (p .records) → f < p .count → NeatRecord f r → Neat p → Neat (withRecord p f r)
 neat-change p f r l hf n N = record {
@@ -66,11 +67,13 @@ neat-change p f r l hf n N = record {
 }
 
 -- an occupied frame's record, with other pins and usage
-pub neat-place : (f : ℕ) (r t : FrameRecord) → r .used ≡ true → SamePlace r t → t .usage ≤ maxUsage → t .pins ≤ maxPins → NeatRecord f r → NeatRecord f t
-neat-place f r t u P hu hp n = record {
+pub neat-place : (f : ℕ) (r t : FrameRecord) → isUsed r ≡ true → SamePlace r t → t .dirty ≤ 1 → t .usage ≤ maxUsage → t .pins ≤ maxPins → NeatRecord f r → NeatRecord f t
+neat-place f r t u P hd hu hp n = record {
+  used = rw (P .used) (n .used);
+  dirty = hd;
   usage = hu;
   pins = hp;
-  empty = λ e. absurd (clash (sym u ∙ sym (P .used) ∙ e));
+  empty = λ e. absurd (clash (sym u ∙ sym (same-flag (P .used)) ∙ e));
   rootParent = λ z. ap (λ i. i .0) (P .parent) ∙ n .rootParent z;
   rootSlot = λ z. P .slot ∙ n .rootSlot z;
 }

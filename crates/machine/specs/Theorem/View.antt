@@ -8,7 +8,7 @@ use Prim.Native.Nat.{ℕ, _*_, _≤_, _<_}
 use Rattle.page.specs.Figures.{pageSize, slotCount, payloadStart, leastFrames, mostFrames, mostPages}
 use Rattle.page.specs.Word.{frameWord, Number}
 use Rattle.page.specs.Page.{name, byte}
-use Rattle.machine.specs.Machine.{State, recordAt, pageIn}
+use Rattle.machine.specs.Machine.{State, isUsed, isDirty, recordAt, pageIn}
 use Rattle.machine.specs.Moves.{plain}
 
 pub record View : Type 0 where
@@ -34,12 +34,12 @@ view s = record {
   N = s .pool .pages;
   roots = 1;
   each = s .pool .pages;
-  used = λ f. recordAt (s .pool .records) f .used;
+  used = λ f. isUsed (recordAt (s .pool .records) f);
   page = pageIn (s .pool .records);
   up = λ f. recordAt (s .pool .records) f .parent .0;
   upSlot = λ f. recordAt (s .pool .records) f .slot;
   pins = λ f. recordAt (s .pool .records) f .pins;
-  dirty = λ f. recordAt (s .pool .records) f .dirty;
+  dirty = λ f. isDirty (recordAt (s .pool .records) f);
   word = λ f k. name (s .frames) f k;
   bytes = λ f i. byte (s .frames) f i;
   storeWord = λ p k. name (s .store) p k;

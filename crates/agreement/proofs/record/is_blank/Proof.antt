@@ -1,17 +1,15 @@
 -- `is_blank` meets its contract. Assumes nothing.
 use borrow.Author.Needs.{needs}
-use mathlib.Core.Path.{sym, _∙_}
-use Rattle.machine.specs.Laws.TestLaws.{clash}
 use Rattle.agreement.specs.Deciding.{decide-equal}
 use Rattle.agreement.specs.Fit.{Blank}
 use Rattle.agreement.proofs.record.is_blank.Statement.{statement}
 use Rattle.agreement.proofs.record.is_blank.Tie as tie
 
 returns : tie.Need-returns
-returns c = λ b. clash (sym (c .if1 .taken) ∙ b .used)
+returns c = search needs
 
 returns-2 : tie.Need-returns-2
-returns-2 c = λ b. clash (sym (c .if2 .taken) ∙ b .dirty)
+returns-2 c = search needs
 
 returns-3 : tie.Need-returns-3
 returns-3 c = search needs
@@ -27,8 +25,8 @@ returns-6 c = search needs
 
 returns-7 : tie.Need-returns-7
 returns-7 c =
-    decide-equal _ 0 (Blank (c .before .before .before .before .before .before .before .before .before .before .before .args .rec))
-    (λ e. record { used = c .before .before .before .before .before .before .before .before .before .before .if1 .left; dirty = c .before .before .before .before .before .before .before .before .before .if2 .left; usage = c .before .before .before .before .before .before .before .if3 .left; slot = c .before .before .before .before .before .if4 .left; parent = c .before .before .before .if5 .left; pins = c .before .if6 .left; page = e })
+    decide-equal _ 0 (Blank (c .before .before .before .before .before .before .before .before .before .before .before .before .before .args .rec))
+    (λ e. record { used = c .before .before .before .before .before .before .before .before .before .before .before .if1 .left; dirty = c .before .before .before .before .before .before .before .before .before .if2 .left; usage = c .before .before .before .before .before .before .before .if3 .left; slot = c .before .before .before .before .before .if4 .left; parent = c .before .before .before .if5 .left; pins = c .before .if6 .left; page = e })
     (λ b. b .page)
 
 pub is-blank-spec : {M : Type 1} → statement M

@@ -22,7 +22,10 @@ returns-5 : tie.Need-returns-5
 returns-5 c = search needs
 
 returns-6 : tie.Need-returns-6
-returns-6 c = decide-flag _ (RootFits (c .before .before .before .before .before .before .before .before .before .before .args .rec)) (λ u. record { used = u; pins = omega arith; usage = omega arith; slot = omega arith; parent = omega arith; page = omega arith }) (λ r. r .used)
+returns-6 c = search needs
+
+returns-7 : tie.Need-returns-7
+returns-7 c = decide-flag _ (RootFits (c .before .before .before .before .before .before .before .before .before .before .before .before .before .args .rec)) (λ u. record { used = u; pins = omega arith; usage = omega arith; dirty = omega arith; slot = omega arith; parent = omega arith; page = omega arith }) (λ r. r .used)
 
 pub root-fits-spec : {M : Type 1} → statement M
-root-fits-spec = tie.close (tie.spec returns returns-2 returns-3 returns-4 returns-5 returns-6)
+root-fits-spec = tie.close (tie.spec returns returns-2 returns-3 returns-4 returns-5 returns-6 returns-7)

@@ -1,21 +1,21 @@
 -- `write_out` meets its contract: the test on dirty is the definition's own. Assumes nothing.
 use borrow.Author.Needs.{needs}
-use borrow.Author.Tests.{not-true, not-false}
+use borrow.Author.Tests.{eq-eqb, ne-eqb}
 use Rattle.moves.specs.Steps.{written-clean, written-dirty}
 use Rattle.moves.proofs.out.write_out.Statement.{statement}
 use Rattle.moves.proofs.out.write_out.Tie as tie
 
 returns : tie.Need-returns
-returns c = written-clean _ _ _ _ _ (not-true _ (c .if1 .taken))
+returns c = written-clean _ _ _ _ _ (ne-eqb _ 1 (c .if1 .taken))
 
 store-image-requires : tie.Need-store-image-requires
-store-image-requires c κs = let a = c .before .before .before .before .before in (a .pre .placed, a .pre .words (not-false _ (c .before .before .if1 .left)))
+store-image-requires c κs = let a = c .before .before .before .before .before .before in (a .pre .placed, a .pre .words (eq-eqb _ 1 (c .before .before .if1 .left)))
 
 same-length : tie.Need-same-length
 same-length c = search needs
 
 returns-2 : tie.Need-returns-2
-returns-2 c = written-dirty _ _ _ _ _ _ (not-false _ (c .before .before .before .before .before .if1 .left)) (c .before .before .store-image .ensures)
+returns-2 c = written-dirty _ _ _ _ _ _ (eq-eqb _ 1 (c .before .before .before .before .before .if1 .left)) (c .before .before .store-image .ensures)
 
 pub write-out-spec : {M : Type 1} → statement M
 write-out-spec = tie.close (tie.spec returns store-image-requires same-length returns-2)

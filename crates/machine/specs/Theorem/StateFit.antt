@@ -2,12 +2,12 @@
 use Prim.Native.Nat.{ℕ, zero, suc, _<_, _≤_}
 use mathlib.Core.Path.{_≡_, refl, sym, _∙_, ap}
 use mathlib.Core.Logic.{_≢_}
-use mathlib.Core.Bool.{Bool, true, false, not}
+use mathlib.Core.Bool.{true, false}
 use mathlib.Core.List.{List, _∷_}
 use native.Mathlib.Omega.{arith}
 use native.Mathlib.Nat.{mul-zero}
 use native.Mathlib.Decide.{ℕ-discrete, decLt}
-use borrow.Author.Tests.{eqb-true, not-true}
+use borrow.Author.Tests.{eqb-true}
 use lib.Dec.{eqb}
 use lib.ListN.{length, List·getD-eq-default}
 use Rattle.page.specs.Figures.{recordCount, slotCount}
@@ -17,7 +17,7 @@ use Rattle.page.specs.Octets.{Octets}
 use Rattle.machine.specs.declared.FrameRecord.{FrameRecord}
 use Rattle.machine.specs.Tests.{_and_, Rule, firstBroken}
 use Rattle.machine.specs.Laws.TestLaws.{clash, case, on, off, is-off, and-true, or-second, kept-then}
-use Rattle.machine.specs.Machine.{State, recordAt, occupied, blank, frameIndex, pageNumber}
+use Rattle.machine.specs.Machine.{State, isUsed, recordAt, occupied, blank, frameIndex, pageNumber}
 use Rattle.machine.specs.Agreement.{parentOf, isBlank, reachesRoot}
 use Rattle.machine.specs.Laws.Parents.{climb, climb-reach}
 use Rattle.machine.specs.Laws.AgreementFacts.{occupied-lt, occupied-used, make-occupied, Points, InRange, Agreed, tests}
@@ -57,17 +57,17 @@ module _ (s : State) (I : Fit s) where
 
   -- ---- rule 2
   blank-range : (r : FrameRecord) → r ≡ blank → InRange (s .pool) r
-  blank-range r e = rw e (record { page = I .shape .some; pins = omega arith; usage = omega arith; parent = omega (arith, I .shape .least); slot = omega arith })
+  blank-range r e = rw e (record { page = I .shape .some; pins = omega arith; usage = omega arith; parent = omega (arith, I .shape .least); slot = omega arith; used = omega arith; dirty = omega arith })
 
   root-range : InRange (s .pool) (recordAt (s .pool .records) 0)
   root-range =
       let N : NeatRecord 0 (recordAt (s .pool .records) 0) = I .neat .at 0 in
-      record { page = I .shape .pageLt 0 (first-root _ (I .shape)); pins = N .pins; usage = N .usage; parent = rw (N .rootParent refl) (first-root _ (I .shape) .lt); slot = rw (N .rootSlot refl) (omega arith) }
+      record { page = I .shape .pageLt 0 (first-root _ (I .shape)); pins = N .pins; usage = N .usage; parent = rw (N .rootParent refl) (first-root _ (I .shape) .lt); slot = rw (N .rootSlot refl) (omega arith); used = N .used; dirty = N .dirty }
 
   other-range : (f : ℕ) → Occupied (view s) f → f ≢ 0 → InRange (s .pool) (recordAt (s .pool .records) f)
   other-range f o n =
       let P : Parent (view s) f = I .shape .parent f o (past-first n) in
-      record { page = I .shape .pageLt f o; pins = I .neat .at f .pins; usage = I .neat .at f .usage; parent = P .occupied .lt; slot = P .inPage }
+      record { page = I .shape .pageLt f o; pins = I .neat .at f .pins; usage = I .neat .at f .usage; parent = P .occupied .lt; slot = P .inPage; used = I .neat .at f .used; dirty = I .neat .at f .dirty }
 
   in-ranges : (f : ℕ) → InRange (s .pool) (recordAt (s .pool .records) f)
   in-ranges f = elim (case (occupied (s .pool) f)) [
@@ -117,23 +117,23 @@ module _ (s : State) (I : Fit s) where
 
 -- ---- what passes rules 1 and 2 is one
 
-record-ext : (r : FrameRecord) → r .used ≡ false → r .dirty ≡ false → r .usage ≡ 0 → r .slot ≡ 0 → r .parent .0 ≡ 0 → r .pins ≡ 0 → r .page .0 ≡ 0 → r ≡ blank
+record-ext : (r : FrameRecord) → r .used ≡ 0 → r .dirty ≡ 0 → r .usage ≡ 0 → r .slot ≡ 0 → r .parent .0 ≡ 0 → r .pins ≡ 0 → r .page .0 ≡ 0 → r ≡ blank
 record-ext r a b c d e f g = made (r .used) (r .dirty) (r .usage) (r .slot) (r .parent .0) (r .pins) (r .page .0) a b c d e f g
   where
-    made : (u y : Bool) (h k p n q : ℕ) → u ≡ false → y ≡ false → h ≡ 0 → k ≡ 0 → p ≡ 0 → n ≡ 0 → q ≡ 0
+    made : (u y h k p n q : ℕ) → u ≡ 0 → y ≡ 0 → h ≡ 0 → k ≡ 0 → p ≡ 0 → n ≡ 0 → q ≡ 0
         → _≡_ {A = FrameRecord} (record { used = u; dirty = y; usage = h; slot = k; parent = frameIndex p; pins = n; page = pageNumber q }) blank
     made u y h k p n q a b c d e f g = rw (a, b, c, d, e, f, g) refl
 
 is-blank : (r : FrameRecord) → isBlank r ≡ true → r ≡ blank
 unfolding isBlank
 is-blank r t =
-    let a = and-true (not (r .used)) _ t in
-    let b = and-true (not (r .dirty)) _ (a .1) in
+    let a = and-true (eqb (r .used) 0) _ t in
+    let b = and-true (eqb (r .dirty) 0) _ (a .1) in
     let c = and-true (eqb (r .usage) 0) _ (b .1) in
     let d = and-true (eqb (r .slot) 0) _ (c .1) in
     let e = and-true (eqb (r .parent .0) 0) _ (d .1) in
     let f = and-true (eqb (r .pins) 0) _ (e .1) in
-    record-ext r (not-true _ (a .0)) (not-true _ (b .0)) (eqb-true _ 0 (c .0)) (eqb-true _ 0 (d .0)) (eqb-true _ 0 (e .0)) (eqb-true _ 0 (f .0)) (eqb-true _ 0 (f .1))
+    record-ext r (eqb-true _ 0 (a .0)) (eqb-true _ 0 (b .0)) (eqb-true _ 0 (c .0)) (eqb-true _ 0 (d .0)) (eqb-true _ 0 (e .0)) (eqb-true _ 0 (f .0)) (eqb-true _ 0 (f .1))
 
 module _ (s : State) (n : length (s .pool .records) ≡ recordCount) (o : Octets (s .frames)) (K : Kept s) where
   abbrev A : Agreed (s .pool) (s .frames)
@@ -149,6 +149,8 @@ module _ (s : State) (n : length (s .pool .records) ≡ recordCount) (o : Octets
   neat-record f = elim (decLt f recordCount) [
     | no l ↦ rw (beyond-blank f (omega arith)) (neat-blank f)
     | yes l ↦ record {
+      used = A .inRange f l .used;
+      dirty = A .inRange f l .dirty;
       usage = A .inRange f l .usage;
       pins = A .inRange f l .pins;
       empty = λ u. empty-blank f (is-off _ (λ t. clash (sym (occupied-used (s .pool) f t) ∙ u)));
@@ -178,7 +180,7 @@ module _ (s : State) (n : length (s .pool .records) ≡ recordCount) (o : Octets
     neat = record {
       hand = A .hand;
       at = neat-record;
-      beyond = λ f l. ap (λ (r : FrameRecord). r .used) (empty-blank f (is-off _ (λ t. omega (arith, occupied-lt (s .pool) f t))));
+      beyond = λ f l. ap isUsed (empty-blank f (is-off _ (λ t. omega (arith, occupied-lt (s .pool) f t))));
     };
     frameOctets = o;
     shape = record {

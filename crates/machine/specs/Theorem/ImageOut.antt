@@ -11,6 +11,7 @@ use Rattle.page.specs.Word.{nameOf, reading, low, high}
 use Rattle.page.specs.Page.{slot, name, byte, pageOf, putPage, pageOf-length, byte-putPage-same, byte-putPage-other, slot-putPage-same, slot-putPage-other, byte-pageOf, slot-pageOf, byte-first}
 use Rattle.page.specs.Octets.{Octets, octets-pageOf, octets-putPage}
 use Rattle.machine.specs.declared.FrameRecord.{FrameRecord}
+use Rattle.machine.specs.Machine.{isDirty}
 use Rattle.machine.specs.Laws.TestLaws.{clash, pick-yes, pick-no, pick-either, case, on, off}
 use Rattle.machine.specs.Moves.{plain, imaged, imageTo, writtenOutBy}
 use Rattle.machine.specs.Laws.PlainLaws.{plain-low, plain-high, name-imaged, imaged-lt}
@@ -19,18 +20,18 @@ use Rattle.machine.specs.Laws.MoveLaws.{image-length, octets-image, imag
 
 -- the image of the page in frame f goes to the store, by its record r
 module _ (page : ℕ → ℕ) (r : FrameRecord) (fs st : List ℕ) (f : ℕ) where
-  out-clean : r .dirty ≡ false → writtenOutBy page r fs st f ≡ st
+  out-clean : isDirty r ≡ false → writtenOutBy page r fs st f ≡ st
   unfolding writtenOutBy
   out-clean d = sym (pick-no _ d refl)
 
-  out-dirty : r .dirty ≡ true → writtenOutBy page r fs st f ≡ putPage st (r .page .0) (imageTo page (pageOf fs f) slotCount)
+  out-dirty : isDirty r ≡ true → writtenOutBy page r fs st f ≡ putPage st (r .page .0) (imageTo page (pageOf fs f) slotCount)
   unfolding writtenOutBy
   out-dirty d = sym (pick-yes st d refl)
 
   pub out-octets : Octets fs → Octets st → Octets (writtenOutBy page r fs st f)
   unfolding writtenOutBy
   out-octets hf hs =
-      pick-either Octets (r .dirty) (putPage st (r .page .0) (imageTo page (pageOf fs f) slotCount)) st
+      pick-either Octets (isDirty r) (putPage st (r .page .0) (imageTo page (pageOf fs f) slotCount)) st
       (octets-putPage st (r .page .0) (imageTo page (pageOf fs f) slotCount) hs (octets-image page (pageOf fs f) slotCount (octets-pageOf fs f hf))) hs
 
   module _ (F N : ℕ) (lf : length fs ≡ pageSize * F) (hf : f < F) (ls : length st ≡ pageSize * N) (hp : r .page .0 < N) where
@@ -41,20 +42,20 @@ module _ (page : ℕ → ℕ) (r : FrameRecord) (fs st : List ℕ) (f : ℕ) whe
     imageLength = image-length page (pageOf fs f) slotCount ∙ pageLength
 
     -- a page that is another, or clean, stays
-    pub out-wordStays : (p k : ℕ) → k < slotCount → (p ≡ r .page .0 → r .dirty ≡ false) → name (writtenOutBy page r fs st f) p k ≡ name st p k
-    out-wordStays p k hk h = elim (case (r .dirty)) [
+    pub out-wordStays : (p k : ℕ) → k < slotCount → (p ≡ r .page .0 → isDirty r ≡ false) → name (writtenOutBy page r fs st f) p k ≡ name st p k
+    out-wordStays p k hk h = elim (case (isDirty r)) [
       | on d ↦ ap (λ (b : List ℕ). name b p k) (out-dirty d) ∙ ap nameOf (slot-putPage-other st (r .page .0) _ N p k ls imageLength hp (λ q. clash (sym d ∙ h (sym q))) hk)
       | off d ↦ ap (λ (b : List ℕ). name b p k) (out-clean d)
     ]
 
-    pub out-byteStays : (p i : ℕ) → i < pageSize → (p ≡ r .page .0 → r .dirty ≡ false) → byte (writtenOutBy page r fs st f) p i ≡ byte st p i
-    out-byteStays p i l h = elim (case (r .dirty)) [
+    pub out-byteStays : (p i : ℕ) → i < pageSize → (p ≡ r .page .0 → isDirty r ≡ false) → byte (writtenOutBy page r fs st f) p i ≡ byte st p i
+    out-byteStays p i l h = elim (case (isDirty r)) [
       | on d ↦ ap (λ (b : List ℕ). byte b p i) (out-dirty d) ∙ byte-putPage-other st (r .page .0) _ N p i ls imageLength hp (λ q. clash (sym d ∙ h (sym q))) l
       | off d ↦ ap (λ (b : List ℕ). byte b p i) (out-clean d)
     ]
 
     -- a dirty page's is its image
-    module _ (d : r .dirty ≡ true) (small : (k : ℕ) → k < slotCount → plain page (name fs f k) < mostPages) where
+    module _ (d : isDirty r ≡ true) (small : (k : ℕ) → k < slotCount → plain page (name fs f k) < mostPages) where
       smallPage : (k : ℕ) → k < slotCount → imaged page (slot (pageOf fs f) 0 k) < wordRadix
       smallPage k hk = rw (slot-pageOf fs f k hk) (imaged-lt page (slot fs f k) (small k hk))
 
