@@ -58,8 +58,7 @@ pub fn bring_in(
     // The usages that it left go to the records; the page of the frame that it took goes, and the other comes in.
     let mut g: usize = 0;
     while g < most {
-        let rec = next.records[g];
-        next.records[g] = scan::cooled(rec, sights[g]);
+        next.records[g].usage = scan::usage_left(sights[g]);
         g += 1;
     }
     let hand_after = walk.hand;
