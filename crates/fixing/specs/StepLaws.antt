@@ -30,12 +30,12 @@ use Rattle.machine.specs.Laws.SweepLaws.{open-childless, sweep-sound, swept-rea
 use Rattle.machine.specs.Laws.MoveLaws.{evicted-sized}
 use Rattle.seen.specs.Seen.{Seen}
 use Rattle.residents.specs.Handed.{Handed}
-use Rattle.naming.specs.ByTable.{loadableBy, loadable-by}
+use Rattle.naming.specs.NamedByTables.{loadableBy, loadable-by}
 use Rattle.scan.specs.declared.Walk.{Walk}
-use Rattle.scan.specs.ByTable.{emptyBy, empty-by}
+use Rattle.scan.specs.FoundByTable.{emptyBy, empty-by}
 use Rattle.scan.specs.Walk.{cooledTo, Sees, Walked, Cools, Few, cools-none, cools-next, same-end, same-sweep}
 use Rattle.moves.specs.InAndOut.{Removable, TakenOut, Fitting, broughtIn, removable, is-evicted, fitting, is-loaded}
-use Rattle.fixing.specs.Steps.{refusedFix, givenFix, fixOut, pinDecided, missDecided, sweptDecided}
+use Rattle.fixing.specs.FixSteps.{refusedFix, givenFix, fixOut, pinDecided, missDecided, sweptDecided}
 
 -- ---- rules
 

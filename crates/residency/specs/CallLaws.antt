@@ -28,7 +28,7 @@ use Rattle.machine.specs.Laws.RuleLaws.{done-no, done-yes, HandleKept, handle-k
 use Rattle.seen.specs.Seen.{Seen}
 use Rattle.residents.specs.Handed.{Handed}
 use Rattle.guard.specs.Held.{recordPlace}
-use Rattle.scan.specs.ByTable.{foundBy, kept, counted, at-found}
+use Rattle.scan.specs.FoundByTable.{foundBy, kept, counted-frames, at-found}
 use Rattle.moves.specs.InAndOut.{Removable, TakenOut, removable, is-evicted}
 use Rattle.residency.specs.Opening.{blankPool}
 
@@ -77,11 +77,11 @@ module _ (s : State) (q : PageNumber) {residents : List ℕ} {seen : Seen} {n F 
 
     pub evict-absent : F ≤ f → out (doneAnswer 11) s ≡ evictCall s q
     unfolding evictCall rest
-    evict-absent l = done-no s _ _ (page-passes s q rest (e .0) z (sym (broken-here 11 _ (rw (← here) (le-ltb f _ (omega (arith, counted s q e z c))))))) (λ y. omega arith)
+    evict-absent l = done-no s _ _ (page-passes s q rest (e .0) z (sym (broken-here 11 _ (rw (← here) (le-ltb f _ (omega (arith, counted-frames s q e z c))))))) (λ y. omega arith)
 
     module _ (l : f < F) where
       below : f < s .pool .count
-      below = omega (arith, counted s q e z c)
+      below = omega (arith, counted-frames s q e z c)
 
       resident : ltb (found (s .pool) (q .0)) (s .pool .count) ≡ true
       resident = rw (← here) (lt-ltb f _ below)

@@ -14,7 +14,7 @@ ghost use lib.ListN.{length};
 ghost use Rattle.page.specs.Figures.{pageSize, mostFrames, maxUsage};
 ghost use Rattle.machine.specs.Machine.{frameIndex};
 ghost use Rattle.machine.specs.Sweep.{after, kind};
-ghost use Rattle.scan.specs.ByTable.{foundBy, emptyBy};
+ghost use Rattle.scan.specs.FoundByTable.{foundBy, emptyBy};
 ghost use Rattle.scan.specs.Walk.{sight as classAndUsage, lookedAt, Walked};
 
 // The usages that there are. What a sweep sees of a frame is one number: its usage, and above that its class, 0 for a frame that is open to eviction.

@@ -5,7 +5,7 @@ use native.Mathlib.Omega.{arith}
 use Rattle.page.specs.Figures.{mostFrames}
 use Rattle.machine.specs.Machine.{state, recordAt}
 use Rattle.machine.specs.Laws.RuleLaws.{SlotKept, slot-kept}
-use Rattle.fixing.specs.Steps.{pinDecided}
+use Rattle.fixing.specs.FixSteps.{pinDecided}
 use Rattle.fixing.specs.StepLaws.{pin-denied, pin-given, fix-denied, fix-nothing, fix-missed, fix-pinned, number-below, frame-below}
 use borrow.Author.Needs.{needs}
 use Rattle.fixing.proofs.fix.Statement.{statement}

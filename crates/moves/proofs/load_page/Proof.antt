@@ -1,6 +1,6 @@
 -- `load_page` meets its contract: the parent's old word is read before the page is copied. Assumes nothing.
 use mathlib.Core.Path.{refl}
-use Rattle.moves.specs.Steps.{renamed-put}
+use Rattle.moves.specs.MoveSteps.{renamed-put}
 use Rattle.moves.specs.InAndOut.{broughtIn}
 use borrow.Author.Needs.{needs}
 use Rattle.moves.proofs.load_page.Statement.{statement}

@@ -4,7 +4,7 @@ use Prim.Native.Nat.{_≤_, _-_}
 use mathlib.Core.Path.{_≡_, refl}
 use native.Mathlib.Omega.{arith}
 use lib.ListN.{length}
-use Rattle.moves.specs.Steps.{Settling, settling-none, settling-writable, settling-more, is-settled}
+use Rattle.moves.specs.MoveSteps.{Settling, settling-none, settling-writable, settling-more, is-settled}
 use Rattle.moves.proofs.settle_pages.Statement.{statement}
 use Rattle.moves.proofs.settle_pages.Tie as tie
 

@@ -9,7 +9,7 @@ use Rattle.machine.specs.Sweep.{kind}
 use Rattle.machine.specs.Answers.{Out}
 use Rattle.machine.specs.Laws.Ready.{ready}
 use Rattle.scan.specs.Walk.{Sees, sees-none, sees-next}
-use Rattle.fixing.specs.Steps.{missDecided, sweptDecided}
+use Rattle.fixing.specs.FixSteps.{missDecided, sweptDecided}
 use Rattle.fixing.specs.StepLaws.{Cooling, Took, cooling-none, cooling-next, took, loadable-told, empty-told, load-given, victim-below, victim-removable, victim-fitting, swept-given, swept-denied, miss-denied, miss-empty, miss-full}
 use borrow.Author.Needs.{needs}
 use Rattle.fixing.proofs.load.bring_in.Statement.{statement}
