@@ -115,9 +115,7 @@ fn looked_at(sight: u8) -> u8
 pub fn cooled(rec: FrameRecord, sight: u8) -> FrameRecord
     ensures { λ r. ⌜ r ≡ cooledTo rec sight ⌝ }
 {
-    let mut next = rec;
-    next.usage = sight % USAGES;
-    next
+    records::with_usage(rec, sight % USAGES)
 }
 
 // The clock sweep over what it sees of the frames: at most 4 × F looks, until one open to eviction at usage 0 is taken.
