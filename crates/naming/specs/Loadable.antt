@@ -13,8 +13,9 @@ use Rattle.machine.specs.Tests.{every}
 use Rattle.machine.specs.Laws.TestLaws.{clash, same, is-off, both, and-true, or-left, or-right, or-second, every-true, true-every, some-true, true-some}
 use Rattle.machine.specs.Machine.{State}
 use Rattle.machine.specs.Naming.{namedByResident, repeated, wordLoadable, loadable}
-use Rattle.seen.specs.Seen.{fresh, pageWords}
-use Rattle.seen.specs.SeenLaws.{Fresh, fresh-zero, fresh-new, fresh-is, not-among, none-among}
+use Rattle.seen.specs.Among.{pageWords, not-among, none-among}
+use Rattle.seen.specs.Seen.{fresh}
+use Rattle.seen.specs.SeenLaws.{Fresh, fresh-zero, fresh-new, fresh-is}
 
 module _ (s : State) (q : ℕ) where
   abbrev w : ℕ → ℕ

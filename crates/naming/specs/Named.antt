@@ -17,7 +17,7 @@ use Rattle.machine.specs.Laws.FoundLaws.{found-holds, found-is, none-found}
 use Rattle.machine.specs.Moves.{plain}
 use Rattle.machine.specs.Naming.{currentWord, named, namedByResident}
 use Rattle.machine.specs.Laws.Ready.{Kept}
-use Rattle.seen.specs.Seen.{pageWords}
+use Rattle.seen.specs.Among.{pageWords}
 use Rattle.residents.specs.Residents.{Residents}
 use Rattle.residents.specs.ResidentLaws.{Names, names-of, of-names, table-in, not-in-table}
 use Rattle.naming.specs.Stored.{inStore, Stored, stored-of, of-stored}

@@ -20,8 +20,7 @@ use Rattle.machine.specs.Laws.AgreementFacts.{occupied-lt, Points, Agreed}
 use Rattle.machine.specs.Moves.{plain}
 use Rattle.machine.specs.Naming.{namedByResident}
 use Rattle.machine.specs.Laws.PlainLaws.{plain-low, plain-high}
-use Rattle.seen.specs.Seen.{among, pageWords}
-use Rattle.seen.specs.SeenLaws.{is-among, among-is}
+use Rattle.seen.specs.Among.{among, pageWords, is-among, among-is}
 use Rattle.residents.specs.Residents.{pageBy, Residents, inTable, holdsPage, inFrames}
 
 pub slot-word : (b : List ℕ) (p k : ℕ) → name b p k ≡ pageWords b p k

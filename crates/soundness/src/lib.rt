@@ -14,7 +14,7 @@ pub fn is_sound(store: &[u8], n: usize) -> bool
     let mut seen = seen::NONE;
     let mut p: usize = 0;
     while p < n {
-        if seen::has_word(store, PageNumber::SIZE * p) {
+        if seen::words::has_word(store, PageNumber::SIZE * p) {
             if !seen::mark_page(store, PageNumber::SIZE * p, n, &mut seen) {
                 return false;
             }

@@ -28,7 +28,7 @@ mul-mark-page : tie.Need-mul-mark-page Inv-loop μ-loop
 mul-mark-page c = search needs
 
 mark-page-requires : tie.Need-mark-page-requires Inv-loop μ-loop
-mark-page-requires c κs = (omega arith, omega arith, c .before .before .before .before .loop .inv .1 .tells .size)
+mark-page-requires c κs = (omega arith, omega arith, c .before .before .before .before .loop .inv .1 .tells .table)
 
 returns : tie.Need-returns Inv-loop μ-loop
 returns c =

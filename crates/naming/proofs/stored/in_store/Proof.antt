@@ -19,11 +19,11 @@ abbrev μ-loop : tie.MeasureT-loop
 loop-holds : tie.Need-loop-holds Inv-loop μ-loop
 loop-holds c = (omega arith, in-no-page _ _ _)
 
-mul-page-has : tie.Need-mul-page-has Inv-loop μ-loop
-mul-page-has c = search needs
+mul-has : tie.Need-mul-has Inv-loop μ-loop
+mul-has c = search needs
 
-page-has-requires : tie.Need-page-has-requires Inv-loop μ-loop
-page-has-requires c κs = search needs
+has-requires : tie.Need-has-requires Inv-loop μ-loop
+has-requires c κs = search needs
 
 cast-t10 : tie.Need-cast-t10 Inv-loop μ-loop
 cast-t10 c = search needs
@@ -34,7 +34,7 @@ is-resident-requires c κs = search needs
 returns : tie.Need-returns Inv-loop μ-loop
 returns c =
     sym (in-page _ _ _ _ (c .before .before .before .before .before .loop .p) (omega arith)
-    (sym (c .before .before .before .page-has .ensures) ∙ c .before .before .if1 .taken) (call-no (c .before .is-resident .ensures) (c .if2 .taken)))
+    (sym (c .before .before .before .has .ensures) ∙ c .before .before .if1 .taken) (call-no (c .before .is-resident .ensures) (c .if2 .taken)))
 
 add-p : tie.Need-add-p Inv-loop μ-loop
 add-p c = search needs
@@ -47,7 +47,7 @@ loop-again c = (
   omega arith,
   ⊎-elim
       (λ a. pass-resident _ _ _ _ (call-yes (a .1 .ensures) (a .2 .left)))
-      (λ a. pass-other _ _ _ _ (sym (c .before .page-has .ensures) ∙ a .left))
+      (λ a. pass-other _ _ _ _ (sym (c .before .has .ensures) ∙ a .left))
       (c .if1 .came)
       ∙ c .before .before .before .loop .inv .1,
 )
@@ -64,8 +64,8 @@ in-store-spec =
     Inv-loop
     μ-loop
     loop-holds
-    mul-page-has
-    page-has-requires
+    mul-has
+    has-requires
     cast-t10
     is-resident-requires
     returns
