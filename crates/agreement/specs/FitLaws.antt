@@ -17,7 +17,7 @@ use lib.Seq.{getD-set-same, getD-set-other}
 use lib.Bits.{bitOr, bitAnd, or-add-and, and-le-l, and-le-r, or-zero-l}
 use Rattle.page.specs.Figures.{slotCount, pageSize, wordSize, mostPages}
 use Rattle.page.specs.Word.{nameAt}
-use Rattle.page.specs.Page.{slot, name}
+use Rattle.page.specs.Page.{slot, name, name-row}
 use Rattle.machine.specs.declared.FrameRecord.{FrameRecord}
 use Rattle.machine.specs.Tests.{_and_}
 use Rattle.machine.specs.Laws.TestLaws.{pick-yes, pick-no, both, and-true, and-yes, and-no, clash}
@@ -132,11 +132,6 @@ below-lt N w o = elim (decLt w N) [
 pub numbers-lt : (fs : List ℕ) (N at : ℕ) (ns : List ℕ) → 1 ≤ N → BelowOf fs N at ns → (k : ℕ) → k < slotCount → entry ns k < N
 numbers-lt fs N at ns o B k h = rw (B .right k h) (below-lt N _ o)
 
--- the word in slot k of frame f, from where the frame starts
-pub slot-from : (fs : List ℕ) (f k : ℕ) → name fs f k ≡ nameAt fs (pageSize * f + wordSize * k)
-unfolding slot
-slot-from fs f k = refl
-
 module _ (rs : List FrameRecord) (fs : List ℕ) (N f : ℕ) where
   -- place j of frame f
   module _ (j : ℕ) (h : j < perFrame) where
@@ -167,7 +162,7 @@ module _ (rs : List FrameRecord) (fs : List ℕ) (N f : ℕ) where
 
   -- the row has the words of an occupied frame
   has-words : isUsed (recordAt rs f) ≡ true → HasWords fs N (pageSize * f) (numbers rs fs N) (perFrame * f + 1)
-  has-words u k h = ap (numbers rs fs N) (add-assoc (perFrame * f) 1 k) ∙ numbers-word k h u ∙ ap (numberBelow N) (slot-from fs f k)
+  has-words u k h = ap (numbers rs fs N) (add-assoc (perFrame * f) 1 k) ∙ numbers-word k h u ∙ ap (numberBelow N) (name-row fs f k)
 
   -- the row has the numbers of frame f
   pub has-numbers : HasNumbers fs N f (recordAt rs f) (numbers rs fs N) (perFrame * f)

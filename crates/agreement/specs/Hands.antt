@@ -7,7 +7,7 @@ use mathlib.Core.List.{List, []}
 use native.Mathlib.Omega.{arith}
 use Rattle.page.specs.Figures.{slotCount, mostPages}
 use Rattle.page.specs.Word.{Number}
-use Rattle.page.specs.Page.{name}
+use Rattle.page.specs.Page.{name, name-row}
 use Rattle.machine.specs.declared.Pool.{Pool}
 use Rattle.machine.specs.Tests.{_or_}
 use Rattle.machine.specs.Laws.TestLaws.{case, on, off, same, or-left, or-right, or-second}
@@ -18,7 +18,7 @@ use Rattle.seen.specs.Among.{among, is-among, among-is}
 use Rattle.seen.specs.Seen.{Seen}
 use Rattle.seen.specs.SeenLaws.{tells-ext}
 use Rattle.residents.specs.Residents.{Residents, inTable, inFrames}
-use Rattle.residents.specs.ResidentLaws.{slot-word, in-table, table-in, held-of, of-held, by-table}
+use Rattle.residents.specs.ResidentLaws.{in-table, table-in, held-of, of-held, by-table}
 use Rattle.residents.specs.Handed.{Handed}
 use Rattle.agreement.specs.Sizes.{Sizes}
 use Rattle.agreement.specs.Deciding.{Decides}
@@ -61,7 +61,7 @@ module _ (p : Pool) (fs : List ℕ) (S : Sizes (p .count) (p .pages) fs) (A : Ag
         by ∙ elim (at p fs S A (r .0) (r .1)) [
           | nothing z ↦ absurd (omega arith)
           | page f o m q ↦ or-left _ (in-table s (S .most) A residents T f x o (sym q ∙ e))
-          | loose f k o h m b n q ↦ or-right (inTable residents x) (of-held s (S .most) A residents T x (record { frame = f; slot = k; at = o; inPage = h; word = sym (slot-word fs f k) ∙ sym q ∙ e }))
+          | loose f k o h m b n q ↦ or-right (inTable residents x) (of-held s (S .most) A residents T x (record { frame = f; slot = k; at = o; inPage = h; word = sym (name-row fs f k) ∙ sym q ∙ e }))
         ]
 
     named-row : namedByResident s x ≡ true → inRow x ≡ true
@@ -69,7 +69,7 @@ module _ (p : Pool) (fs : List ℕ) (S : Sizes (p .count) (p .pages) fs) (A : Ag
       | on i ↦ let g = table-in s (S .most) A residents T x i in row-page (g .0) x (g .1) (g .2)
       | off i ↦
           let h = held-of s (S .most) A residents T x (or-second (inTable residents x) _ (sym by ∙ t) i) in
-          row-word (h .frame) (h .slot) x (h .at) (h .inPage) (slot-word _ _ _ ∙ h .word) (omega arith) (λ z. omega arith)
+          row-word (h .frame) (h .slot) x (h .at) (h .inPage) (name-row _ _ _ ∙ h .word) (omega arith) (λ z. omega arith)
     ]
 
   handed : Handed p fs residents seen

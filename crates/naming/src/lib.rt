@@ -2,6 +2,7 @@
 pub mod stored;
 
 use page::PageNumber;
+use page::StorePlace;
 use residents::Residents;
 use seen::Seen;
 ghost use mathlib.Core.Path.{_≡_};
@@ -34,7 +35,7 @@ pub fn is_loadable(store: &[u8], n: usize, page: PageNumber, seen: &mut Seen) ->
     requires { ⌜ (n ≤ mostPages) × (length (now store) ≡ pageSize * n) × (page .0 < n) × Table (now seen) ⌝ }
     ensures { λ r. ⌜ r ≡ loadableBy (now (seen .entry)) (now (store .entry)) n (page .0) ⌝ }
 {
-    let at = PageNumber::SIZE * page.0 as usize;
+    let at = StorePlace::start(PageNumber::place(page));
     if !seen::words::has_word(store, at) {
         return true;
     }

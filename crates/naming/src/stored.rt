@@ -1,5 +1,6 @@
 // A word looked for in stored pages, whole pages at a time; the table is asked only of a page that has it.
 use page::PageNumber;
+use page::StorePlace;
 use residents::Residents;
 ghost use mathlib.Core.Path.{_≡_};
 ghost use Prim.Native.Nat.{_*_, _≤_};
@@ -14,7 +15,8 @@ pub fn in_store(store: &[u8], residents: &Residents, n: usize, w: u32) -> bool
 {
     let mut p: usize = 0;
     while p < n {
-        if seen::words::has(store, PageNumber::SIZE * p, w) {
+        let at = StorePlace::start(StorePlace(p as u16));
+        if seen::words::has(store, at, w) {
             if !residents::is_resident(residents, PageNumber(p as u16)) {
                 return true;
             }

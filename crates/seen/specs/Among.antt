@@ -8,19 +8,10 @@ use native.Mathlib.Numerals.{add-one}
 use native.Mathlib.Omega.{arith}
 use borrow.Author.Tests.{eq-eqb, ne-eqb, eqb-true, not-false}
 use lib.Dec.{eqb}
-use Rattle.page.specs.Figures.{pageSize, slotCount, wordSize}
-use Rattle.page.specs.Word.{nameAt}
+use Rattle.page.specs.Figures.{slotCount}
 use Rattle.machine.specs.Tests.{_or_, some}
 use Rattle.machine.specs.Laws.TestLaws.{clash, is-off, some-zero, some-suc, true-some, some-true, some-false}
 use Rattle.seen.specs.Fold.{or-same}
-
--- the row of what the words from byte a on name
-abbrev pub wordsFrom : List ℕ → ℕ → ℕ → ℕ
-wordsFrom b a k = nameAt b (a + wordSize * k)
-
--- what the words of page p name
-abbrev pub pageWords : List ℕ → ℕ → ℕ → ℕ
-pageWords b p = wordsFrom b (pageSize * p)
 
 -- one of the first m numbers is x
 unfoldable pub among : (ℕ → ℕ) → ℕ → ℕ → Bool

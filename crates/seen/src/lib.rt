@@ -7,7 +7,7 @@ ghost use mathlib.Core.Path.{_≡_};
 ghost use Prim.Native.Nat.{_+_, _≤_, _<_};
 ghost use lib.ListN.{length};
 ghost use Rattle.page.specs.Figures.{payloadStart, slotCount, mostPages};
-ghost use Rattle.seen.specs.Among.{wordsFrom};
+ghost use Rattle.page.specs.Page.{wordsFrom};
 ghost use Rattle.seen.specs.Seen.{noted, Table, Notes, rowOf, PageNumbers, Marked};
 
 pub type Seen = [bool; PageNumber::MOST];

@@ -5,7 +5,8 @@ ghost use mathlib.Core.Path.{_≡_};
 ghost use Prim.Native.Nat.{_+_, _≤_};
 ghost use lib.ListN.{length};
 ghost use Rattle.page.specs.Figures.{payloadStart, slotCount};
-ghost use Rattle.seen.specs.Among.{wordsFrom, among, hasWord};
+ghost use Rattle.page.specs.Page.{wordsFrom};
+ghost use Rattle.seen.specs.Among.{among, hasWord};
 
 // Is one of the 16 words from byte `at` on not 0.
 pub fn has_word(buffer: &[u8], at: usize) -> bool

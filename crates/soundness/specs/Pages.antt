@@ -10,12 +10,12 @@ use native.Mathlib.Decide.{decLt, ℕ-discrete}
 use borrow.Author.Tests.{eq-eqb, ne-eqb, lt-ltb, eqb-true, eqb-false, ltb-true, not-true}
 use lib.Dec.{eqb}
 use Rattle.page.specs.Figures.{slotCount, mostPages}
-use Rattle.page.specs.Page.{slot}
+use Rattle.page.specs.Page.{slot, pageWords}
 use Rattle.machine.specs.Tests.{_or_, every, some}
 use Rattle.machine.specs.Laws.TestLaws.{clash, same, is-off, both, and-true, use⇒, make⇒, every-true, true-every, every-false, every-ext, every-step, every-zero, some-zero, some-suc, some-true, true-some}
 use Rattle.machine.specs.Soundness.{wordsBelow, wordsOnce, sound}
 use Rattle.seen.specs.Fold.{or-same}
-use Rattle.seen.specs.Among.{pageWords, among, hasWord, is-among, among-is, not-among, none-among, no-word, no-word-among}
+use Rattle.seen.specs.Among.{among, hasWord, is-among, among-is, not-among, none-among, no-word, no-word-among}
 use Rattle.seen.specs.Seen.{Seen, none, noted, Tells, fresh, Marked}
 use Rattle.seen.specs.SeenLaws.{Fresh, fresh-zero, fresh-new, fresh-is, fresh-ext, none-noted, tells-ext}
 

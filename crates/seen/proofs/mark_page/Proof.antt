@@ -7,8 +7,8 @@ use mathlib.Core.Bool.{true}
 use mathlib.Core.Logic.{⊎-elim}
 use native.Mathlib.Omega.{arith}
 use Rattle.page.specs.Figures.{slotCount}
+use Rattle.page.specs.Page.{wordsFrom}
 use Rattle.machine.specs.Laws.TestLaws.{and-yes}
-use Rattle.seen.specs.Among.{wordsFrom}
 use Rattle.seen.specs.Seen.{Marked}
 use Rattle.seen.specs.SeenLaws.{notes-zero, marked-none, marked-more, marked-large, marked-false}
 use Rattle.seen.proofs.mark_page.Statement.{statement}

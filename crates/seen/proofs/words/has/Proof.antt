@@ -9,8 +9,9 @@ use mathlib.Core.Logic.{⊎-elim}
 use native.Mathlib.Omega.{arith}
 use lib.Dec.{eqb}
 use Rattle.page.specs.Figures.{slotCount}
+use Rattle.page.specs.Page.{wordsFrom}
 use Rattle.seen.specs.Fold.{fold, fold-none, fold-more, someOf, some-fold, flag-set, flag-unset}
-use Rattle.seen.specs.Among.{wordsFrom, among}
+use Rattle.seen.specs.Among.{among}
 use Rattle.seen.proofs.words.has.Statement.{statement}
 use Rattle.seen.proofs.words.has.Tie as tie
 

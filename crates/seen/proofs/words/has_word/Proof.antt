@@ -9,8 +9,9 @@ use mathlib.Core.Logic.{⊎-elim}
 use native.Mathlib.Omega.{arith}
 use lib.Dec.{eqb}
 use Rattle.page.specs.Figures.{slotCount}
+use Rattle.page.specs.Page.{wordsFrom}
 use Rattle.seen.specs.Fold.{fold, fold-none, fold-more, someOf, some-fold, flag-set, flag-unset}
-use Rattle.seen.specs.Among.{wordsFrom, hasWord}
+use Rattle.seen.specs.Among.{hasWord}
 use Rattle.seen.proofs.words.has_word.Statement.{statement}
 use Rattle.seen.proofs.words.has_word.Tie as tie
 
