@@ -15,7 +15,7 @@ use Rattle.machine.specs.declared.Handle.{Handle}
 use Rattle.machine.specs.declared.Pool.{Pool}
 use Rattle.machine.specs.Tests.{Rule, firstBroken}
 use Rattle.machine.specs.Laws.TestLaws.{kept-then, broken-here, none-broken}
-use Rattle.machine.specs.Machine.{State, state, blank, unpinned, recordAt, withRecord, zeroPool, openedPool, found}
+use Rattle.machine.specs.Machine.{State, state, withPool, blank, unpinned, recordAt, withRecord, zeroPool, openedPool, found}
 use Rattle.machine.specs.Soundness.{sound}
 use Rattle.machine.specs.Sweep.{isOpen}
 use Rattle.machine.specs.Laws.SweepLaws.{open-childless}
@@ -61,9 +61,9 @@ module _ (s : State) (h : Handle) {n a : ℕ} (e : n ≡ firstBroken (handleRule
   pub unfix-pinned : 0 < recordAt (s .pool .records) a .pins
   unfix-pinned = rw own-place (held .held .pins)
 
-  pub unfix-done : out (doneAnswer 0) (changeRecord s a unpinned) ≡ unfixCall s h
+  pub unfix-done : {r : FrameRecord} → r ≡ unpinned (recordAt (s .pool .records) a) → out (doneAnswer 0) (withPool s (withRecord (s .pool) a r)) ≡ unfixCall s h
   unfolding unfixCall
-  unfix-done = done-yes s _ e z (ap (λ (f : ℕ). changeRecord s f unpinned) own-place)
+  unfix-done d = done-yes s _ e z (ap (λ (t : FrameRecord). withPool s (withRecord (s .pool) a t)) d ∙ ap (λ (f : ℕ). changeRecord s f unpinned) own-place)
 
 -- ---- evict, where n is the refusal by rules 1, 2 and 6, F the count that the frames' length gives, and f the frame that the code found
 

@@ -59,8 +59,8 @@ returns-3 c = evict-shut _ _ (c .before .before .before .before .before .before 
 take-out-requires : tie.Need-take-out-requires
 take-out-requires c κs = evict-removable _ _ (c .before .before .before .before .before .before .before .before .before .before .page-refusal .ensures) (c .before .before .before .before .before .before .before .before .before .if1 .left) refl (c .before .before .before .before .before .before .before .find-frame .ensures) (c .before .before .before .before .before .before .if2 .left) (call-yes (c .before .before .before .is-open .ensures) (c .before .before .if3 .left))
 
-empty-record-requires : tie.Need-empty-record-requires
-empty-record-requires c κs = search needs
+empty-requires : tie.Need-empty-requires
+empty-requires c κs = search needs
 
 mul-t22 : tie.Need-mul-t22
 mul-t22 c = let h = few-frames _ _ (c .before .before .before .before .before .before .before .before .before .before .before .before .before .before .before .before .page-refusal .ensures) (c .before .before .before .before .before .before .before .before .before .before .before .before .before .before .before .if1 .left) refl in omega (arith, h)
@@ -75,7 +75,7 @@ same-length-8 : tie.Need-same-length-8
 same-length-8 c = search needs
 
 returns-4 : tie.Need-returns-4
-returns-4 c = evict-done _ _ (c .before .before .before .before .before .before .before .before .before .before .before .before .before .before .before .before .page-refusal .ensures) (c .before .before .before .before .before .before .before .before .before .before .before .before .before .before .before .if1 .left) refl (c .before .before .before .before .before .before .before .before .before .before .before .before .before .find-frame .ensures) (c .before .before .before .before .before .before .before .before .before .before .before .before .if2 .left) (call-yes (c .before .before .before .before .before .before .before .before .before .is-open .ensures) (c .before .before .before .before .before .before .before .before .if3 .left)) (c .empty-record .ensures) (c .before .before .before .before .before .take-out .ensures)
+returns-4 c = evict-done _ _ (c .before .before .before .before .before .before .before .before .before .before .before .before .before .before .before .before .page-refusal .ensures) (c .before .before .before .before .before .before .before .before .before .before .before .before .before .before .before .if1 .left) refl (c .before .before .before .before .before .before .before .before .before .before .before .before .before .find-frame .ensures) (c .before .before .before .before .before .before .before .before .before .before .before .before .if2 .left) (call-yes (c .before .before .before .before .before .before .before .before .before .is-open .ensures) (c .before .before .before .before .before .before .before .before .if3 .left)) (c .empty .ensures) (c .before .before .before .before .before .take-out .ensures)
 
 pub evict-spec : {M : Type 1} → statement M
 evict-spec =
@@ -97,7 +97,7 @@ evict-spec =
     same-length-6
     returns-3
     take-out-requires
-    empty-record-requires
+    empty-requires
     mul-t22
     element-set-from-next
     same-length-7
