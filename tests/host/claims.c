@@ -117,6 +117,13 @@ static void refused_answers(void)
     struct pool altered = pool;
     altered.records[0].usage = POOL_MAX_USAGE + 1;
     claim("altered records", fixed_refused(pool_root(altered, LENT), POOL_DISAGREE, altered));
+    for (unsigned flag = 2; flag < 256; flag++) {
+        struct pool used = pool, dirty = pool;
+        used.records[0].used = (uint8_t)flag;
+        dirty.records[0].dirty = (uint8_t)flag;
+        claim("a flag of neither 0 nor 1", done_refused(pool_settle(used, LENT), POOL_DISAGREE, used));
+        claim("a flag of neither 0 nor 1", done_refused(pool_settle(dirty, LENT), POOL_DISAGREE, dirty));
+    }
     store[4 * 5] = 1;
     claim("a refused open", done_refused(pool_open(LENT), POOL_UNSOUND_STORE, zero));
 }

@@ -5,7 +5,7 @@ use mathlib.Core.Logic.{_≢_}
 use mathlib.Core.Bool.{Bool, true, false}
 use mathlib.Core.List.{List}
 use lib.Dec.{eqb, ltb, leb}
-use lib.ListN.{length, getD}
+use lib.ListN.{length, getD, set}
 use Rattle.page.specs.Figures.{pageSize, slotCount, mostFrames, recordCount, maxUsage, maxPins, wordSize}
 use Rattle.page.specs.Word.{nameAt, frameWord}
 use Rattle.page.specs.Page.{name}
@@ -19,7 +19,7 @@ use Rattle.seen.specs.Seen.{Seen}
 use Rattle.residents.specs.Residents.{Residents}
 use Rattle.residents.specs.Handed.{Handed}
 use Rattle.agreement.specs.Counting.{countIf}
-use Rattle.agreement.specs.Rows.{Passed, Progress}
+use Rattle.agreement.specs.Twice.{Passed, Progress}
 
 -- ---- a record by itself
 
@@ -137,6 +137,10 @@ pub record FramesFit (rs : List FrameRecord) (fs : List ℕ) (F N : ℕ) : Type 
 abbrev pub entry : List ℕ → ℕ → ℕ
 entry t f = getD t f 0
 
+-- the row's number k put at its place
+abbrev pub fill : (ℕ → ℕ) → ℕ → List ℕ → List ℕ
+fill row k t = set t k (row k)
+
 -- the table has the row's numbers at its first n places
 abbrev pub Entries : (ℕ → ℕ) → ℕ → List ℕ → Type 0
 Entries row n t = (f : ℕ) → f < n → entry t f ≡ row f
@@ -152,26 +156,25 @@ pub record BelowOf (fs : List ℕ) (N at : ℕ) (ns : List ℕ) : Type 0 where
   pub size : length ns ≡ slotCount
   pub right : (k : ℕ) → k < slotCount → getD ns k 0 ≡ numberBelow N (nameAt fs (at + wordSize * k))
 
--- the words from `at` on were noted: in any row that has them, the row goes on
-abbrev pub NotesWords : List ℕ → ℕ → ℕ → Seen → Seen → Bool → Type 0
-NotesWords fs N at seen seen' fresh = (row : ℕ → ℕ) (i : ℕ) → HasWords fs N at row i → Passed N row i seen → Progress N row (i + slotCount) seen' fresh
-
--- the page and then the words of an occupied frame were noted
+-- the page and then the words of an occupied frame were noted: in any row that has them, the row goes on
 abbrev pub NotesNumbers : List ℕ → ℕ → ℕ → ℕ → Seen → Seen → Bool → Type 0
 NotesNumbers fs N at page seen seen' fresh =
-    (row : ℕ → ℕ) (i : ℕ) → row i ≡ page → HasWords fs N at row (i + 1) → Passed N row i seen → Progress N row (i + perFrame) seen' fresh
+    (row : ℕ → ℕ) (i : ℕ) → row i ≡ page → HasWords fs N at row (i + 1) → Passed row i seen → Progress row (i + perFrame) seen' fresh
 
 -- none of the words from `at` on is a number below N
 abbrev pub NoNumber : List ℕ → ℕ → ℕ → Type 0
 NoNumber fs N at = (k : ℕ) → k < slotCount → numberBelow N (nameAt fs (at + wordSize * k)) ≡ 0
 
--- what a word counts for in a sum
+-- what a word counts for in a sum: a number up to N − 1, the last, for itself, any other for more than 16 numbers below 4,096 add up to
 abbrev pub overWeight : ℕ
 overWeight = 65536
 
-pub record WordWeighs (last w r : ℕ) : Type 0 where
-  pub low : w ≤ last → r ≡ w
-  pub high : last < w → r ≡ overWeight
+unfoldable pub weight : ℕ → ℕ → ℕ
+weight last w = pick (leb w last) w overWeight
+
+-- the sum of words goes on by the one in slot k from `at` on
+abbrev pub addWord : List ℕ → ℕ → ℕ → ℕ → ℕ → ℕ
+addWord fs N at k sum = sum + weight (N - 1) (nameAt fs (at + wordSize * k))
 
 -- what the sum of the words from `at` on tells
 pub record SumsWords (fs : List ℕ) (N at sum : ℕ) : Type 0 where
@@ -196,7 +199,7 @@ pub record FrameNoted (fs : List ℕ) (F N f : ℕ) (r : FrameRecord) (above : B
   pub fits : ok ≡ true → Fits fs F N f r above
   pub counts : ok ≡ true → isUsed r ≡ true → over ≡ countIf slotCount (overFrom fs N (pageSize * f))
   pub nothing : ok ≡ true → isUsed r ≡ false → over ≡ 0
-  pub notes : (row : ℕ → ℕ) (i : ℕ) → HasNumbers fs N f r row i → Passed N row i seen → Fits fs F N f r above → Progress N row (i + perFrame) seen' ok
+  pub notes : (row : ℕ → ℕ) (i : ℕ) → HasNumbers fs N f r row i → Passed row i seen → Fits fs F N f r above → Progress row (i + perFrame) seen' ok
 
 -- ---- the parents
 
@@ -218,7 +221,7 @@ AllLead up F = (f : ℕ) → f < F → (n : ℕ) × (climb up n f ≡ 0)
 pub record Before (rs : List FrameRecord) (fs : List ℕ) (F N f : ℕ) (seen : Seen) (t residents : List ℕ) (occupied over : ℕ) : Type 0 where
   pub most : f ≤ F
   pub fits : (g : ℕ) → g < f → Fits fs F N g (recordAt rs g) (aboveUsed rs (recordAt rs g))
-  pub passed : Passed N (numbers rs fs N) (perFrame * f) seen
+  pub passed : Passed (numbers rs fs N) (perFrame * f) seen
   pub room : F ≤ length t
   pub parents : Entries (parentIn rs) f t
   pub size : length residents ≡ mostFrames
@@ -232,7 +235,7 @@ pub record Settled (rs : List FrameRecord) (fs : List ℕ) (F N : ℕ) (seen : S
   pub rest : RestBlank rs F
   pub fit : FramesFit rs fs F N
   pub parents : HasParents rs F t
-  pub passed : Passed N (numbers rs fs N) (perFrame * F) seen
+  pub passed : Passed (numbers rs fs N) (perFrame * F) seen
   pub held : Residents rs residents
 
 -- the answer, and what it tells of the tables

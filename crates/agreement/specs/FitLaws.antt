@@ -1,9 +1,10 @@
 -- Laws of the code's tests, for the proofs of its functions. Assumes nothing.
-use Prim.Native.Nat.{ℕ, _+_, _*_, _-_, _/_, _%_, _<_, _≤_}
+use Prim.Native.Nat.{ℕ, zero, suc, _+_, _*_, _-_, _/_, _%_, _<_, _≤_}
 use mathlib.Core.Path.{_≡_, refl, sym, _∙_, ap}
 use mathlib.Core.Logic.{_≢_}
-use mathlib.Core.Bool.{Bool, true, false, not}
+use mathlib.Core.Bool.{Bool, true, false}
 use mathlib.Core.List.{List}
+use native.Mathlib.Numerals.{add-one}
 use native.Mathlib.Omega.{arith}
 use native.Mathlib.Nat.{add-zero, add-assoc}
 use native.Mathlib.Decide.{ℕ-discrete, decLt}
@@ -11,19 +12,20 @@ use borrow.Author.Count.{below-more}
 use borrow.Author.Tests.{lt-ltb, le-ltb, le-leb, lt-leb, eq-eqb, ne-eqb, eqb-true}
 use mir.Val.{boolByte}
 use lib.Dec.{eqb}
-use lib.ListN.{length, set}
+use lib.ListN.{length, set, replicate, length-set, length-replicate}
 use lib.Seq.{getD-set-same, getD-set-other}
 use lib.Bits.{bitOr, bitAnd, or-add-and, and-le-l, and-le-r, or-zero-l}
 use Rattle.page.specs.Figures.{slotCount, pageSize, wordSize, mostPages}
 use Rattle.page.specs.Word.{nameAt}
-use Rattle.page.specs.Page.{slot, name}
+use Rattle.page.specs.Page.{slot, name, name-row}
 use Rattle.machine.specs.declared.FrameRecord.{FrameRecord}
 use Rattle.machine.specs.Tests.{_and_}
 use Rattle.machine.specs.Laws.TestLaws.{pick-yes, pick-no, both, and-true, and-yes, and-no, clash}
 use Rattle.machine.specs.Machine.{isUsed, recordAt, pageIn}
 use Rattle.machine.specs.Agreement.{isBlank}
+use Rattle.seen.specs.Fold.{fold}
 use Rattle.agreement.specs.Counting.{countIf, count-zero, count-yes, count-no, count-add, count-ext, count-none, count-le}
-use Rattle.agreement.specs.Fit.{Blank, firstFields, lastFields, NoField, Gathers, RootFits, Resident, Linked, Fits, numberBelow, perFrame, numberIn, numbers, overFrom, isOver, HasWords, HasNumbers, overWeight, entry, Entries, BelowOf, WordWeighs, SumsWords}
+use Rattle.agreement.specs.Fit.{Blank, firstFields, lastFields, NoField, Gathers, RootFits, Resident, Linked, Fits, numberBelow, perFrame, numberIn, numbers, overFrom, isOver, HasWords, HasNumbers, overWeight, entry, Entries, BelowOf, weight, addWord, fill, SumsWords}
 
 -- ---- the all-zero record
 
@@ -96,6 +98,21 @@ entries-more row t n x l e h f m = elim (ℕ-discrete f n) [
   | no q ↦ getD-set-other t n f x 0 q ∙ h f (omega arith)
 ]
 
+-- the table as a loop fills it
+filled : (row : ℕ → ℕ) (t : List ℕ) (n : ℕ) → n ≤ length t → (length (fold (fill row) t n) ≡ length t) × Entries row n (fold (fill row) t n)
+unfolding fold
+filled row t zero h = (refl, λ f m. absurd (omega arith))
+filled row t (suc n) h =
+    let r = filled row t n (omega arith) in
+    let l : length (fold (fill row) t n) ≡ length t = r .0 in
+    let q : suc n ≡ n + 1 = omega arith in
+    (length-set (fold (fill row) t n) n (row n) ∙ l, rw q (entries-more row (fold (fill row) t n) n (row n) (omega arith) refl (r .1)))
+
+pub below-of : (fs : List ℕ) (N at : ℕ) (ns : List ℕ) → ns ≡ fold (fill (λ k. numberBelow N (nameAt fs (at + wordSize * k)))) (replicate slotCount 0) slotCount → BelowOf fs N at ns
+below-of fs N at ns e =
+    let r = filled (λ k. numberBelow N (nameAt fs (at + wordSize * k))) (replicate slotCount 0) slotCount (omega (arith, length-replicate {A = ℕ} slotCount 0)) in
+    rw e (record { size = r .0 ∙ length-replicate {A = ℕ} slotCount 0; right = r .1 })
+
 -- ---- the numbers in a row
 
 pub below-low : (N w : ℕ) → w < N → numberBelow N w ≡ w
@@ -114,11 +131,6 @@ below-lt N w o = elim (decLt w N) [
 
 pub numbers-lt : (fs : List ℕ) (N at : ℕ) (ns : List ℕ) → 1 ≤ N → BelowOf fs N at ns → (k : ℕ) → k < slotCount → entry ns k < N
 numbers-lt fs N at ns o B k h = rw (B .right k h) (below-lt N _ o)
-
--- the word in slot k of frame f, from where the frame starts
-pub slot-from : (fs : List ℕ) (f k : ℕ) → name fs f k ≡ nameAt fs (pageSize * f + wordSize * k)
-unfolding slot
-slot-from fs f k = refl
 
 module _ (rs : List FrameRecord) (fs : List ℕ) (N f : ℕ) where
   -- place j of frame f
@@ -150,7 +162,7 @@ module _ (rs : List FrameRecord) (fs : List ℕ) (N f : ℕ) where
 
   -- the row has the words of an occupied frame
   has-words : isUsed (recordAt rs f) ≡ true → HasWords fs N (pageSize * f) (numbers rs fs N) (perFrame * f + 1)
-  has-words u k h = ap (numbers rs fs N) (add-assoc (perFrame * f) 1 k) ∙ numbers-word k h u ∙ ap (numberBelow N) (slot-from fs f k)
+  has-words u k h = ap (numbers rs fs N) (add-assoc (perFrame * f) 1 k) ∙ numbers-word k h u ∙ ap (numberBelow N) (name-row fs f k)
 
   -- the row has the numbers of frame f
   pub has-numbers : HasNumbers fs N f (recordAt rs f) (numbers rs fs N) (perFrame * f)
@@ -212,6 +224,14 @@ module _ (fs : List ℕ) (F N f : ℕ) (r : FrameRecord) (above : Bool) where
 
 -- ---- the sum of words
 
+pub weight-low : (last w : ℕ) → w ≤ last → weight last w ≡ w
+unfolding weight
+weight-low last w l = sym (pick-yes overWeight (le-leb w last l) refl)
+
+pub weight-high : (last w : ℕ) → last < w → weight last w ≡ overWeight
+unfolding weight
+weight-high last w l = sym (pick-no w (lt-leb w last l) refl)
+
 -- what the sum of the first k words from `at` on tells: `low` is what the numbers below N add up to
 pub record SumsTo (fs : List ℕ) (N at k sum : ℕ) : Type 0 where
   pub low : ℕ
@@ -220,18 +240,18 @@ pub record SumsTo (fs : List ℕ) (N at k sum : ℕ) : Type 0 where
   pub none : low ≡ 0 → (j : ℕ) → j < k → numberBelow N (nameAt fs (at + wordSize * j)) ≡ 0
 
 module _ (fs : List ℕ) (N at : ℕ) where
-  pub sums-none : SumsTo fs N at 0 0
+  sums-none : SumsTo fs N at 0 0
   sums-none = record { low = 0; parts = sym (ap (λ (n : ℕ). overWeight * n + 0) (count-zero (overFrom fs N at))); few = omega arith; none = λ z j h. absurd (omega arith) }
 
   pub sums-few : (k sum : ℕ) → k ≤ slotCount → SumsTo fs N at k sum → sum ≤ 1114112
   sums-few k sum h s = omega (arith, s .parts, s .few, count-le k (overFrom fs N at))
 
   -- one more word
-  pub sums-more : 1 ≤ N → N ≤ mostPages → (k sum w r : ℕ) → w ≡ nameAt fs (at + wordSize * k) → WordWeighs (N - 1) w r → SumsTo fs N at k sum → SumsTo fs N at (k + 1) (sum + r)
-  sums-more o l k sum w r e W s = elim (decLt w N) [
+  sums-more : 1 ≤ N → N ≤ mostPages → (k sum w : ℕ) → w ≡ nameAt fs (at + wordSize * k) → SumsTo fs N at k sum → SumsTo fs N at (k + 1) (sum + weight (N - 1) w)
+  sums-more o l k sum w e s = elim (decLt w N) [
     | yes h ↦
         let c : countIf (k + 1) (overFrom fs N at) ≡ countIf k (overFrom fs N at) = count-no k (overFrom fs N at) (over-low fs N at k w e h) in
-        let x : r ≡ w = W .low (omega arith) in
+        let x : weight (N - 1) w ≡ w = weight-low (N - 1) w (omega arith) in
         record {
           low = s .low + w;
           parts = omega (arith, s .parts);
@@ -240,7 +260,7 @@ module _ (fs : List ℕ) (N at : ℕ) where
         }
     | no h ↦
         let c : countIf (k + 1) (overFrom fs N at) ≡ countIf k (overFrom fs N at) + 1 = count-yes k (overFrom fs N at) (over-high fs N at k w e (omega arith)) in
-        let x : r ≡ overWeight = W .high (omega arith) in
+        let x : weight (N - 1) w ≡ overWeight = weight-high (N - 1) w (omega arith) in
         record {
           low = s .low;
           parts = omega (arith, s .parts);
@@ -248,6 +268,15 @@ module _ (fs : List ℕ) (N at : ℕ) where
           none = λ z. below-more _ k (s .none z) (rw (← e) (below-high N w (omega arith)));
         }
   ]
+
+  -- the sum as the loop makes it
+  sums-of : 1 ≤ N → N ≤ mostPages → (k : ℕ) → SumsTo fs N at k (fold (addWord fs N at) 0 k)
+  unfolding fold
+  sums-of o l zero = sums-none
+  sums-of o l (suc k) = rw (← add-one k) (sums-more o l k _ _ refl (sums-of o l k))
+
+  pub sums-to : 1 ≤ N → N ≤ mostPages → (k : ℕ) {sum : ℕ} → sum ≡ fold (addWord fs N at) 0 k → SumsTo fs N at k sum
+  sums-to o l k e = rw e (sums-of o l k)
 
   pub sums-all : (sum : ℕ) → SumsTo fs N at slotCount sum → SumsWords fs N at sum
   sums-all sum s = record {

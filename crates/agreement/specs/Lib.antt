@@ -1,7 +1,7 @@
 pub mod Sizes
 pub mod Deciding
 pub mod Counting
-pub mod Rows
+pub mod Twice
 pub mod Fit
 pub mod FitLaws
 pub mod PassLaws

@@ -7,9 +7,9 @@ use native.Mathlib.Omega.{arith}
 use native.Mathlib.Nat.{add-zero}
 use native.Mathlib.Decide.{ℕ-discrete, decLt}
 use mir.Val.{boolByte}
-use lib.ListN.{length, set, length-set, length-replicate}
+use lib.ListN.{length, set, replicate, length-set, length-replicate, getD-replicate, List·getD-eq-default}
 use lib.Seq.{getD-set-other}
-use Rattle.page.specs.Figures.{slotCount, mostFrames, recordCount, mostPages}
+use Rattle.page.specs.Figures.{slotCount, mostFrames, recordCount}
 use Rattle.machine.specs.declared.FrameRecord.{FrameRecord}
 use Rattle.machine.specs.Laws.TestLaws.{case, on, off}
 use Rattle.machine.specs.Machine.{isUsed, recordAt, pageIn}
@@ -17,21 +17,28 @@ use Rattle.seen.specs.Seen.{Seen}
 use Rattle.residents.specs.Residents.{Residents}
 use Rattle.residents.specs.Handed.{Clear}
 use Rattle.agreement.specs.Counting.{countIf, count-zero, count-more, count-le}
-use Rattle.agreement.specs.Rows.{Progress, clear-at, pass-none, not-twice}
-use Rattle.agreement.specs.Fit.{Blank, Gathers, Fits, perFrame, numbers, isOver, usedIn, aboveUsed, RestBlank, FramesFit, FrameNoted, parentIn, Before, Settled}
+use Rattle.agreement.specs.Twice.{Progress, pass-none, not-twice}
+use Rattle.agreement.specs.Fit.{Blank, Gathers, Fits, perFrame, numbers, isOver, usedIn, aboveUsed, RestBlank, FramesFit, FrameNoted, entry, parentIn, Before, Settled}
 use Rattle.agreement.specs.FitLaws.{entries-more, has-numbers, over-used, over-empty}
 
+-- an entry of a table of zeros
+clear-at : (m x : ℕ) → entry (replicate m 0) x ≡ 0
+clear-at m x = elim (decLt x m) [
+  | yes l ↦ getD-replicate m x 0 0 l
+  | no l ↦ List·getD-eq-default (replicate m 0) 0 (let e : length (replicate {A = ℕ} m 0) ≡ m = length-replicate {A = ℕ} m 0 in omega arith)
+]
+
 module _ (rs : List FrameRecord) (fs : List ℕ) (F N : ℕ) where
-  pub before-first : (t residents : List ℕ) (seen : Seen) → N ≤ mostPages → F ≤ length t → Clear residents seen → Before rs fs F N 0 seen t residents 0 0
-  before-first t residents seen l m C = record {
+  pub before-first : (t residents : List ℕ) (seen : Seen) → F ≤ length t → Clear residents seen → Before rs fs F N 0 seen t residents 0 0
+  before-first t residents seen m C = record {
     most = omega arith;
     fits = λ g a. absurd (omega arith);
-    passed = rw (C .noneSeen) (pass-none N (numbers rs fs N) l);
+    passed = rw (C .noneSeen) (pass-none (numbers rs fs N));
     room = m;
     parents = λ g a. absurd (omega arith);
     size = ap length (C .noPage) ∙ length-replicate {A = ℕ} mostFrames 0;
     held = λ g a. absurd (omega arith);
-    clear = λ g a. rw (C .noPage) (clear-at mostFrames 0 g);
+    clear = λ g a. rw (C .noPage) (clear-at mostFrames g);
     counted = sym (count-zero (usedIn rs));
     named = sym (count-zero (isOver rs fs N));
   }
@@ -42,7 +49,7 @@ module _ (rs : List FrameRecord) (fs : List ℕ) (F N : ℕ) where
   module _ (f : ℕ) (seen : Seen) (t residents : List ℕ) (occupied over : ℕ) (B : Before rs fs F N f seen t residents occupied over) (l : f < F)
       (seen' : Seen) (more : ℕ) (ok : Bool) (D : FrameNoted fs F N f (recordAt rs f) (aboveUsed rs (recordAt rs f)) seen seen' more ok) where
     -- the frame's numbers in the row
-    progress : Fits fs F N f (recordAt rs f) (aboveUsed rs (recordAt rs f)) → Progress N (numbers rs fs N) (perFrame * (f + 1)) seen' ok
+    progress : Fits fs F N f (recordAt rs f) (aboveUsed rs (recordAt rs f)) → Progress (numbers rs fs N) (perFrame * (f + 1)) seen' ok
     progress fit =
         let q : perFrame * (f + 1) ≡ perFrame * f + perFrame = omega arith in
         rw q (D .notes (numbers rs fs N) (perFrame * f) (has-numbers rs fs N f) (B .passed) fit)

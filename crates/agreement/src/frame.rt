@@ -7,6 +7,7 @@ use seen::Seen;
 ghost use Prim.Native.Nat.{_+_, _*_, _<_, _≤_};
 ghost use lib.ListN.{length};
 ghost use Rattle.page.specs.Figures.{pageSize, slotCount, mostFrames};
+ghost use Rattle.seen.specs.Seen.{Table};
 ghost use Rattle.agreement.specs.Sizes.{Sizes};
 ghost use Rattle.agreement.specs.Deciding.{Decides};
 ghost use Rattle.agreement.specs.Fit.{Linked, Fits, FrameNoted};
@@ -58,7 +59,7 @@ pub fn note(
     pages: u32,
     seen: &mut Seen,
 ) -> Noted
-    requires { ⌜ Sizes count pages (now frames) × (frame .0 < count) ⌝ }
+    requires { ⌜ Sizes count pages (now frames) × (frame .0 < count) × Table (now seen) ⌝ }
     ensures { λ r. ⌜ FrameNoted (now (frames .entry)) count pages (frame .0) rec above (now (seen .entry)) (now (seen .exit)) (r .over) (r .fits) ⌝ }
 {
     if !is_fitting(frames, frame, rec, above, count, pages) {

@@ -1,11 +1,12 @@
-// The page and the 16 words of a frame, and the table of the page numbers seen so far.
+// The page and the 16 words of a frame, noted in the table of the numbers seen.
 use page::PageNumber;
 use seen::Seen;
 ghost use mathlib.Core.Path.{_≡_};
 ghost use Prim.Native.Nat.{_+_, _≤_};
 ghost use lib.ListN.{length};
 ghost use Rattle.page.specs.Figures.{payloadStart, mostPages};
-ghost use Rattle.agreement.specs.Fit.{numberBelow, WordWeighs, SumsWords, BelowOf, NotesWords, NumbersNoted};
+ghost use Rattle.seen.specs.Seen.{Table};
+ghost use Rattle.agreement.specs.Fit.{numberBelow, weight, SumsWords, BelowOf, NumbersNoted};
 
 // What a word that isn't below N counts for in a sum of words: more than 16 numbers below 4,096 add up to.
 const OVER: u32 = 65536;
@@ -28,7 +29,7 @@ fn number_below(pages: u32, w: u32) -> u32
 
 // What a word counts for: a number up to N − 1, the last, for itself, any other for OVER.
 fn word_weight(last: u32, w: u32) -> u32
-    ensures { λ r. ⌜ WordWeighs last w r ⌝ }
+    ensures { λ r. ⌜ r ≡ weight last w ⌝ }
 {
     if w <= last {
         return w;
@@ -67,26 +68,6 @@ fn numbers_below(frames: &[u8], start: usize, pages: u32) -> [u32; PageNumber::S
     numbers
 }
 
-// Notes the numbers below N among the 16 words from `start` on: were they all new. The mark of number 0, which stands for any other word, is taken back.
-fn mark_words(frames: &[u8], start: usize, pages: u32, seen: &mut Seen) -> bool
-    requires { ⌜ (1 ≤ pages) × (pages ≤ mostPages) × (start + payloadStart ≤ length (now frames)) ⌝ }
-    ensures { λ r. ⌜ NotesWords (now (frames .entry)) pages start (now (seen .entry)) (now (seen .exit)) r ⌝ }
-{
-    let numbers = numbers_below(frames, start, pages);
-    let mut fresh = true;
-    let mut k: usize = 0;
-    while k < PageNumber::SLOTS {
-        let x = numbers[k] as usize;
-        if seen[x] {
-            fresh = false;
-        }
-        seen[x] = true;
-        seen[0] = false;
-        k += 1;
-    }
-    fresh
-}
-
 // Notes the page and the words of an occupied frame that starts at `start`: it fits where its numbers are all new.
 pub fn note_numbers(
     frames: &[u8],
@@ -95,21 +76,21 @@ pub fn note_numbers(
     pages: u32,
     seen: &mut Seen,
 ) -> Noted
-    requires { ⌜ (page .0 + 1 ≤ pages) × (pages ≤ mostPages) × (start + payloadStart ≤ length (now frames)) ⌝ }
+    requires { ⌜ (page .0 + 1 ≤ pages) × (pages ≤ mostPages) × (start + payloadStart ≤ length (now frames)) × Table (now seen) ⌝ }
     ensures { λ r. ⌜ NumbersNoted (now (frames .entry)) pages start (page .0) (now (seen .entry)) (now (seen .exit)) (r .over) (r .fits) ⌝ }
 {
     let x = page::wide::from_u16(page.0);
-    if seen[x] {
+    if !seen::note(seen, x) {
         return Noted {
             over: 0,
             fits: false,
         };
     }
-    seen[x] = x != 0;
     let sum = word_sum(frames, start, pages);
     let over = sum / OVER;
     if sum % OVER != 0 {
-        let fresh = mark_words(frames, start, pages, seen);
+        let numbers = numbers_below(frames, start, pages);
+        let fresh = seen::mark_numbers(&numbers, seen);
         return Noted {
             over: over,
             fits: fresh,

@@ -124,7 +124,7 @@ pub fn unlink(pool: Pool, frames: &mut [u8], store: &[u8], handle: Handle, slot:
     if refusal != 0 {
         return Done { pool, refusal };
     }
-    page::slot::put_in_slot(frames, handle.frame, slot, 0);
+    page::slot::put_in_slot(frames, handle.frame, slot, page::word::NOTHING);
     next.records[at] = dirtied(held);
     Done {
         pool: next,

@@ -74,7 +74,7 @@ pub fn link_refusal(
     if n <= page.0 as usize {
         return 6;
     }
-    if page::slot::slot_name(frames, handle.frame, slot) != 0 {
+    if page::slot::slot_name(frames, handle.frame, slot) != page::word::NOTHING {
         return 8;
     }
     if naming::is_named(residents, seen, store, n, page) {
@@ -102,7 +102,7 @@ pub fn unlink_refusal(
         return refusal;
     }
     let name = page::slot::slot_name(frames, handle.frame, slot);
-    if name == 0 {
+    if name == page::word::NOTHING {
         return 7;
     }
     if !page::word::is_number(name) {

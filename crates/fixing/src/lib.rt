@@ -56,7 +56,7 @@ pub fn fix(pool: Pool, frames: &mut [u8], store: &mut [u8], handle: Handle, slot
     }
     let parent = handle.frame;
     let name = page::slot::slot_name(frames, parent, slot);
-    if name == 0 {
+    if name == word::NOTHING {
         return answer::refused(pool, 7);
     }
     if word::is_number(name) {

@@ -6,11 +6,12 @@ pub mod EvictEffect
 pub mod LoadEffect
 pub mod LinkEffect
 pub mod PinsEffect
-pub mod WriteOut
+pub mod ImageOut
 pub mod RecordChange
 pub mod SlotChange
 pub mod Holders
-pub mod Fit
+pub mod Reads
+pub mod StateFit
 pub mod KeepsRecords
 pub mod KeepsWrite
 pub mod KeepsLink

@@ -5,13 +5,15 @@ use mathlib.Core.Bool.{Bool, true, false}
 use mathlib.Core.List.{List, []}
 use native.Mathlib.Omega.{arith}
 use Rattle.page.specs.Figures.{slotCount}
+use Rattle.page.specs.Page.{pageWords}
 use Rattle.machine.specs.Tests.{_or_, every}
 use Rattle.machine.specs.Laws.TestLaws.{true-every, every-ext}
 use Rattle.machine.specs.Machine.{State, state}
 use Rattle.machine.specs.Naming.{named, namedByResident, loadable}
 use Rattle.machine.specs.Laws.Ready.{Kept}
-use Rattle.seen.specs.Seen.{Seen, hasWord, noted, fresh, pageWords}
-use Rattle.seen.specs.SeenLaws.{fresh-zero, fresh-ext, no-word}
+use Rattle.seen.specs.Among.{hasWord, no-word}
+use Rattle.seen.specs.Seen.{Seen, noted, fresh}
+use Rattle.seen.specs.SeenLaws.{fresh-zero, fresh-ext}
 use Rattle.residents.specs.Handed.{Handed}
 use Rattle.naming.specs.Stored.{inStore}
 use Rattle.naming.specs.Named.{named-parts}

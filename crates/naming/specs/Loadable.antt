@@ -8,13 +8,14 @@ use native.Mathlib.Decide.{decLt, ℕ-discrete}
 use borrow.Author.Tests.{eq-eqb, ne-eqb, lt-ltb, eqb-true, eqb-false, ltb-true, not-true}
 use lib.Dec.{eqb, ltb}
 use Rattle.page.specs.Figures.{slotCount}
-use Rattle.page.specs.Page.{slot}
+use Rattle.page.specs.Page.{slot, pageWords}
 use Rattle.machine.specs.Tests.{every}
 use Rattle.machine.specs.Laws.TestLaws.{clash, same, is-off, both, and-true, or-left, or-right, or-second, every-true, true-every, some-true, true-some}
 use Rattle.machine.specs.Machine.{State}
 use Rattle.machine.specs.Naming.{namedByResident, repeated, wordLoadable, loadable}
-use Rattle.seen.specs.Seen.{fresh, pageWords}
-use Rattle.seen.specs.SeenLaws.{Fresh, fresh-zero, fresh-new, fresh-is, not-among, none-among}
+use Rattle.seen.specs.Among.{not-among, none-among}
+use Rattle.seen.specs.Seen.{fresh}
+use Rattle.seen.specs.SeenLaws.{Fresh, fresh-zero, fresh-new, fresh-is}
 
 module _ (s : State) (q : ℕ) where
   abbrev w : ℕ → ℕ

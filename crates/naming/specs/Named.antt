@@ -8,7 +8,7 @@ use native.Mathlib.Decide.{decLt}
 use borrow.Author.Tests.{eq-eqb, eqb-true, lt-ltb, le-ltb}
 use lib.Dec.{eqb}
 use Rattle.page.specs.Figures.{slotCount}
-use Rattle.page.specs.Page.{slot}
+use Rattle.page.specs.Page.{slot, pageWords}
 use Rattle.machine.specs.Tests.{_or_}
 use Rattle.machine.specs.Laws.TestLaws.{case, on, off, same, is-off, or-left, or-right, or-second, some-true, true-some, pick-yes, pick-no}
 use Rattle.machine.specs.Machine.{State, pageIn, occupied, found}
@@ -17,7 +17,6 @@ use Rattle.machine.specs.Laws.FoundLaws.{found-holds, found-is, none-found}
 use Rattle.machine.specs.Moves.{plain}
 use Rattle.machine.specs.Naming.{currentWord, named, namedByResident}
 use Rattle.machine.specs.Laws.Ready.{Kept}
-use Rattle.seen.specs.Seen.{pageWords}
 use Rattle.residents.specs.Residents.{Residents}
 use Rattle.residents.specs.ResidentLaws.{Names, names-of, of-names, table-in, not-in-table}
 use Rattle.naming.specs.Stored.{inStore, Stored, stored-of, of-stored}

@@ -5,10 +5,10 @@ use mathlib.Core.Bool.{Bool, true, false, not}
 use mathlib.Core.List.{List}
 use borrow.Author.Tests.{not-true}
 use Rattle.page.specs.Figures.{slotCount}
+use Rattle.page.specs.Page.{pageWords}
 use Rattle.machine.specs.Tests.{_and_, some}
 use Rattle.machine.specs.Laws.TestLaws.{both, and-true, and-no, and-off, some-zero, some-true, true-some}
-use Rattle.seen.specs.Seen.{among, pageWords}
-use Rattle.seen.specs.SeenLaws.{some-keep, is-among, among-is}
+use Rattle.seen.specs.Among.{among, some-keep, is-among, among-is}
 use Rattle.residents.specs.Residents.{inTable}
 
 -- x is a word in one of the first n stored pages that are in no frame

@@ -2,12 +2,14 @@
 pub mod stored;
 
 use page::PageNumber;
+use page::StorePlace;
 use residents::Residents;
 use seen::Seen;
 ghost use mathlib.Core.Path.{_≡_};
 ghost use Prim.Native.Nat.{_*_, _≤_, _<_};
 ghost use lib.ListN.{length};
 ghost use Rattle.page.specs.Figures.{pageSize, mostPages};
+ghost use Rattle.seen.specs.Seen.{Table};
 ghost use Rattle.naming.specs.ByTable.{namedBy, loadableBy};
 
 // Is the page named by a word of any page (rule 9), of n pages in the store.
@@ -22,7 +24,7 @@ pub fn is_named(
     ensures { λ r. ⌜ r ≡ namedBy (now (residents .entry)) (now (seen .entry)) (now (store .entry)) n (page .0) ⌝ }
 {
     let q = page.0 as usize;
-    if seen[q] {
+    if seen::is_noted(seen, q) {
         return true;
     }
     stored::in_store(store, residents, n, PageNumber::word(page))
@@ -30,11 +32,11 @@ pub fn is_named(
 
 // May the stored page come in (rule 14), of n pages in the store. The table is used up.
 pub fn is_loadable(store: &[u8], n: usize, page: PageNumber, seen: &mut Seen) -> bool
-    requires { ⌜ (n ≤ mostPages) × (length (now store) ≡ pageSize * n) × (page .0 < n) × (length (now seen) ≡ mostPages) ⌝ }
+    requires { ⌜ (n ≤ mostPages) × (length (now store) ≡ pageSize * n) × (page .0 < n) × Table (now seen) ⌝ }
     ensures { λ r. ⌜ r ≡ loadableBy (now (seen .entry)) (now (store .entry)) n (page .0) ⌝ }
 {
-    let at = PageNumber::SIZE * page.0 as usize;
-    if !seen::has_word(store, at) {
+    let at = StorePlace::start(PageNumber::place(page));
+    if !seen::words::has_word(store, at) {
         return true;
     }
     seen::mark_page(store, at, n, seen)

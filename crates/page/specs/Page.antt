@@ -1,5 +1,5 @@
 -- A buffer of pages: slot, byte, page and payload, and what is read after one of them was put. Assumes nothing.
-use mathlib.Core.Path.{_≡_, sym, ap, _∙_}
+use mathlib.Core.Path.{_≡_, refl, sym, ap, _∙_}
 use mathlib.Core.Logic.{_≢_}
 use mathlib.Core.List.{List, _++_, append-assoc}
 use Prim.Native.Nat.{ℕ, _+_, _*_, _-_, _≤_, _<_}
@@ -10,7 +10,7 @@ use lib.ListN.{length, take, drop, getD, length-take, length-drop, List·getD-ap
 use lib.Seq.{ext-getD, getD-take, getD-drop, paste, length-paste, getD-append-add, length-take-le, length-paste-head, paste-zero, take-all, drop-drop}
 use borrow.Rule.Slice.PartMut.{putMid}
 use Rattle.page.specs.Figures.{pageSize, slotCount, payloadStart, payloadSize, wordSize, wordRadix}
-use Rattle.page.specs.Word.{nameOf, wordAt, putWord, putWord-length, putWord-before, putWord-after, wordAt-same, wordAt-before, wordAt-after, wordAt-ext}
+use Rattle.page.specs.Word.{nameOf, nameAt, wordAt, putWord, putWord-length, putWord-before, putWord-after, wordAt-same, wordAt-before, wordAt-after, wordAt-ext}
 
 -- ---- "A page is 16 words of 4 bytes, little-endian, in slots 0 to 15, then 192 payload bytes." Page p starts at byte 256 × p.
 
@@ -21,6 +21,18 @@ slot b p s = wordAt b (pageSize * p + wordSize * s)
 -- what it names
 abbrev pub name : List ℕ → ℕ → ℕ → ℕ
 name b p s = nameOf (slot b p s)
+
+-- the row of what the words from byte a on name
+abbrev pub wordsFrom : List ℕ → ℕ → ℕ → ℕ
+wordsFrom b a k = nameAt b (a + wordSize * k)
+
+-- what the words of page p name
+abbrev pub pageWords : List ℕ → ℕ → ℕ → ℕ
+pageWords b p = wordsFrom b (pageSize * p)
+
+pub name-row : (b : List ℕ) (p k : ℕ) → name b p k ≡ pageWords b p k
+unfolding slot
+name-row b p k = refl
 
 -- the byte i of page p
 unfoldable pub byte : List ℕ → ℕ → ℕ → ℕ

@@ -12,6 +12,9 @@ pub const SWIZZLE_BIT: u32 = 0x8000_0000;
 // The bytes of a word.
 pub const SIZE: usize = 4;
 
+// The name of nothing, and the word that names nothing.
+pub const NOTHING: u32 = 0;
+
 // The word in the four bytes from `at` on.
 pub fn word_at(b: &[u8], at: usize) -> u32
     requires { ⌜ at + 4 ≤ length (now b) ⌝ }

@@ -10,7 +10,7 @@ use borrow.Author.Tests.{eq-eqb, ne-eqb, eqb-true, eqb-false, not-true}
 use lib.Dec.{eqb}
 use Rattle.page.specs.Figures.{slotCount, mostFrames}
 use Rattle.page.specs.Word.{frameIn, frameWord, reading, low, high, Number}
-use Rattle.page.specs.Page.{slot, name}
+use Rattle.page.specs.Page.{slot, name, pageWords, name-row}
 use Rattle.machine.specs.declared.FrameRecord.{FrameRecord}
 use Rattle.machine.specs.Tests.{_and_, _or_}
 use Rattle.machine.specs.Laws.TestLaws.{clash, case, on, off, same, both, and-true, or-left, or-right, or-second, some-true, true-some}
@@ -20,13 +20,8 @@ use Rattle.machine.specs.Laws.AgreementFacts.{occupied-lt, Points, Agreed}
 use Rattle.machine.specs.Moves.{plain}
 use Rattle.machine.specs.Naming.{namedByResident}
 use Rattle.machine.specs.Laws.PlainLaws.{plain-low, plain-high}
-use Rattle.seen.specs.Seen.{among, pageWords}
-use Rattle.seen.specs.SeenLaws.{is-among, among-is}
+use Rattle.seen.specs.Among.{among, is-among, among-is}
 use Rattle.residents.specs.Residents.{pageBy, Residents, inTable, holdsPage, inFrames}
-
-pub slot-word : (b : List ℕ) (p k : ℕ) → name b p k ≡ pageWords b p k
-unfolding slot
-slot-word b p k = refl
 
 blank-page : (r : FrameRecord) → isBlank r ≡ true → r .page .0 ≡ 0
 unfolding isBlank
@@ -135,7 +130,7 @@ module _ (s : State) (few : s .pool .count ≤ mostFrames) (A : Agreed (s .pool)
     split n = elim (reading (pageWords (s .frames) (n .frame) (n .slot))) [
       | low l ↦ or-right (inTable residents x) (of-held x (record { frame = n .frame; slot = n .slot; at = n .at; inPage = n .inPage; word = sym (plain-low _ _ l) ∙ n .word }))
       | high g e ↦
-          let q : name (s .frames) (n .frame) (n .slot) ≡ frameWord g = slot-word _ _ _ ∙ e in
+          let q : name (s .frames) (n .frame) (n .slot) ≡ frameWord g = name-row _ _ _ ∙ e in
           let b : Points (s .pool) (frameIn (name (s .frames) (n .frame) (n .slot))) (n .frame) (n .slot) = A .back (n .frame) (n .slot) (n .at) (n .inPage) (omega arith) in
           let i : frameIn (name (s .frames) (n .frame) (n .slot)) ≡ g = omega arith in
           or-left _ (in-table g x (rw i at (b .at)) (sym (plain-high (pageIn (s .pool .records)) g) ∙ ap (plain (pageIn (s .pool .records))) (sym e) ∙ n .word))
@@ -151,7 +146,7 @@ module _ (s : State) (few : s .pool .count ≤ mostFrames) (A : Agreed (s .pool)
           slot = parentSlotOf (s .pool) (g .0);
           at = A .parent (g .0) (g .1) n;
           inPage = A .inRange (g .0) (omega (arith, occupied-lt (s .pool) (g .0) (g .1), few)) .slot;
-          word = ap (plain (pageIn (s .pool .records))) (sym (slot-word _ _ _) ∙ A .parentWord (g .0) (g .1) n) ∙ plain-high _ (g .0) ∙ e;
+          word = ap (plain (pageIn (s .pool .records))) (sym (name-row _ _ _) ∙ A .parentWord (g .0) (g .1) n) ∙ plain-high _ (g .0) ∙ e;
         }
 
     held-named : inFrames residents (s .frames) (s .pool .count) x ≡ true → Names s x

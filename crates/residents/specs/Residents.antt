@@ -6,8 +6,9 @@ use mathlib.Core.List.{List}
 use lib.Dec.{eqb}
 use lib.ListN.{length, getD}
 use Rattle.page.specs.Figures.{slotCount, mostFrames}
+use Rattle.page.specs.Page.{pageWords}
 use Rattle.machine.specs.Tests.{_and_, _or_, some}
-use Rattle.seen.specs.Seen.{among, pageWords}
+use Rattle.seen.specs.Among.{among}
 use Rattle.machine.specs.declared.FrameRecord.{FrameRecord}
 use Rattle.machine.specs.Machine.{pageIn}
 

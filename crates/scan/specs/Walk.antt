@@ -18,7 +18,7 @@ use Rattle.machine.specs.Tests.{pick}
 use Rattle.machine.specs.Laws.TestLaws.{and-yes, and-no, pick-no}
 use Rattle.machine.specs.Machine.{blank, frameIndex, recordAt}
 use Rattle.machine.specs.Sweep.{Class, rest, warm, yield, Kind, classOf, kind, standing, Swept, after, lookLeaves, lookTakes, mostLooks, sweepFrom, sweep}
-use Rattle.machine.specs.Laws.SweepLaws.{after-in, Cooler, Settled, looked, looked-cooler, kind-settled, cooled-from}
+use Rattle.machine.specs.Laws.SweepLaws.{after-in, Cooler, UsageBlind, looked, looked-cooler, kind-usage-blind, cooled-from}
 use Rattle.scan.specs.declared.Walk.{Walk}
 
 -- what a sweep sees of a frame, in one number: its class, and its usage in the lower two bits
@@ -170,7 +170,7 @@ record Alike (k : Kind) (F : ℕ) (rs : List FrameRecord) (v : Swept) (e : WalkE
   sees : Sees k (v .records) (e .left) F
   kept : (g : ℕ) → F ≤ g → recordAt (v .records) g ≡ recordAt rs g
 
-module _ (k : Kind) (K : Settled k) (F : ℕ) (most : F ≤ mostFrames) where
+module _ (k : Kind) (K : UsageBlind k) (F : ℕ) (most : F ≤ mostFrames) where
   -- past the last record there is the blank one, of which a look leaves what it was
   blank-left : (c : Class) → (c ≡ warm → blank .pins ≢ 0) → lookLeaves blank c ≡ blank
   unfolding lookLeaves
@@ -240,13 +240,13 @@ module _ (k : Kind) (K : Settled k) (F : ℕ) (most : F ≤ mostFrames) where
 pub same-end : (p : Pool) (fs us vs : List ℕ) (r : Walk) → p .count ≤ mostFrames → p .hand .0 < p .count → Few (p .records) (p .count)
     → Sees (kind fs) (p .records) us (p .count) → Walked (p .count) (p .hand .0) us vs r
     → r ≡ record { taken = sweep p fs .taken; frame = sweep p fs .frame; looks = sweep p fs .looks; hand = sweep p fs .hand }
-same-end p fs us vs r most hand few s w = w .ended ∙ alike (kind fs) (kind-settled fs) (p .count) most (mostLooks (p .count)) 0 (p .records) us (p .hand .0) hand few s .ended
+same-end p fs us vs r most hand few s w = w .ended ∙ alike (kind fs) (kind-usage-blind fs) (p .count) most (mostLooks (p .count)) 0 (p .records) us (p .hand .0) hand few s .ended
 
 -- and leaves the same records
 pub same-sweep : (p : Pool) (fs us vs : List ℕ) (ts : List FrameRecord) (r : Walk) → p .count ≤ mostFrames → p .hand .0 < p .count → Few (p .records) (p .count)
     → Sees (kind fs) (p .records) us (p .count) → Walked (p .count) (p .hand .0) us vs r → Cools (p .records) ts vs (p .count)
     → sweep p fs ≡ record { taken = r .taken; frame = r .frame; looks = r .looks; records = ts; hand = r .hand }
 same-sweep p fs us vs ts r most hand few s w c =
-    let a = cools-swept (kind fs) (kind-settled fs) (p .count) most (mostLooks (p .count)) 0 (p .records) us (p .hand .0) hand few s in
+    let a = cools-swept (kind fs) (kind-usage-blind fs) (p .count) most (mostLooks (p .count)) 0 (p .records) us (p .hand .0) hand few s in
     let t : ts ≡ sweep p fs .records = cools-same (p .records) ts _ vs (p .count) c (rw (w .left) a) in
     rw (same-end p fs us vs r most hand few s w, t)

@@ -1,2 +1,4 @@
+pub mod Fold
+pub mod Among
 pub mod Seen
 pub mod SeenLaws

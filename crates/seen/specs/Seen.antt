@@ -1,52 +1,57 @@
--- A table of numbers seen, and rows of numbers that are tested against it: `w k` is number k of the row w.
-use Prim.Native.Nat.{ℕ, _+_, _*_, _<_}
+-- The table of the page numbers seen, and what it tells of a row of numbers. Its form shows in `Seen`, `none` and `noted` alone, and no other crate goes by it.
+use Prim.Native.Nat.{ℕ, _<_}
 use mathlib.Core.Path.{_≡_}
+use mathlib.Core.Logic.{_≢_}
 use mathlib.Core.Bool.{Bool, true, false, not}
 use mathlib.Core.List.{List}
 use lib.Dec.{eqb, ltb}
-use lib.ListN.{length, getD}
-use Rattle.page.specs.Figures.{pageSize, slotCount, wordSize, mostPages}
-use Rattle.page.specs.Word.{nameAt}
-use Rattle.machine.specs.Tests.{_and_, _or_, every, some}
+use lib.ListN.{length, getD, replicate}
+use Rattle.page.specs.Figures.{slotCount, mostPages}
+use Rattle.machine.specs.Tests.{_and_, _or_, every}
+use Rattle.seen.specs.Among.{among}
 
--- the row of the words from byte a on
-abbrev pub wordsFrom : List ℕ → ℕ → ℕ → ℕ
-wordsFrom b a k = nameAt b (a + wordSize * k)
+abbrev pub Seen : Type 0
+Seen = List Bool
 
--- the words of page p
-abbrev pub pageWords : List ℕ → ℕ → ℕ → ℕ
-pageWords b p = wordsFrom b (pageSize * p)
+-- the table before anything is noted
+abbrev pub none : Seen
+none = replicate mostPages false
 
--- one of the first m numbers is x
-unfoldable pub among : (ℕ → ℕ) → ℕ → ℕ → Bool
-among w m x = some m (λ k. eqb (w k) x)
+-- x is noted
+unfoldable pub noted : Seen → ℕ → Bool
+noted seen x = getD seen x false
 
--- one of the numbers of a page is not 0
-unfoldable pub hasWord : (ℕ → ℕ) → Bool
-hasWord w = some slotCount (λ k. not (eqb (w k) 0))
+-- the table is whole, and 0, which names no page, isn't noted
+pub record Table (seen : Seen) : Type 0 where
+  pub size : length seen ≡ mostPages
+  pub zero : noted seen 0 ≡ false
+
+-- of each page number but 0 the table tells what the test tells
+pub record Tells (seen : Seen) (test : ℕ → Bool) : Type 0 where
+  pub table : Table seen
+  pub right : (x : ℕ) → 0 < x → x < mostPages → noted seen x ≡ test x
+
+-- x was noted, 0 excepted; `new` tells whether it wasn't before
+pub record Notes (x : ℕ) (before after : Seen) (new : Bool) : Type 0 where
+  pub answer : new ≡ not (noted before x)
+  pub table : Table before → Table after
+  pub here : Table before → x ≢ 0 → noted after x ≡ true
+  pub others : (y : ℕ) → y ≢ 0 → x ≢ y → noted after y ≡ noted before y
+
+-- ---- rows of numbers
 
 -- number k is 0, or it is below N, was not seen, and is none of those before it
 unfoldable pub fresh : (ℕ → Bool) → (ℕ → ℕ) → ℕ → ℕ → Bool
 fresh seen w N k = eqb (w k) 0 or (ltb (w k) N and not (seen (w k)) and not (among w k (w k)))
 
--- the table
-abbrev pub Seen : Type 0
-Seen = List Bool
+-- after the first m numbers: whether all were fresh, and if so, the table tells of them too
+pub record Marked (m : ℕ) (w : ℕ → ℕ) (N : ℕ) (before after : Seen) (r : Bool) : Type 0 where
+  pub answer : r ≡ every m (fresh (noted before) w N)
+  pub tells : r ≡ true → Tells after (λ x. noted before x or among w m x)
 
--- x is noted
-abbrev pub noted : Seen → ℕ → Bool
-noted table x = getD table x false
+-- the numbers in an array as a row, and that each is a page's
+abbrev pub rowOf : List ℕ → ℕ → ℕ
+rowOf numbers k = getD numbers k 0
 
--- a table of all page numbers but 0 tells what the test tells
-pub record Tells (table : Seen) (seen : ℕ → Bool) : Type 0 where
-  pub size : length table ≡ mostPages
-  pub right : (x : ℕ) → 0 < x → x < mostPages → noted table x ≡ seen x
-
--- the table after tells what the one before tells, and of the numbers of which the test holds
-pub record Adds (before after : Seen) (t : ℕ → Bool) : Type 0 where
-  pub tells : Tells after (λ x. noted before x or t x)
-
--- after the numbers of a page: whether all were fresh, and if so, the table tells of them too
-pub record Marked (w : ℕ → ℕ) (N : ℕ) (before after : Seen) (r : Bool) : Type 0 where
-  pub answer : r ≡ every slotCount (fresh (noted before) w N)
-  pub table : r ≡ true → Adds before after (among w slotCount)
+abbrev pub PageNumbers : List ℕ → Type 0
+PageNumbers numbers = (k : ℕ) → k < slotCount → rowOf numbers k < mostPages

@@ -1,37 +1,43 @@
-// The table of the page numbers seen, and the 16 words of a page that are noted in it. No other crate knows its form.
+// The table of the page numbers seen: what is noted in it, and asked of it. No other crate goes by its form.
+pub mod words;
+
 use page::PageNumber;
 use page::word;
 ghost use mathlib.Core.Path.{_≡_};
-ghost use Prim.Native.Nat.{_+_, _≤_};
+ghost use Prim.Native.Nat.{_+_, _≤_, _<_};
 ghost use lib.ListN.{length};
-ghost use Rattle.page.specs.Figures.{payloadStart, mostPages};
-ghost use Rattle.seen.specs.Seen.{wordsFrom, hasWord, Marked};
+ghost use Rattle.page.specs.Figures.{payloadStart, slotCount, mostPages};
+ghost use Rattle.page.specs.Page.{wordsFrom};
+ghost use Rattle.seen.specs.Seen.{noted, Table, Notes, rowOf, PageNumbers, Marked};
 
 pub type Seen = [bool; PageNumber::MOST];
 
 // No number is noted.
 pub const NONE: Seen = [false; PageNumber::MOST];
 
-// Is one of the 16 words from byte `at` on not 0. All of them are looked at, so that they are compared side by side.
-pub fn has_word(buffer: &[u8], at: usize) -> bool
-    requires { ⌜ at + payloadStart ≤ length (now buffer) ⌝ }
-    ensures { λ r. ⌜ r ≡ hasWord (wordsFrom (now (buffer .entry)) at) ⌝ }
+// Is the number noted.
+pub fn is_noted(seen: &Seen, x: usize) -> bool
+    requires { ⌜ x < mostPages ⌝ }
+    ensures { λ r. ⌜ r ≡ noted (now (seen .entry)) x ⌝ }
 {
-    let mut hit = false;
-    let mut k: usize = 0;
-    while k < PageNumber::SLOTS {
-        if word::name_at(buffer, at + word::SIZE * k) != 0 {
-            hit = true;
-        }
-        k += 1;
-    }
-    hit
+    seen[x]
 }
 
-// Marks the numbers in the 16 words from byte `at` on; false where one isn't below `limit` or was marked before.
+// Notes a number: was it new. 0 stands for no number, and its mark is taken back.
+pub fn note(seen: &mut Seen, x: usize) -> bool
+    requires { ⌜ x < mostPages ⌝ }
+    ensures { λ r. ⌜ Notes x (now (seen .entry)) (now (seen .exit)) r ⌝ }
+{
+    let new = !seen[x];
+    seen[x] = true;
+    seen[0] = false;
+    new
+}
+
+// Notes the numbers in the 16 words from byte `at` on; false where one isn't below `limit` or was noted before.
 pub fn mark_page(buffer: &[u8], at: usize, limit: usize, seen: &mut Seen) -> bool
-    requires { ⌜ (limit ≤ mostPages) × (at + payloadStart ≤ length (now buffer)) × (length (now seen) ≡ mostPages) ⌝ }
-    ensures { λ r. ⌜ Marked (wordsFrom (now (buffer .entry)) at) limit (now (seen .entry)) (now (seen .exit)) r ⌝ }
+    requires { ⌜ (limit ≤ mostPages) × (at + payloadStart ≤ length (now buffer)) × Table (now seen) ⌝ }
+    ensures { λ r. ⌜ Marked slotCount (wordsFrom (now (buffer .entry)) at) limit (now (seen .entry)) (now (seen .exit)) r ⌝ }
 {
     let mut k: usize = 0;
     while k < PageNumber::SLOTS {
@@ -40,12 +46,28 @@ pub fn mark_page(buffer: &[u8], at: usize, limit: usize, seen: &mut Seen) -> boo
             if limit <= w {
                 return false;
             }
-            if seen[w] {
+            if !note(seen, w) {
                 return false;
             }
-            seen[w] = true;
         }
         k += 1;
     }
     true
+}
+
+// Notes 16 numbers: were they all new. No number is branched on.
+pub fn mark_numbers(numbers: &[u32; PageNumber::SLOTS], seen: &mut Seen) -> bool
+    requires { ⌜ PageNumbers (now numbers) × Table (now seen) ⌝ }
+    ensures { λ r. ⌜ Marked slotCount (rowOf (now (numbers .entry))) mostPages (now (seen .entry)) (now (seen .exit)) r ⌝ }
+{
+    let mut fresh = true;
+    let mut k: usize = 0;
+    while k < PageNumber::SLOTS {
+        let x = numbers[k] as usize;
+        if !note(seen, x) {
+            fresh = false;
+        }
+        k += 1;
+    }
+    fresh
 }

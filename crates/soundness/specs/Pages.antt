@@ -1,5 +1,5 @@
 -- A store is sound exactly where each page goes on from the pages before it: its numbers are fresh. Assumes nothing.
-use Prim.Native.Nat.{ℕ, _+_, _*_, _<_, _≤_}
+use Prim.Native.Nat.{ℕ, _+_, _<_, _≤_}
 use mathlib.Core.Path.{_≡_, refl, sym, _∙_, ap}
 use mathlib.Core.Logic.{_≢_}
 use mathlib.Core.Bool.{Bool, true, false, not}
@@ -9,14 +9,15 @@ use native.Mathlib.Omega.{arith}
 use native.Mathlib.Decide.{decLt, ℕ-discrete}
 use borrow.Author.Tests.{eq-eqb, ne-eqb, lt-ltb, eqb-true, eqb-false, ltb-true, not-true}
 use lib.Dec.{eqb}
-use lib.ListN.{replicate}
-use Rattle.page.specs.Figures.{pageSize, slotCount, mostPages}
-use Rattle.page.specs.Page.{slot}
+use Rattle.page.specs.Figures.{slotCount, mostPages}
+use Rattle.page.specs.Page.{slot, pageWords}
 use Rattle.machine.specs.Tests.{_or_, every, some}
 use Rattle.machine.specs.Laws.TestLaws.{clash, same, is-off, both, and-true, use⇒, make⇒, every-true, true-every, every-false, every-ext, every-step, every-zero, some-zero, some-suc, some-true, true-some}
 use Rattle.machine.specs.Soundness.{wordsBelow, wordsOnce, sound}
-use Rattle.seen.specs.Seen.{Seen, wordsFrom, pageWords, among, hasWord, fresh, noted, Tells, Marked}
-use Rattle.seen.specs.SeenLaws.{Fresh, fresh-zero, fresh-new, fresh-is, fresh-ext, is-among, among-is, not-among, none-among, no-word, no-word-among, or-same, tells-none, tells-ext}
+use Rattle.seen.specs.Fold.{or-same}
+use Rattle.seen.specs.Among.{among, hasWord, is-among, among-is, not-among, none-among, no-word, no-word-among}
+use Rattle.seen.specs.Seen.{Seen, none, noted, Tells, fresh, Marked}
+use Rattle.seen.specs.SeenLaws.{Fresh, fresh-zero, fresh-new, fresh-is, fresh-ext, none-noted, tells-ext}
 
 -- x is a word of one of the first p pages
 unfoldable pub earlier : List ℕ → ℕ → ℕ → Bool
@@ -130,9 +131,9 @@ module _ (st : List ℕ) (N : ℕ) where
     pub fine : every p (freshPage st N) ≡ true
     pub tells : Tells table (earlier st p)
 
-  pub passed-none : Passed 0 (replicate mostPages false)
+  pub passed-none : Passed 0 none
   unfolding earlier
-  passed-none = record { fine = every-zero (freshPage st N); tells = tells-ext _ _ _ tells-none (λ x a b. sym (some-zero _)) }
+  passed-none = record { fine = every-zero (freshPage st N); tells = tells-ext _ _ _ none-noted (λ x a b. sym (some-zero _)) }
 
   pub passed-all : (table : Seen) → Passed N table → true ≡ sound st N
   passed-all table P = sym (by-pages ∙ P .fine)
@@ -147,13 +148,13 @@ module _ (st : List ℕ) (N : ℕ) where
     unfolding earlier
     earlier-next x = rw (add-one p, some-suc p (λ q. among (pageWords st q) slotCount x))
 
-    pub pass-page : (next : Seen) → Marked (pageWords st p) N table next true → Passed (p + 1) next
+    pub pass-page : (next : Seen) → Marked slotCount (pageWords st p) N table next true → Passed (p + 1) next
     pass-page next M = record {
       fine = every-step p (freshPage st N) (P .fine) (sym (M .answer ∙ by-table));
-      tells = tells-ext next _ _ (M .table refl .tells) (λ x a b. ap (λ (t : Bool). t or among (pageWords st p) slotCount x) (P .tells .right x a b) ∙ sym (earlier-next x));
+      tells = tells-ext next _ _ (M .tells refl) (λ x a b. ap (λ (t : Bool). t or among (pageWords st p) slotCount x) (P .tells .right x a b) ∙ sym (earlier-next x));
     }
 
-    pub fail-page : (next : Seen) → p < N → Marked (pageWords st p) N table next false → false ≡ sound st N
+    pub fail-page : (next : Seen) → p < N → Marked slotCount (pageWords st p) N table next false → false ≡ sound st N
     fail-page next l M = sym (by-pages ∙ every-false N (freshPage st N) p l (sym (M .answer ∙ by-table)))
 
     -- a page without a number is passed over

@@ -1,5 +1,5 @@
 // Rule 16: is a store sound. Its words are looked at a page at a time, with a table of the numbers seen.
-use page::PageNumber;
+use page::StorePlace;
 ghost use mathlib.Core.Path.{_≡_};
 ghost use Prim.Native.Nat.{_*_, _≤_};
 ghost use lib.ListN.{length};
@@ -14,8 +14,9 @@ pub fn is_sound(store: &[u8], n: usize) -> bool
     let mut seen = seen::NONE;
     let mut p: usize = 0;
     while p < n {
-        if seen::has_word(store, PageNumber::SIZE * p) {
-            if !seen::mark_page(store, PageNumber::SIZE * p, n, &mut seen) {
+        let at = StorePlace::start(StorePlace(p as u16));
+        if seen::words::has_word(store, at) {
+            if !seen::mark_page(store, at, n, &mut seen) {
                 return false;
             }
         }

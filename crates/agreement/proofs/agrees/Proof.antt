@@ -41,7 +41,7 @@ returns : tie.Need-returns Inv-loop μ-loop Inv-loop2 μ-loop2
 returns c = end-hand (c .before .before .before .before .before .before .args .pool) _ (c .before .before .before .before .before .before .pre .0) _ (c .before .before .before .from-u16 .ensures) _ _ _ (c .before .from-u8 .ensures) (c .if1 .taken)
 
 loop-holds : tie.Need-loop-holds Inv-loop μ-loop Inv-loop2 μ-loop2
-loop-holds c = (omega (arith, c .before .before .before .before .before .before .pre .0 .most, c .before .before .before .from-u16 .ensures), before-first _ _ _ _ _ _ _ (c .before .before .before .before .before .before .pre .0 .pages) (omega (arith, c .before .before .before .before .before .before .pre .0 .most, c .before .before .before .from-u16 .ensures)) (c .before .before .before .before .before .before .pre .1))
+loop-holds c = (omega (arith, c .before .before .before .before .before .before .pre .0 .most, c .before .before .before .from-u16 .ensures), before-first _ _ _ _ _ _ _ (omega (arith, c .before .before .before .before .before .before .pre .0 .most, c .before .before .before .from-u16 .ensures)) (c .before .before .before .before .before .before .pre .1))
 
 mul-rec : tie.Need-mul-rec Inv-loop μ-loop Inv-loop2 μ-loop2
 mul-rec c = search needs
@@ -62,7 +62,7 @@ cast-t30 : tie.Need-cast-t30 Inv-loop μ-loop Inv-loop2 μ-loop2
 cast-t30 c = search needs
 
 note-requires : tie.Need-note-requires Inv-loop μ-loop Inv-loop2 μ-loop2
-note-requires c κs = (rw (c .before .before .before .before .before .before .before .before .before .before .from-u16 .ensures) (c .before .before .before .before .before .before .before .before .before .before .before .before .before .pre .0), c .before .before .before .before .before .loop-test .taken)
+note-requires c κs = (rw (c .before .before .before .before .before .before .before .before .before .before .from-u16 .ensures) (c .before .before .before .before .before .before .before .before .before .before .before .before .before .pre .0), c .before .before .before .before .before .loop-test .taken, c .before .before .before .before .before .before .loop .inv .1 .passed .tells .table)
 
 returns-2 : tie.Need-returns-2 Inv-loop μ-loop Inv-loop2 μ-loop2
 returns-2 c =

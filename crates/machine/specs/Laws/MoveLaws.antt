@@ -146,40 +146,6 @@ evicted-sized s f R l =
       store = writtenOutBy-length _ (recordAt (s .pool .records) f) (s .frames) (s .store) f _ _ (z .frames) (z .store) l (R .inRange f l .page) ∙ z .store;
     }
 
-pub loaded-counts : (s : State) (f k e q : ℕ) → (loaded s f k e q .pool .count ≡ s .pool .count) × (loaded s f k e q .pool .pages ≡ s .pool .pages)
-unfolding loaded
-loaded-counts s f k e q = (refl, refl)
-
-pub loaded-sized : (s : State) (f k e q : ℕ) → Sized s → e < s .pool .count → q < s .pool .pages → Sized (loaded s f k e q)
-unfolding loaded
-loaded-sized s f k e q z he hq =
-    record {
-      least = z .least;
-      most = z .most;
-      some = z .some;
-      pages = z .pages;
-      frames = putSlot-length (putPage (s .frames) e (pageOf (s .store) q)) f k _
-          ∙ putPage-length (s .frames) e (pageOf (s .store) q) _ (z .frames) (pageOf-length (s .store) q _ (z .store) hq) he ∙ z .frames;
-      store = z .store;
-    }
-
-pub settled-counts : (s : State) → (settled s .pool .count ≡ s .pool .count) × (settled s .pool .pages ≡ s .pool .pages)
-unfolding settled
-settled-counts s = (refl, refl)
-
-pub settled-sized : (s : State) → Ready s → Sized (settled s)
-unfolding settled
-settled-sized s R =
-    let z = R .sized in
-    record {
-      least = z .least;
-      most = z .most;
-      some = z .some;
-      pages = z .pages;
-      frames = z .frames;
-      store = writtenOutTo-length (s .pool .records) (s .frames) (s .store) _ _ (z .frames) (z .store) (λ f l. R .inRange f l .page) (s .pool .count) (omega arith) ∙ z .store;
-    }
-
 -- ---- "A page written out and loaded again is that page."
 
 -- a word put into one page leaves the bytes of every other

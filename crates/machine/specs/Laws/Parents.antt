@@ -154,25 +154,25 @@ reach-climb p z (suc n) (suc m) f l e = elim (case (eqb f 0)) [
 -- ---- the same without a number of steps
 
 -- following parents reaches frame 0
-pub data Reach (up : ℕ → ℕ) : ℕ → Type 0 where
-  top : Reach up 0
-  via : {f : ℕ} → Reach up (up f) → Reach up f
+pub data ClimbsTo (up : ℕ → ℕ) : ℕ → Type 0 where
+  top : ClimbsTo up 0
+  via : {f : ℕ} → ClimbsTo up (up f) → ClimbsTo up f
 
-pub reach-steps : (up : ℕ → ℕ) (f : ℕ) → Reach up f → (n : ℕ) × (climb up n f ≡ 0)
+pub reach-steps : (up : ℕ → ℕ) (f : ℕ) → ClimbsTo up f → (n : ℕ) × (climb up n f ≡ 0)
 unfolding climb
 reach-steps up f top = (0, refl)
 reach-steps up f (via r) = let a = reach-steps up (up f) r in (suc (a .0), a .1)
 
-pub steps-reach : (up : ℕ → ℕ) (n f : ℕ) → climb up n f ≡ 0 → Reach up f
+pub steps-reach : (up : ℕ → ℕ) (n f : ℕ) → climb up n f ≡ 0 → ClimbsTo up f
 unfolding climb
 steps-reach up zero f e = rw e top
 steps-reach up (suc n) f e = via {f = f} (steps-reach up n (up f) e)
 
 -- F steps are enough
-pub reach-complete : (p : Pool) (F : ℕ) → ((f : ℕ) → f < F → parentOf p f < F) → (f : ℕ) → f < F → Reach (parentOf p) f → reachesRoot p F f ≡ true
+pub reach-complete : (p : Pool) (F : ℕ) → ((f : ℕ) → f < F → parentOf p f < F) → (f : ℕ) → f < F → ClimbsTo (parentOf p) f → reachesRoot p F f ≡ true
 reach-complete p F b f l r = climb-reach p F b f l (reach-steps (parentOf p) f r)
 
-pub reach-sound : (p : Pool) (n f : ℕ) → reachesRoot p n f ≡ true → Reach (parentOf p) f
+pub reach-sound : (p : Pool) (n f : ℕ) → reachesRoot p n f ≡ true → ClimbsTo (parentOf p) f
 unfolding reachesRoot
 reach-sound p zero f e = rw (eqb-true f 0 e) top
 reach-sound p (suc n) f e = elim (case (eqb f 0)) [

@@ -21,31 +21,31 @@ use Rattle.machine.specs.Laws.Ready.{Kept, rules-kept}
 -- ---- no rule is broken
 
 -- rule 3: the handle's frame is one of the F frames and holds its page, which is pinned
-pub record Held (p : Pool) (h : Handle) : Type 0 where
+pub record HandleHeld (p : Pool) (h : Handle) : Type 0 where
   pub below : h .frame .0 < p .count
   pub used : isUsed (recordAt (p .records) (h .frame .0)) ≡ true
   pub page : pageIn (p .records) (h .frame .0) ≡ h .page .0
   pub pins : 0 < recordAt (p .records) (h .frame .0) .pins
 
-pub held-of : (p : Pool) (h : Handle) → handleFits p h ≡ true → Held p h
+pub handle-held : (p : Pool) (h : Handle) → handleFits p h ≡ true → HandleHeld p h
 unfolding handleFits
-held-of p h t =
+handle-held p h t =
     let r = recordAt (p .records) (h .frame .0) in
     let a = and-true (ltb (h .frame .0) (p .count)) _ t in
     let b = and-true (isUsed r) _ (a .1) in
     let c = and-true (eqb (r .page .0) (h .page .0)) (ltb 0 (r .pins)) (b .1) in
     record { below = ltb-true _ _ (a .0); used = b .0; page = eqb-true _ _ (c .0); pins = ltb-true 0 _ (c .1) }
 
-pub held-occupied : (p : Pool) (h : Handle) → Held p h → occupied p (h .frame .0) ≡ true
+pub held-occupied : (p : Pool) (h : Handle) → HandleHeld p h → occupied p (h .frame .0) ≡ true
 held-occupied p h e = make-occupied p (h .frame .0) (e .below) (e .used)
 
 pub record HandleKept (s : State) (h : Handle) : Type 0 where
   pub kept : Kept s
-  pub held : Held (s .pool) h
+  pub held : HandleHeld (s .pool) h
 
 pub record SlotKept (s : State) (h : Handle) (k : ℕ) : Type 0 where
   pub kept : Kept s
-  pub held : Held (s .pool) h
+  pub held : HandleHeld (s .pool) h
   pub slot : k < slotCount
 
 pub record PageKept (s : State) (q : PageNumber) : Type 0 where
@@ -71,7 +71,7 @@ page-numbered s q = refl
 pub handle-kept : (s : State) (h : Handle) → firstBroken (handleRules s h) ≡ 0 → HandleKept s h
 handle-kept s h e =
     let a = parts-kept (poolRules s) (rule3 s h ∷ []) (pool-numbered s) e in
-    record { kept = rules-kept s (a .0); held = held-of (s .pool) h (first-kept 2 (handleFits (s .pool) h) [] (a .1) .0) }
+    record { kept = rules-kept s (a .0); held = handle-held (s .pool) h (first-kept 2 (handleFits (s .pool) h) [] (a .1) .0) }
 
 pub slot-kept : (s : State) (h : Handle) (k : ℕ) → firstBroken (wordRules s h k) ≡ 0 → SlotKept s h k
 slot-kept s h k e =
@@ -101,9 +101,6 @@ module _ (s : State) (ys : List Rule) {n : ℕ} where
   pub pool-passes : {m : ℕ} → n ≡ firstBroken (poolRules s) → n ≡ 0 → m ≡ firstBroken ys → m ≡ firstBroken (poolRules s ++ ys)
   pool-passes = passes (poolRules s) ys (pool-numbered s)
 
-pub pool-parts : (s : State) (ys : List Rule) → firstBroken (poolRules s ++ ys) ≡ 0 → Kept s × (firstBroken ys ≡ 0)
-pool-parts s ys e = let a = parts-kept (poolRules s) ys (pool-numbered s) e in (rules-kept s (a .0), a .1)
-
 module _ (s : State) (h : Handle) (ys : List Rule) {n : ℕ} where
   pub handle-stops : n ≡ firstBroken (handleRules s h) → (n ≡ 0 → ⊥) → n ≡ firstBroken (handleRules s h ++ ys)
   handle-stops = stops (handleRules s h) ys (handle-numbered s h)
@@ -130,9 +127,6 @@ module _ (s : State) (q : PageNumber) (ys : List Rule) {n : ℕ} where
 
   pub page-passes : {m : ℕ} → n ≡ firstBroken (pageRules s q) → n ≡ 0 → m ≡ firstBroken ys → m ≡ firstBroken (pageRules s q ++ ys)
   page-passes = passes (pageRules s q) ys (page-numbered s q)
-
-pub page-parts : (s : State) (q : PageNumber) (ys : List Rule) → firstBroken (pageRules s q ++ ys) ≡ 0 → PageKept s q × (firstBroken ys ≡ 0)
-page-parts s q ys e = let a = parts-kept (pageRules s q) ys (page-numbered s q) e in (page-kept s q (a .0), a .1)
 
 -- ---- what a call answers and leaves, where n is the refusal that the code computed
 

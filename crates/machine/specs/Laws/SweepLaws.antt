@@ -117,7 +117,7 @@ cooler-then r q t a b = record {
 }
 
 -- a class goes by the record without its usage, and no frame without pins is warmed
-pub record Settled (k : Kind) : Type 0 where
+pub record UsageBlind (k : Kind) : Type 0 where
   pub same : (r q : FrameRecord) (f : ℕ) → Cooler r q → k q f ≡ k r f
   pub pinned : (r : FrameRecord) (f : ℕ) → k r f ≡ warm → r .pins ≢ 0
 
@@ -139,7 +139,7 @@ set-relates R (y ∷ rs) zero (suc g) x s e = s (recordAt rs g)
 set-relates R (y ∷ rs) (suc h) zero x s e = s y
 set-relates R (y ∷ rs) (suc h) (suc g) x s e = set-relates R rs h g x s e
 
-pub looked-cooler : (k : Kind) → Settled k → (rs : List FrameRecord) (h g : ℕ) → Cooler (recordAt rs g) (recordAt (looked k rs h) g)
+pub looked-cooler : (k : Kind) → UsageBlind k → (rs : List FrameRecord) (h g : ℕ) → Cooler (recordAt rs g) (recordAt (looked k rs h) g)
 looked-cooler k K rs h g = set-relates Cooler rs h g _ cooler-self (look-cooler (recordAt rs h) _ (K .pinned (recordAt rs h) h))
 
 -- an open frame that is looked at loses one usage
@@ -157,7 +157,7 @@ leaves-cooled r yield e = refl
 looked-usage : (k : Kind) (rs : List FrameRecord) (h : ℕ) → yields (k (recordAt rs h) h) ≡ true → recordAt (looked k rs h) h .usage ≡ recordAt rs h .usage - 1
 looked-usage k rs h o = set-usage rs h _ (leaves-cooled (recordAt rs h) _ o)
 
-looked-open : (k : Kind) → Settled k → (rs : List FrameRecord) (h g : ℕ) → yields (k (recordAt (looked k rs h) g) g) ≡ yields (k (recordAt rs g) g)
+looked-open : (k : Kind) → UsageBlind k → (rs : List FrameRecord) (h g : ℕ) → yields (k (recordAt (looked k rs h) g) g) ≡ yields (k (recordAt rs g) g)
 looked-open k K rs h g = ap yields (K .same (recordAt rs g) (recordAt (looked k rs h) g) g (looked-cooler k K rs h g))
 
 takes-open : (r : FrameRecord) (c : Class) → lookTakes r c ≡ true → yields c ≡ true
@@ -193,8 +193,8 @@ standing-same : (r q : FrameRecord) (fs : List ℕ) (f : ℕ) → q .pins ≡ r 
 unfolding standing
 standing-same r q fs f e = rw e
 
-pub kind-settled : (fs : List ℕ) → Settled (kind fs)
-kind-settled fs = record { same = λ r q f c. ap classOf (standing-same r q fs f (c .pins)); pinned = λ r f e. absurd (none (standing r fs f) e) }
+pub kind-usage-blind : (fs : List ℕ) → UsageBlind (kind fs)
+kind-usage-blind fs = record { same = λ r q f c. ap classOf (standing-same r q fs f (c .pins)); pinned = λ r f e. absurd (none (standing r fs f) e) }
   where
     at-rest : rest ≡ warm → ⊥
     at-rest e = let z : _≡_ {A = ℕ} 0 1 = cc in omega arith
@@ -225,6 +225,7 @@ looks-some k F (suc m) n rs h =
 pub sweep-looks : (p : Pool) (fs : List ℕ) → sweep p fs .looks ≤ mostLooks (p .count)
 sweep-looks p fs = let l = looks-most (kind fs) (p .count) (mostLooks (p .count)) 0 (p .records) (p .hand .0) in omega arith
 
+-- a sweep that takes a frame has looked
 pub sweep-looked : (p : Pool) (fs : List ℕ) → sweep p fs .taken ≡ true → 1 ≤ sweep p fs .looks
 sweep-looked p fs e = let l = looks-some (kind fs) (p .count) (mostLooks (p .count)) 0 (p .records) (p .hand .0) e in omega arith
 
@@ -240,7 +241,7 @@ Finds k F m =
     (n : ℕ) (rs : List FrameRecord) (h g d : ℕ) → h < F → g < F → yields (k (recordAt rs g) g) ≡ true → Away F h g d → d + F * recordAt rs g .usage < m
     → sweepFrom k F m n rs h .taken ≡ true
 
-module _ (k : Kind) (K : Settled k) (F m : ℕ) (finds : Finds k F m) (n : ℕ) (rs : List FrameRecord) (h g : ℕ) (hF : h < F) (gF : g < F) (o : yields (k (recordAt rs g) g) ≡ true) where
+module _ (k : Kind) (K : UsageBlind k) (F m : ℕ) (finds : Finds k F m) (n : ℕ) (rs : List FrameRecord) (h g : ℕ) (hF : h < F) (gF : g < F) (o : yields (k (recordAt rs g) g) ≡ true) where
   abbrev Goes : Type 0
   Goes = sweepFrom k F m (n + 1) (looked k rs h) (after F h) .taken ≡ true
 
@@ -263,7 +264,7 @@ module _ (k : Kind) (K : Settled k) (F m : ℕ) (finds : Finds k F m) (n : ℕ) 
   unfolding sweepFrom
   finds-suc d a l = pick-by (λ (v : Swept). v .taken ≡ true) _ _ _ (λ t. refl) (λ t. elim (ℕ-discrete g h) [ yes e ↦ here d e t l | no q ↦ further d q a l ])
 
-sweep-finds : (k : Kind) → Settled k → (F m : ℕ) → Finds k F m
+sweep-finds : (k : Kind) → UsageBlind k → (F m : ℕ) → Finds k F m
 sweep-finds k K F zero n rs h g d hF gF o a l = absurd (omega arith)
 sweep-finds k K F (suc m) n rs h g d hF gF o a l = finds-suc k K F m (sweep-finds k K F m) n rs h g hF gF o d a l
 
@@ -271,7 +272,7 @@ pub sweep-enough : (p : Pool) (fs : List ℕ) (g : ℕ) → p .hand .0 < p .coun
     → isOpen (recordAt (p .records) g) fs g ≡ true → sweep p fs .taken ≡ true
 sweep-enough p fs g hF gF u o =
     let a = away (p .count) (p .hand .0) g hF gF in
-    sweep-finds (kind fs) (kind-settled fs) (p .count) (mostLooks (p .count)) 0 (p .records) (p .hand .0) g (a .0) hF gF (kind-open fs _ g o) (a .2) (bound (p .count) (recordAt (p .records) g .usage) (a .0) u (a .1))
+    sweep-finds (kind fs) (kind-usage-blind fs) (p .count) (mostLooks (p .count)) 0 (p .records) (p .hand .0) g (a .0) hF gF (kind-open fs _ g o) (a .2) (bound (p .count) (recordAt (p .records) g .usage) (a .0) u (a .1))
   where
     bound : (F u d : ℕ) → u ≤ maxUsage → d < F → d + F * u < mostLooks F
     bound F u d h l = omega (arith, mul-le-mul-left F h)
@@ -282,7 +283,7 @@ sweep-enough p fs g hF gF u o =
 abbrev Sound : Kind → ℕ → List FrameRecord → Swept → Type 0
 Sound k F rs v = v .taken ≡ true → (v .frame .0 < F) × (yields (k (recordAt rs (v .frame .0)) (v .frame .0)) ≡ true)
 
-sound-from : (k : Kind) → Settled k → (F m n : ℕ) (rs : List FrameRecord) (h : ℕ) → h < F → Sound k F rs (sweepFrom k F m n rs h)
+sound-from : (k : Kind) → UsageBlind k → (F m n : ℕ) (rs : List FrameRecord) (h : ℕ) → h < F → Sound k F rs (sweepFrom k F m n rs h)
 unfolding sweepFrom
 sound-from k K F zero n rs h hF = λ e. absurd (clash (sym e))
 sound-from k K F (suc m) n rs h hF = pick-by (Sound k F rs) _ _ _ (λ t e. (hF, takes-open (recordAt rs h) _ t)) (λ t e.
@@ -292,7 +293,7 @@ sound-from k K F (suc m) n rs h hF = pick-by (Sound k F rs) _ _ _ (λ t e. (hF, 
 pub sweep-sound : (p : Pool) (fs : List ℕ) → p .hand .0 < p .count → sweep p fs .taken ≡ true
     → (sweep p fs .frame .0 < p .count) × (isOpen (recordAt (p .records) (sweep p fs .frame .0)) fs (sweep p fs .frame .0) ≡ true)
 sweep-sound p fs hF e =
-    let r = sound-from (kind fs) (kind-settled fs) (p .count) (mostLooks (p .count)) 0 (p .records) (p .hand .0) hF e in
+    let r = sound-from (kind fs) (kind-usage-blind fs) (p .count) (mostLooks (p .count)) 0 (p .records) (p .hand .0) hF e in
     (r .0, open-kind fs _ (sweep p fs .frame .0) (r .1))
 
 -- a frame is taken exactly where one of the F is open to eviction
@@ -313,7 +314,7 @@ pub record Cooled (F : ℕ) (rs : List FrameRecord) (v : Swept) : Type 0 where
 cooled-then : (F : ℕ) (rs qs : List FrameRecord) (v : Swept) → length qs ≡ length rs → ((g : ℕ) → Cooler (recordAt rs g) (recordAt qs g)) → Cooled F qs v → Cooled F rs v
 cooled-then F rs qs v l c t = record { size = t .size ∙ l; each = λ g. cooler-then (recordAt rs g) (recordAt qs g) (recordAt (v .records) g) (c g) (t .each g); hand = t .hand }
 
-pub cooled-from : (k : Kind) → Settled k → (F m n : ℕ) (rs : List FrameRecord) (h : ℕ) → h < F → Cooled F rs (sweepFrom k F m n rs h)
+pub cooled-from : (k : Kind) → UsageBlind k → (F m n : ℕ) (rs : List FrameRecord) (h : ℕ) → h < F → Cooled F rs (sweepFrom k F m n rs h)
 unfolding sweepFrom
 cooled-from k K F zero n rs h hF = record { size = refl; each = λ g. cooler-self (recordAt rs g); hand = hF }
 cooled-from k K F (suc m) n rs h hF =
@@ -322,7 +323,7 @@ cooled-from k K F (suc m) n rs h hF =
     (cooled-then F rs (looked k rs h) _ l (looked-cooler k K rs h) (cooled-from k K F m (n + 1) (looked k rs h) (after F h) (after-in F h hF)))
 
 pub sweep-cooled : (p : Pool) (fs : List ℕ) → p .hand .0 < p .count → Cooled (p .count) (p .records) (sweep p fs)
-sweep-cooled p fs hF = cooled-from (kind fs) (kind-settled fs) (p .count) (mostLooks (p .count)) 0 (p .records) (p .hand .0) hF
+sweep-cooled p fs hF = cooled-from (kind fs) (kind-usage-blind fs) (p .count) (mostLooks (p .count)) 0 (p .records) (p .hand .0) hF
 
 pub swept-ready : (s : State) → Ready s → Ready (withPool s (withSwept (s .pool) (sweep (s .pool) (s .frames))))
 swept-ready s h =
@@ -388,8 +389,8 @@ pub record Denied (s : State) : Type 0 where
   pub used : (f : ℕ) → f < s .pool .count → isUsed (recordAt (s .pool .records) f) ≡ true
   pub shut : (f : ℕ) → f < s .pool .count → isOpen (recordAt (s .pool .records) f) (s .frames) f ≡ false
 
-pub denied-of : (s : State) → Ready s → rule15 s .1 ≡ false → Denied s
-denied-of s h e =
+pub rule15-denied : (s : State) → Ready s → rule15 s .1 ≡ false → Denied s
+rule15-denied s h e =
     let r = or-none (ltb (firstEmpty (s .pool)) (s .pool .count)) (sweep (s .pool) (s .frames) .taken) e in
     record {
       used = all-used (r .0) (first-empty (s .pool) (h .hand));
@@ -411,4 +412,4 @@ of-denied s h d = or-off (no-empty (first-empty (s .pool) (h .hand))) (is-off _ 
 
 -- 15 is answered exactly where every frame is used and none is open to eviction
 pub denied-exactly : (s : State) → Ready s → (rule15 s .1 ≡ false → Denied s) × (Denied s → rule15 s .1 ≡ false)
-denied-exactly s h = (denied-of s h, of-denied s h)
+denied-exactly s h = (rule15-denied s h, of-denied s h)

@@ -15,11 +15,11 @@ clash e = let y : _≡_ {A = ℕ} 0 1 = cc in omega arith
 
 -- ---- a test is true or false
 
-pub data Case (b : Bool) : Type 0 where
-  on : b ≡ true → Case b
-  off : b ≡ false → Case b
+pub data OnOff (b : Bool) : Type 0 where
+  on : b ≡ true → OnOff b
+  off : b ≡ false → OnOff b
 
-pub case : (b : Bool) → Case b
+pub case : (b : Bool) → OnOff b
 case true = on refl
 case false = off refl
 
@@ -117,10 +117,6 @@ make⇒ false b h = refl
 pub every-zero : (t : ℕ → Bool) → every 0 t ≡ true
 unfolding every
 every-zero t = refl
-
-pub every-suc : (n : ℕ) (t : ℕ → Bool) → every (suc n) t ≡ (every n t and t n)
-unfolding every
-every-suc n t = refl
 
 pub every-true : (n : ℕ) (t : ℕ → Bool) → every n t ≡ true → (i : ℕ) → i < n → t i ≡ true
 unfolding every

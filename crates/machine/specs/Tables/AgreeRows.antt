@@ -32,8 +32,8 @@ beyond s r = withPool s (withRecords (s .pool) (set (s .pool .records) 3 r))
 abbrev disagrees : State → Case
 disagrees s = refuses settleCall s 2
 
-pub table : List Case
-table =
+pub agreeTable : List Case
+agreeTable =
     leaves (settleCall (three 2 root one free)) done (three 2 root one free)
     -- "Frame 0 holds page 0 and has no parent (its two parent fields are 0)."
     ∷ disagrees (three 2 (empty, []) free free)
@@ -74,8 +74,8 @@ words =
     ∷ disagrees (three 2 (resident 0 1 3, []) (child 2 0 1 0 0, swizzledTo 2 ∷ []) (child 1 0 2 0 0, swizzledTo 1 ∷ []))
     ∷ []
 
-pub agree-rows : allHold table ≡ true
-unfolding table allHold
+pub agree-rows : allHold agreeTable ≡ true
+unfolding agreeTable allHold
 agree-rows = refl
 
 pub agree-word-rows : allHold words ≡ true

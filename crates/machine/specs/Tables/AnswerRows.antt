@@ -19,8 +19,8 @@ two = machine 1 ((resident 0 1 2, page (swizzledTo 1 ∷ names 2 ∷ []) 10) ∷
 abbrev handed : Answer → Shown
 handed a = handedBack (record { at = (5, 1000); bytes = two .frames }) (record { at = (6, 2000); bytes = two .store }) a
 
-pub table : List Case
-table =
+pub answerTable : List Case
+answerTable =
     -- "Where an answer is an enum, a definition gives this paper's number and values for each of its cases."
     answers (fixAnswer (Fixed (handleOf 3 4) 16)) (handle 3 4 16)
     ∷ answers (fixAnswer (Refused 15)) (refused 15)
@@ -49,6 +49,6 @@ table =
     ∷ leaves (findCall two (pageNumber 2)) nowhere two
     ∷ []
 
-pub answer-rows : allHold table ≡ true
-unfolding table allHold
+pub answer-rows : allHold answerTable ≡ true
+unfolding answerTable allHold
 answer-rows = refl

@@ -14,8 +14,8 @@ use Rattle.machine.specs.Tables.Rows.{resident, changed, names, swizzled
 abbrev withOne : FrameRecord → List ℕ → State
 withOne r bytes = machine 1 ((resident 0 0 2, page (swizzledTo 1 ∷ []) 10) ∷ (r, bytes) ∷ []) (page (names 1 ∷ []) 20 ∷ page [] 21 ∷ page [] 22 ∷ [])
 
-pub table : List Case
-table =
+pub changeTable : List Case
+changeTable =
     -- "Write puts given bytes at a payload offset." "Dirty, unless the length is 0."
     leaves (writeCall (withOne (resident 1 2 1) (page [] 11)) (handleOf 1 1) 5 []) done (withOne (resident 1 2 1) (page [] 11))
     ∷ leaves (writeCall (withOne (changed 1 2 1) (page [] 11)) (handleOf 1 1) 192 []) done (withOne (changed 1 2 1) (page [] 11))
@@ -26,6 +26,6 @@ table =
     ∷ leaves (unlinkCall (withOne (resident 1 1 3) (page (nothing ∷ nothing ∷ names 2 ∷ []) 11)) (handleOf 1 1) 2) done (withOne (changed 1 1 3) (page [] 11))
     ∷ []
 
-pub change-rows : allHold table ≡ true
-unfolding table allHold
+pub change-rows : allHold changeTable ≡ true
+unfolding changeTable allHold
 change-rows = refl

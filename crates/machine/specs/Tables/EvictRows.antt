@@ -13,8 +13,8 @@ use Rattle.machine.specs.Tables.Rows.{empty, child, resident, changed, n
 abbrev two : ℕ → List ℕ → FrameRecord → List ℕ → State
 two hand word r stored = machine hand ((resident 0 1 2, page (nothing ∷ word ∷ []) 10) ∷ (r, page (names 1 ∷ []) 12) ∷ []) (page (nothing ∷ names 2 ∷ []) 20 ∷ page [] 21 ∷ stored ∷ [])
 
-pub table : List Case
-table =
+pub evictTable : List Case
+evictTable =
     -- "A dirty page's image goes to the store; the parent's word becomes the page number without dirtying the parent; the frame is empty, its bytes kept, and the hand stays."
     leaves (evictCall (two 1 (swizzledTo 1) (changed 2 0 3) (page [] 22)) (pageNumber 2)) done (two 1 (names 2) empty (page (names 1 ∷ []) 12))
     -- a clean page isn't written
@@ -28,6 +28,6 @@ table =
     12
     ∷ []
 
-pub evict-rows : allHold table ≡ true
-unfolding table allHold
+pub evict-rows : allHold evictTable ≡ true
+unfolding evictTable allHold
 evict-rows = refl

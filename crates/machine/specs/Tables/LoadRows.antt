@@ -15,8 +15,8 @@ four rootWords words one three =
     machine 2 ((resident 0 1 2, page rootWords 10) ∷ one ∷ (resident 2 1 0, page words 12) ∷ three ∷ [])
     (page (names 1 ∷ names 2 ∷ []) 20 ∷ page (names 3 ∷ []) 21 ∷ page [] 22 ∷ page [] 23 ∷ [])
 
-pub table : List Case
-table =
+pub loadTable : List Case
+loadTable =
     -- "With an empty frame, loading uses the first empty one at or after the hand, going round, and the hand stays." "The page is loaded with pins 1, heat 1, clean, its parent recorded and the parent's word swizzled."
     leaves (fixCall (four (names 1 ∷ swizzledTo 2 ∷ []) [] (empty, page (swizzledTo 3 ∷ []) 61) (empty, page [] 63)) (handleOf 0 0) 0) (handle 3 1 0)
     (four (swizzledTo 3 ∷ swizzledTo 2 ∷ []) [] (empty, page (swizzledTo 3 ∷ []) 61) (resident 1 1 1, page (names 3 ∷ []) 21))
@@ -25,6 +25,6 @@ table =
     (four (swizzledTo 3 ∷ swizzledTo 2 ∷ []) (nothing ∷ swizzledTo 1 ∷ []) (child 2 1 3 1 1, page [] 23) (resident 1 0 1, page [] 13))
     ∷ []
 
-pub load-rows : allHold table ≡ true
-unfolding table allHold
+pub load-rows : allHold loadTable ≡ true
+unfolding loadTable allHold
 load-rows = refl

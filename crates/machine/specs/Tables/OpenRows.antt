@@ -20,8 +20,8 @@ three root = root ∷ page [] 2 ∷ page [] 3 ∷ []
 abbrev zeroed : List ℕ → List ℕ → State
 zeroed fs st = state (record { records = replicate 64 empty; count = 0; pages = 0; hand = frameIndex 0 }) fs st
 
-pub table : List Case
-table =
+pub openTable : List Case
+openTable =
     -- "Open copies page 0 to frame 0 with pins 0, heat 0, clean; all other frames are empty, their bytes kept; the hand is 0."
     leaves (openCall bytes (joined (three (page (names 2 ∷ []) 1)))) done
     (machine 0 ((resident 0 0 0, page (names 2 ∷ []) 1) ∷ (empty, page (swizzledTo 9 ∷ []) 9) ∷ []) (three (page (names 2 ∷ []) 1)))
@@ -35,6 +35,6 @@ table =
     ∷ leaves (openCall (0 ∷ bytes) (joined (three (page [] 1)))) (refused 1) (zeroed (0 ∷ bytes) (joined (three (page [] 1))))
     ∷ []
 
-pub open-rows : allHold table ≡ true
-unfolding table allHold
+pub open-rows : allHold openTable ≡ true
+unfolding openTable allHold
 open-rows = refl

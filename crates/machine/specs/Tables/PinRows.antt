@@ -17,8 +17,8 @@ alone pins usage = machine 1 ((resident 0 pins usage, page [] 1) ∷ (empty, pag
 abbrev withOne : FrameRecord → State
 withOne r = machine 1 ((resident 0 1 2, page (swizzledTo 1 ∷ []) 1) ∷ (r, page [] 2) ∷ []) (page [] 3 ∷ page [] 4 ∷ [])
 
-pub table : List Case
-table =
+pub pinTable : List Case
+pinTable =
     -- "Root pins page 0." "A resident page gains one pin and one heat (heat stops at 3)." "The answer is the handle and the looks of the sweep, 0 if none."
     leaves (rootCall (alone 0 0)) (handle 0 0 0) (alone 1 1)
     ∷ leaves (rootCall (alone 1 1)) (handle 0 0 0) (alone 2 2)
@@ -32,6 +32,6 @@ table =
     ∷ leaves (unfixCall (withOne (changed 1 1 2)) (handleOf 1 1)) done (withOne (changed 1 0 2))
     ∷ []
 
-pub pin-rows : allHold table ≡ true
-unfolding table allHold
+pub pin-rows : allHold pinTable ≡ true
+unfolding pinTable allHold
 pin-rows = refl

@@ -22,8 +22,8 @@ oneFrame = machine 0 ((resident 0 0 0, page [] 10) ∷ []) (page [] 20 ∷ [])
 abbrev noPage : State
 noPage = machine 0 ((resident 0 0 0, page [] 10) ∷ (empty, page [] 11) ∷ []) []
 
-pub table : List Case
-table =
+pub ruleTable : List Case
+ruleTable =
     -- "F from 2 to 64", "N is 1 to 4,096"
     refuses rootCall oneFrame 1
     ∷ refuses rootCall noPage 1
@@ -58,8 +58,8 @@ naming =
     ∷ refuses (λ s. fixCall s (handleOf 0 0) 1) (three 1 [] [] (names 1 ∷ [])) 14
     ∷ []
 
-pub rule-rows : allHold table ≡ true
-unfolding table allHold
+pub rule-rows : allHold ruleTable ≡ true
+unfolding ruleTable allHold
 rule-rows = refl
 
 pub naming-rows : allHold naming ≡ true

@@ -13,13 +13,13 @@ use Rattle.machine.specs.Tables.Rows.{resident, changed, names, swizzled
 abbrev ofThree : FrameRecord → FrameRecord → FrameRecord → List (List ℕ) → State
 ofThree a b c store = machine 2 ((a, page (swizzledTo 1 ∷ swizzledTo 2 ∷ []) 10) ∷ (b, page [] 11) ∷ (c, page (names 3 ∷ []) 12) ∷ []) store
 
-pub table : List Case
-table =
+pub settleTable : List Case
+settleTable =
     -- "Settle writes the image of each dirty page and marks it clean." "The image of a resident page is its bytes with each swizzled word replaced by the number of the page in that frame."
     leaves (settleCall (ofThree (changed 0 1 3) (resident 1 0 1) (changed 2 2 0) (page [] 20 ∷ page [] 21 ∷ page [] 22 ∷ page [] 23 ∷ []))) done
     (ofThree (resident 0 1 3) (resident 1 0 1) (resident 2 2 0) (page (names 1 ∷ names 2 ∷ []) 10 ∷ page [] 21 ∷ page (names 3 ∷ []) 12 ∷ page [] 23 ∷ []))
     ∷ []
 
-pub settle-rows : allHold table ≡ true
-unfolding table allHold
+pub settle-rows : allHold settleTable ≡ true
+unfolding settleTable allHold
 settle-rows = refl

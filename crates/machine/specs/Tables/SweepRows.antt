@@ -6,8 +6,8 @@ use Rattle.machine.specs.Answers.{handle}
 use Rattle.machine.specs.Calls.{fixCall}
 use Rattle.machine.specs.Tables.Rows.{child, resident, changed, names, swizzledTo, nothing, page, machine, handleOf, Case, leaves, refuses, allHold}
 
-pub table : List Case
-table =
+pub sweepTable : List Case
+sweepTable =
     -- "The root, a pinned page and a page with a swizzled word are passed over. Any other with heat above 0 loses 1. One with heat 0 is evicted and its frame used. The hand moves on by one after every look, the last included, from F − 1 to 0."
     leaves
     (fixCall
@@ -34,6 +34,6 @@ table =
     15
     ∷ []
 
-pub sweep-rows : allHold table ≡ true
-unfolding table allHold
+pub sweep-rows : allHold sweepTable ≡ true
+unfolding sweepTable allHold
 sweep-rows = refl

@@ -23,8 +23,8 @@ use Rattle.machine.specs.Theorem.Outcomes.{Usual, granted-of, no-refusal
 use Rattle.machine.specs.Theorem.Holders.{Holder, place, held, unheld, found-absent}
 use Rattle.machine.specs.Theorem.CallCases.{handle-case, word-case, peek-case}
 use Rattle.machine.specs.Theorem.FixCases.{pins, fills, sweeps, refuses, fix-case}
-use Rattle.machine.specs.Theorem.Residence.{resident, holder, not-resident}
-use Rattle.machine.specs.Theorem.PointHolds.{plain-word}
+use Rattle.machine.specs.Theorem.Residence.{resident-of, holder, not-resident}
+use Rattle.machine.specs.Theorem.Reads.{held-word, held-byte, unheld-byte}
 
 -- two pages with equal payload bytes have one payload
 payload-same : (b c : List ℕ) (f p n m : ℕ) → length b ≡ pageSize * n → f < n → length c ≡ pageSize * m → p < m
@@ -46,10 +46,10 @@ module _ (x : Point) (I : Invariant x) where
   -- ---- payloads
   frame-payload : (p f : ℕ) → Holder (view (x .now)) p f → payloadOf (x .now .frames) f ≡ payloadOf (x .map) p
   frame-payload p f h = payload-same (x .now .frames) (x .map) f p _ _ (I .sized .frames) (h .at .lt) (I .mapLength) (rw (h .page) at (I .shape .pageLt f (h .at)))
-      (λ i lo hi. I .content .frameByte f i (h .at) lo hi ∙ ap (λ (q : ℕ). byte (x .map) q i) (h .page))
+      (λ i lo hi. held-byte x I p f i h lo hi)
 
   store-payload : (p : ℕ) → p < x .now .pool .pages → Absent (view (x .now)) p → payloadOf (x .now .store) p ≡ payloadOf (x .map) p
-  store-payload p l a = payload-same (x .now .store) (x .map) p p _ _ (I .sized .store) l (I .mapLength) l (λ i lo hi. I .content .absentByte p i l a lo hi)
+  store-payload p l a = payload-same (x .now .store) (x .map) p p _ _ (I .sized .store) l (I .mapLength) l (λ i lo hi. unheld-byte x I p i l a lo hi)
 
   -- the part at the place that a call answers: the payload of the frame that holds page p, or the stored page's
   frame-part : (p f : ℕ) (fs st : ℕ × ℕ) → Holder (view (x .now)) p f → GivesPayload x (payload inFrames (payloadAt f) payloadSize) p fs st
@@ -58,7 +58,7 @@ module _ (x : Point) (I : Invariant x) where
     bytes = frame-payload p f h;
     ofFrame = λ g i. let k : Holder (view (x .now)) p g = holder x I p g i in
         ap (λ (j : ℕ). (fs .0, payloadAt j + fs .1)) (I .shape .apart f g (h .at) (k .at) (h .page ∙ sym (k .page)));
-    ofStore = λ n. absurd (n (resident x I p f h));
+    ofStore = λ n. absurd (n (resident-of x I p f h));
     number = refl;
   }
 
@@ -95,7 +95,7 @@ module _ (x : Point) (I : Invariant x) where
   pub word-gives : (h : Handle) (k : ℕ) → accepted (wordCall (x .now) h k .answer) ≡ true → wordCall (x .now) h k .answer ≡ number (name (x .map) (h .page .0) k)
   word-gives h k t =
       let r = granted-of _ _ _ _ (word-case x I h k) t in
-      ap answerOf (r .1) ∙ ap number (plain-word x I (h .page .0) (h .frame .0) k (record { at = r .0 .handle .at; page = r .0 .handle .page }) (r .0 .inPage))
+      ap answerOf (r .1) ∙ ap number (held-word x I (h .page .0) (h .frame .0) k (record { at = r .0 .handle .at; page = r .0 .handle .page }) (r .0 .inPage))
 
   -- ---- refusals
   pub fix-usual : (h : Handle) (k n : ℕ) → fixCall (x .now) h k .answer ≡ refused n → Usual n

@@ -34,34 +34,34 @@ use Rattle.machine.specs.Theorem.InvariantReads.{lengths-fit-open, unbro
 
 -- a slot of a handle's page
 pub record AtSlot (s : State) (h : Handle) (k : ℕ) : Type 0 where
-  pub handle : Handled (view s) h
+  pub handle : Handled s h
   pub inPage : k < slotCount
 
 -- a slot of a handle's page that names a page
 pub record AtName (s : State) (h : Handle) (k : ℕ) : Type 0 where
-  pub handle : Handled (view s) h
+  pub handle : Handled s h
   pub inPage : k < slotCount
   pub filled : wordOf s h k ≢ 0
 
 pub record MayWrite (s : State) (h : Handle) (offset n : ℕ) : Type 0 where
-  pub handle : Handled (view s) h
+  pub handle : Handled s h
   pub fits : offset + n ≤ payloadSize
 
 pub record MayLink (x : Point) (h : Handle) (k q : ℕ) : Type 0 where
-  pub handle : Handled (view (x .now)) h
+  pub handle : Handled (x .now) h
   pub inPage : k < slotCount
   pub vacant : wordOf (x .now) h k ≡ 0
   pub below : q < x .now .pool .pages
   pub fresh : (p j : ℕ) → p < x .now .pool .pages → j < slotCount → name (x .map) p j ≢ q
 
 pub record MayUnlink (s : State) (h : Handle) (k : ℕ) : Type 0 where
-  pub handle : Handled (view s) h
+  pub handle : Handled s h
   pub inPage : k < slotCount
   pub number : Number (wordOf s h k)
 
 pub record MayEvict (s : State) (q : ℕ) : Type 0 where
   pub holder : Holder (view s) q (found (s .pool) q)
-  pub isopen : Open (view s) (found (s .pool) q)
+  pub isopen : Open s (found (s .pool) q)
 
 range-fits : (offset n : ℕ) → rangeFits offset n ≡ true → offset + n ≤ payloadSize
 unfolding rangeFits
@@ -72,11 +72,14 @@ range-fits offset n t =
     omega arith
 
 module _ (s : State) where
+  handle-rules : (h : Handle) (rs : List Rule) → firstBroken (rule3 s h ∷ rs) ≡ 0 → Handled s h × (firstBroken rs ≡ 0)
+  handle-rules h rs e = let a = first-kept 2 (handleFits (s .pool) h) rs e in (handled s h (a .0), a .1)
+
   slot-rules : (h : Handle) (k : ℕ) (rs : List Rule) → firstBroken (rule3 s h ∷ rule4 k ∷ rs) ≡ 0 → AtSlot s h k × (firstBroken rs ≡ 0)
   slot-rules h k rs e =
-      let a = first-kept 2 (handleFits (s .pool) h) _ e in
+      let a = handle-rules h (rule4 k ∷ rs) e in
       let b = first-kept 3 (ltb k slotCount) rs (a .1) in
-      (record { handle = handled s h (a .0); inPage = ltb-true k slotCount (b .0) }, b .1)
+      (record { handle = a .0; inPage = ltb-true k slotCount (b .0) }, b .1)
 
   pub name-rules : (h : Handle) (k : ℕ) (rs : List Rule) → firstBroken (rule3 s h ∷ rule4 k ∷ rule7 (wordOf s h k) ∷ rs) ≡ 0 → AtName s h k × (firstBroken rs ≡ 0)
   name-rules h k rs e =
@@ -99,11 +102,11 @@ module _ (x : Point) (I : Invariant x) where
   root-case = by-rules (rule13 (x .now) 0 ∷ []) _ _ refl (λ e. eqb-false _ maxPins (not-true _ (first-kept 12 _ [] e .0)))
 
   -- show is this one, with the answer that it names
-  pub handle-case : (h : Handle) (a : Out) → Cases (x .now) (Handled (view (x .now)) h) a (decide (x .now) (rule1 (x .now) ∷ rule2 (x .now) ∷ rule3 (x .now) h ∷ []) a)
+  pub handle-case : (h : Handle) (a : Out) → Cases (x .now) (Handled (x .now) h) a (decide (x .now) (rule1 (x .now) ∷ rule2 (x .now) ∷ rule3 (x .now) h ∷ []) a)
   unfolding usual lacks _and_
-  handle-case h a = by-rules (rule3 (x .now) h ∷ []) _ a refl (λ e. handled (x .now) h (first-kept 2 _ [] e .0))
+  handle-case h a = by-rules (rule3 (x .now) h ∷ []) _ a refl (λ e. handle-rules (x .now) h [] e .0)
 
-  pub unfix-case : (h : Handle) → Cases (x .now) (Handled (view (x .now)) h) (out done (changeRecord (x .now) (h .frame .0) unpinned)) (unfixCall (x .now) h)
+  pub unfix-case : (h : Handle) → Cases (x .now) (Handled (x .now) h) (out done (changeRecord (x .now) (h .frame .0) unpinned)) (unfixCall (x .now) h)
   unfolding unfixCall
   unfix-case h = handle-case h _
 
@@ -114,8 +117,8 @@ module _ (x : Point) (I : Invariant x) where
   pub write-case : (h : Handle) (offset : ℕ) (d : List ℕ) → Cases (x .now) (MayWrite (x .now) h offset (length d)) (out done (written (x .now) (h .frame .0) offset d)) (writeCall (x .now) h offset d)
   unfolding writeCall usual lacks _and_
   write-case h offset d = by-rules (rule3 (x .now) h ∷ rule5 offset (length d) ∷ []) _ _ refl (λ e.
-      let a = first-kept 2 (handleFits (x .now .pool) h) _ e in
-      record { handle = handled (x .now) h (a .0); fits = range-fits offset (length d) (first-kept 4 _ [] (a .1) .0) })
+      let a = handle-rules (x .now) h (rule5 offset (length d) ∷ []) e in
+      record { handle = a .0; fits = range-fits offset (length d) (first-kept 4 _ [] (a .1) .0) })
 
   -- ---- peek, find
   page-case : (p : ℕ) (a : Out) → Cases (x .now) (p < x .now .pool .pages) a (decide (x .now) (rule1 (x .now) ∷ rule2 (x .now) ∷ rule6 (x .now) p ∷ []) a)

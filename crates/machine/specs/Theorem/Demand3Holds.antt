@@ -19,7 +19,7 @@ use Rattle.machine.specs.Theorem.Keeps.{open-keeps}
 use Rattle.machine.specs.Theorem.Outcomes.{Outcome, kept, broken, outcome}
 use Rattle.machine.specs.Theorem.PointHolds.{pages-apart, other-empty, kept-frame, root-resident, named-by, named-once, leads-to-root, same-payload, swizzled-whole, number-whole, store-plain}
 use Rattle.machine.specs.Theorem.AnswersHold.{show-gives, peek-gives, word-gives}
-use Rattle.machine.specs.Theorem.DeniedHolds.{denied-exactly}
+use Rattle.machine.specs.Theorem.DeniedHolds.{denied-15-exactly}
 use Rattle.machine.specs.Theorem.Steps.{step-keeps}
 use Rattle.machine.specs.Theorem.HandlesHold.{fix-gives, root-gives, settle-gives}
 use Rattle.machine.specs.Theorem.NeverRefused.{never-refused}
@@ -43,7 +43,7 @@ holds x I = record {
   unswizzled = number-whole x I;
   storePlain = store-plain x I;
   settled = settle-gives x I;
-  denied = denied-exactly x I;
+  denied = denied-15-exactly x I;
   neverRefused = never-refused x I;
 }
 

@@ -21,15 +21,16 @@ use Rattle.machine.specs.Demand3.{Resident, Pinned, Names, NoRoom, LoadA
 use Rattle.machine.specs.Laws.PlainLaws.{plain-low}
 use Rattle.machine.specs.Theorem.View.{view, first-root, first-page, not-first}
 use Rattle.machine.specs.Theorem.Invariant.{Invariant}
-use Rattle.machine.specs.Laws.SweepLaws.{Denied, denied-of, of-denied}
+use Rattle.machine.specs.Laws.SweepLaws.{Denied, rule15-denied, of-denied}
 use Rattle.machine.specs.Theorem.Outcomes.{Outcome, kept, broken, lacks, lacking, kept-part, parts, first, second, broken-of}
 use Rattle.machine.specs.Theorem.Holders.{Holder}
 use Rattle.machine.specs.Theorem.TestReads.{Open, open-of, shut-of}
 use Rattle.machine.specs.Theorem.InvariantReads.{agreed, unbroken}
 use Rattle.machine.specs.Theorem.CallCases.{AtName, name-rules}
 use Rattle.machine.specs.Theorem.FixCases.{nameRules, loadRules, miss-accepted, number-outcome, stays-away, loads, swizzled-outcome}
-use Rattle.machine.specs.Theorem.Residence.{in-frame, resident, holder, not-resident, pinned-holder, pinned-of}
-use Rattle.machine.specs.Theorem.PointHolds.{number, swizzledTo, meets, plain-word, swizzled-word}
+use Rattle.machine.specs.Theorem.Residence.{in-frame, resident-of, holder, not-resident, pinned-holder, pinned-of}
+use Rattle.machine.specs.Theorem.PointHolds.{number, swizzledTo, meets, swizzled-word}
+use Rattle.machine.specs.Theorem.Reads.{held-word}
 
 module _ (x : Point) (I : Invariant x) where
   is-ready : Ready (x .now)
@@ -45,7 +46,7 @@ module _ (x : Point) (I : Invariant x) where
   has-child : (p f k : ℕ) → Holder (view (x .now)) p f → k < slotCount → Swizzled (name (x .now .frames) f k) → (j c : ℕ) × Names x p j c × (c ≢ 0) × Resident x c
   has-child p f k h hk l = elim (meets x I p f k h hk) [
     | number e m away ↦ absurd (omega arith)
-    | swizzledTo g e C H ↦ (k, name (x .map) p k, record { inPage = hk; word = refl }, not-page-0 _ g H (not-first (C .notRoot)), resident x I _ g H)
+    | swizzledTo g e C H ↦ (k, name (x .map) p k, record { inPage = hk; word = refl }, not-page-0 _ g H (not-first (C .notRoot)), resident-of x I _ g H)
   ]
 
   closed : Denied (x .now) → (p : ℕ) → p ≢ 0 → Resident x p → Pinned x p ⊎ ((k c : ℕ) × Names x p k c × (c ≢ 0) × Resident x c)
@@ -59,7 +60,7 @@ module _ (x : Point) (I : Invariant x) where
   no-room : Denied (x .now) → NoRoom x
   no-room D = record { full = λ f l. (view (x .now) .page f, in-frame x I _ f (record { at = record { lt = l; on = D .used f l }; page = refl })); closed = closed D }
 
-  not-open : (p f : ℕ) → Holder (view (x .now)) p f → Open (view (x .now)) f → Pinned x p ⊎ ((k c : ℕ) × Names x p k c × (c ≢ 0) × Resident x c) → ⊥
+  not-open : (p f : ℕ) → Holder (view (x .now)) p f → Open (x .now) f → Pinned x p ⊎ ((k c : ℕ) × Names x p k c × (c ≢ 0) × Resident x c) → ⊥
   not-open p f h O (inl t) =
       let a = pinned-holder x I p t in
       let e : a .0 ≡ f = I .shape .apart (a .0) f (a .1 .at) (h .at) (a .1 .page ∙ sym (h .page)) in
@@ -75,7 +76,7 @@ module _ (x : Point) (I : Invariant x) where
     shut = λ f l. is-off _ (λ t.
         let r = R .full f l in
         let h : Holder (view (x .now)) (r .0) f = holder x I (r .0) f (r .1) in
-        let O : Open (view (x .now)) f = open-of (x .now) f t in
+        let O : Open (x .now) f = open-of (x .now) f t in
         not-open (r .0) f h O (R .closed (r .0) (not-page-0 (r .0) f h (O .notRoot)) (f, r .1)));
   }
 
@@ -88,7 +89,7 @@ module _ (x : Point) (I : Invariant x) where
     unfolding numbered _and_
     asked t m A =
         let e : wordOf (x .now) h k ≡ name (x .map) (h .page .0) k =
-        sym (plain-low (view (x .now) .page) _ (number-yes _ t)) ∙ plain-word x I (h .page .0) (h .frame .0) k (handle-holder A) (A .inPage) in
+        sym (plain-low (view (x .now) .page) _ (number-yes _ t)) ∙ held-word x I (h .page .0) (h .frame .0) k (handle-holder A) (A .inPage) in
         record {
           absent = rw (← e) (not-resident x I (wordOf (x .now) h k) (stays-away x I h k t A));
           unbroken = rw (← e) (unbroken x I _ ∙ kept-part (nameRules (x .now) h k) _ refl m ∙ kept-then 14 [] (loads x I h k t A) ∙ none-broken);
@@ -104,7 +105,7 @@ module _ (x : Point) (I : Invariant x) where
       | second m q ↦
           let A = name-rules (x .now) h k [] m .0 in
           let d = breaks-15 (sym (kept-then 14 (rule15 (x .now) ∷ []) (loads x I h k t A)) ∙ sym q ∙ b) in
-          (asked t m A, no-room (denied-of (x .now) is-ready d))
+          (asked t m A, no-room (rule15-denied (x .now) is-ready d))
     ]
 
     denied-then : fixCall (x .now) h k .answer ≡ refused 15 → LoadAsked x h k × NoRoom x
@@ -125,7 +126,7 @@ module _ (x : Point) (I : Invariant x) where
         let u = sym (unbroken x I (nameRules (x .now) h k ++ (rule14 (x .now) (name (x .map) (h .page .0) k) ∷ []))) ∙ L .unbroken in
         let A = name-rules (x .now) h k (rule14 (x .now) (name (x .map) (h .page .0) k) ∷ []) u .0 in
         elim (meets x I (h .page .0) (h .frame .0) k (handle-holder A) (A .inPage)) [
-          | swizzledTo g e C H ↦ absurd (L .absent (resident x I _ g H))
+          | swizzledTo g e C H ↦ absurd (L .absent (resident-of x I _ g H))
           | number e l away ↦
               let t = yes-number (wordOf (x .now) h k) l in
               let m = parts-kept (nameRules (x .now) h k) (rule14 (x .now) (name (x .map) (h .page .0) k) ∷ []) refl u .0 in
@@ -134,5 +135,5 @@ module _ (x : Point) (I : Invariant x) where
               (number-outcome x I h k t)
         ]
 
-    pub denied-exactly : (fixCall (x .now) h k .answer ≡ refused 15) ↔ (LoadAsked x h k × NoRoom x)
-    denied-exactly = (denied-then, λ p. denied-when (p .0) (p .1))
+    pub denied-15-exactly : (fixCall (x .now) h k .answer ≡ refused 15) ↔ (LoadAsked x h k × NoRoom x)
+    denied-15-exactly = (denied-then, λ p. denied-when (p .0) (p .1))

@@ -26,8 +26,8 @@ pub record Evicted (v w : View) (e : ℕ) : Type 0 where
   pub dirty : (g : ℕ) → g ≢ e → w .dirty g ≡ v .dirty g
   pub pins : (g : ℕ) → g ≢ e → w .pins g ≡ v .pins g
   pub wordAtParent : w .word (v .up e) (v .upSlot e) ≡ v .page e
-  pub wordPage : (g k : ℕ) → g < v .F → k < slotCount → g ≢ v .up e → w .word g k ≡ v .word g k
-  pub wordSlot : (g k : ℕ) → g < v .F → k < slotCount → k ≢ v .upSlot e → w .word g k ≡ v .word g k
+  pub wordPage : (g k : ℕ) → g < v .F → k < slotCount → g ≢ e → g ≢ v .up e → w .word g k ≡ v .word g k
+  pub wordSlot : (g k : ℕ) → g < v .F → k < slotCount → g ≢ e → k ≢ v .upSlot e → w .word g k ≡ v .word g k
   pub bytes : (g i : ℕ) → g < v .F → payloadStart ≤ i → i < pageSize → w .bytes g i ≡ v .bytes g i
   pub dirtyWord : (k : ℕ) → v .dirty e ≡ true → k < slotCount → w .storeWord (v .page e) k ≡ plain (v .page) (v .word e k)
   pub dirtyBytes : (i : ℕ) → v .dirty e ≡ true → payloadStart ≤ i → i < pageSize → w .storeBytes (v .page e) i ≡ v .bytes e i
@@ -82,14 +82,14 @@ module _ (v w : View) (e : ℕ) (S : Shape v) (E : Evicted v w e) (oe : Occupied
     hit : g ≡ v .up e → k ≡ v .upSlot e → w .word g k ≡ v .page e → WordCase g k
     same : w .word g k ≡ v .word g k → v .word g k ≢ frameWord e → WordCase g k
 
-  wordCase : (g k : ℕ) → Occupied v g → k < slotCount → WordCase g k
-  wordCase g k o hk =
+  wordCase : (g k : ℕ) → Occupied v g → g ≢ e → k < slotCount → WordCase g k
+  wordCase g k o n hk =
       elim (ℕ-discrete g (v .up e)) [
         | yes p ↦ elim (ℕ-discrete k (v .upSlot e)) [
           | yes q ↦ hit p q (rw (p, q) (E .wordAtParent))
-          | no q ↦ same (E .wordSlot g k (o .lt) hk q) (λ x. q (sym (S .child g k e o hk x .backSlot)))
+          | no q ↦ same (E .wordSlot g k (o .lt) hk n q) (λ x. q (sym (S .child g k e o hk x .backSlot)))
         ]
-        | no p ↦ same (E .wordPage g k (o .lt) hk p) (λ x. p (sym (S .child g k e o hk x .back)))
+        | no p ↦ same (E .wordPage g k (o .lt) hk n p) (λ x. p (sym (S .child g k e o hk x .back)))
       ]
 
   goneAbsent : Absent w (v .page e)
@@ -108,7 +108,7 @@ module _ (v w : View) (e : ℕ) (S : Shape v) (E : Evicted v w e) (oe : Occupied
       record {
         occupied = rw up (is (v .up g) (P .occupied) (notUp g (was g o) z));
         inPage = rw at (P .inPage);
-        names = rw (up, at) (elim (wordCase (v .up g) (v .upSlot g) (P .occupied) (P .inPage)) [
+        names = rw (up, at) (elim (wordCase (v .up g) (v .upSlot g) (P .occupied) (notUp g (was g o) z) (P .inPage)) [
           | hit p q x ↦ absurd (n (frame-word-inj _ _
               (sym (P .names) ∙ ap (λ (a : ℕ). v .word a (v .upSlot g)) p ∙ ap (λ (a : ℕ). v .word (v .up e) a) q ∙ S .parent e oe ne .names)))
           | same x y ↦ x ∙ P .names
@@ -116,7 +116,7 @@ module _ (v w : View) (e : ℕ) (S : Shape v) (E : Evicted v w e) (oe : Occupied
       }
 
   child′ : (f k g : ℕ) → Occupied w f → k < slotCount → w .word f k ≡ frameWord g → Child w f k g
-  child′ f k g o hk q = elim (wordCase f k (was f o) hk) [
+  child′ f k g o hk q = elim (wordCase f k (was f o) (other f o) hk) [
     | hit a b x ↦ absurd (omega (arith, pageLow))
     | same x y ↦
         let C : Child v f k g = S .child f k g (was f o) hk (sym x ∙ q) in
@@ -125,25 +125,25 @@ module _ (v w : View) (e : ℕ) (S : Shape v) (E : Evicted v w e) (oe : Occupied
   ]
 
   numberLt′ : (f k : ℕ) → Occupied w f → k < slotCount → Number (w .word f k) → w .word f k < w .N
-  numberLt′ f k o hk l = elim (wordCase f k (was f o) hk) [
+  numberLt′ f k o hk l = elim (wordCase f k (was f o) (other f o) hk) [
     | hit a b x ↦ rw (x, E .sameN) (S .pageLt e oe)
     | same x y ↦ rw (x, E .sameN) (S .numberLt f k (was f o) hk (rw x at l))
   ]
 
   numberAbsent′ : (f k : ℕ) → Occupied w f → k < slotCount → Number (w .word f k) → w .word f k ≢ 0 → Absent w (w .word f k)
-  numberAbsent′ f k o hk l z = elim (wordCase f k (was f o) hk) [
+  numberAbsent′ f k o hk l z = elim (wordCase f k (was f o) (other f o) hk) [
     | hit a b x ↦ rw x goneAbsent
     | same x y ↦ rw x (evicted-absent v w e E (v .word f k) (S .numberAbsent f k (was f o) hk (rw x at l) (rw x at z)))
   ]
 
   once′ : (f k g j : ℕ) → Occupied w f → k < slotCount → Occupied w g → j < slotCount → w .word f k ≡ w .word g j → w .word f k ≢ 0 → Number (w .word f k) → (f ≡ g) × (k ≡ j)
   once′ f k g j of hk og hj q z l =
-      elim (wordCase f k (was f of) hk) [
-        | hit a b x ↦ elim (wordCase g j (was g og) hj) [
+      elim (wordCase f k (was f of) (other f of) hk) [
+        | hit a b x ↦ elim (wordCase g j (was g og) (other g og) hj) [
           | hit c d y ↦ (a ∙ sym c, b ∙ sym d)
           | same y m ↦ absurd (S .numberAbsent g j (was g og) hj (omega arith) (omega arith) e oe (sym x ∙ q ∙ y))
         ]
-        | same x m ↦ elim (wordCase g j (was g og) hj) [
+        | same x m ↦ elim (wordCase g j (was g og) (other g og) hj) [
           | hit c d y ↦ absurd (S .numberAbsent f k (was f of) hk (omega arith) (omega arith) e oe (sym y ∙ sym q ∙ x))
           | same y n ↦ S .once f k g j (was f of) hk (was g og) hj (sym x ∙ q ∙ y) (omega arith) (omega arith)
         ]
@@ -171,8 +171,8 @@ module _ (v w : View) (e : ℕ) (S : Shape v) (E : Evicted v w e) (oe : Occupied
   -- ---- content
 
   module _ (m : Map) (C : Content v m) where
-    plainSame : (f k : ℕ) → Occupied v f → k < slotCount → plain (w .page) (w .word f k) ≡ plain (v .page) (v .word f k)
-    plainSame f k o hk = elim (wordCase f k o hk) [
+    plainSame : (f k : ℕ) → Occupied v f → f ≢ e → k < slotCount → plain (w .page) (w .word f k) ≡ plain (v .page) (v .word f k)
+    plainSame f k o n hk = elim (wordCase f k o n hk) [
       | hit a b x ↦ rw x (plain-low (w .page) (v .page e) pageLow ∙ sym (ap (plain (v .page)) (rw (a, b) (S .parent e oe ne .names)) ∙ plain-high (v .page) e))
       | same x y ↦ rw x (elim (reading (v .word f k)) [
         | low l ↦ plain-low (w .page) _ l ∙ sym (plain-low (v .page) _ l)
@@ -209,7 +209,7 @@ module _ (v w : View) (e : ℕ) (S : Shape v) (E : Evicted v w e) (oe : Occupied
 
     pub evict-content : Content w m
     evict-content = record {
-      frameWord = λ f k o hk. plainSame f k (was f o) hk ∙ rw (E .page f (other f o)) (C .frameWord f k (was f o) hk);
+      frameWord = λ f k o hk. plainSame f k (was f o) (other f o) hk ∙ rw (E .page f (other f o)) (C .frameWord f k (was f o) hk);
       frameByte = λ f i o h l. rw (E .bytes f i (was f o .lt) h l, E .page f (other f o)) (C .frameByte f i (was f o) h l);
       absentWord = λ p k hp a hk. elim (ℕ-discrete p (v .page e)) [
         | yes z ↦ rw z (outWord k hk)

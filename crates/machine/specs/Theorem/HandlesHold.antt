@@ -28,7 +28,8 @@ use Rattle.machine.specs.Theorem.Holders.{Holder}
 use Rattle.machine.specs.Theorem.CallCases.{AtName, root-case, settle-case}
 use Rattle.machine.specs.Theorem.FixCases.{pins, fills, sweeps, refuses, fix-case}
 use Rattle.machine.specs.Theorem.Residence.{in-frame}
-use Rattle.machine.specs.Theorem.PointHolds.{root-holder, plain-word}
+use Rattle.machine.specs.Theorem.PointHolds.{root-holder}
+use Rattle.machine.specs.Theorem.Reads.{held-word}
 use Rattle.machine.specs.Theorem.CallSteps.{root-next, fix-next}
 
 abbrev answerOf : Out → Answer
@@ -87,7 +88,7 @@ module _ (x : Point) (I : Invariant x) where
   ]
     where
       handle-word : AtName (x .now) h k → plain (view (x .now) .page) (wordOf (x .now) h k) ≡ name (x .map) (h .page .0) k
-      handle-word A = plain-word x I (h .page .0) (h .frame .0) k (record { at = A .handle .at; page = A .handle .page }) (A .inPage)
+      handle-word A = held-word x I (h .page .0) (h .frame .0) k (record { at = A .handle .at; page = A .handle .page }) (A .inPage)
 
       number-word : AtName (x .now) h k → Number (wordOf (x .now) h k) → wordOf (x .now) h k ≡ name (x .map) (h .page .0) k
       number-word A low = sym (plain-low (view (x .now) .page) (wordOf (x .now) h k) low) ∙ handle-word A

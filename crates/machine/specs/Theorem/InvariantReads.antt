@@ -20,8 +20,9 @@ use Rattle.machine.specs.Rules.{lengthsFit, rule1, rule2}
 use Rattle.machine.specs.Theorem.View.{view, Occupied, Absent}
 use Rattle.machine.specs.History.{Point}
 use Rattle.machine.specs.Theorem.Invariant.{Invariant}
-use Rattle.machine.specs.Theorem.Fit.{fit-of, fit-blank, fit-agreed, fit-lengths, fit-unbroken}
+use Rattle.machine.specs.Theorem.StateFit.{fit-of, fit-blank, fit-agreed, fit-lengths, fit-unbroken}
 use Rattle.machine.specs.Theorem.Holders.{occupied-of, Holder, holder-found, absent-found}
+use Rattle.machine.specs.Theorem.Reads.{held-word, unheld-word}
 
 module _ (x : Point) (I : Invariant x) where
   -- ---- rules 1 and 2
@@ -53,10 +54,8 @@ module _ (x : Point) (I : Invariant x) where
   pub current-word : (p k : ℕ) → p < x .now .pool .pages → k < slotCount → currentWord (x .now) p k ≡ name (x .map) p k
   unfolding currentWord
   current-word p k hp hk = elim (case (ltb (found (x .now .pool) p) (x .now .pool .count))) [
-    | on t ↦
-        let h : Holder (view (x .now)) p (found (x .now .pool) p) = holder-found (x .now) p t in
-        sym (pick-yes _ t refl) ∙ I .content .frameWord (found (x .now .pool) p) k (h .at) hk ∙ ap (λ (q : ℕ). name (x .map) q k) (h .page)
-    | off t ↦ sym (pick-no _ t refl) ∙ I .content .absentWord p k hp (absent-found (x .now) p t) hk
+    | on t ↦ sym (pick-yes _ t refl) ∙ held-word x I p (found (x .now .pool) p) k (holder-found (x .now) p t) hk
+    | off t ↦ sym (pick-no _ t refl) ∙ unheld-word x I p k hp (absent-found (x .now) p t) hk
   ]
 
   pub unnamed : (q : ℕ) → not (named (x .now) q) ≡ true → (p k : ℕ) → p < x .now .pool .pages → k < slotCount → name (x .map) p k ≢ q
@@ -69,14 +68,14 @@ module _ (x : Point) (I : Invariant x) where
     -- the stored word is the map's, and a number that stands in the map once
     same-place : (k p j : ℕ) → k < slotCount → name (x .now .store) q k ≢ 0 → p < x .now .pool .pages → j < slotCount → name (x .map) p j ≡ name (x .now .store) q k → (p ≡ q) × (j ≡ k)
     same-place k p j hk n hp hj e =
-        let w : name (x .now .store) q k ≡ name (x .map) q k = I .content .absentWord q k hq away hk in
+        let w : name (x .now .store) q k ≡ name (x .map) q k = unheld-word x I q k hq away hk in
         I .sound .once p j q k hp hj hq hk (λ z. n (sym e ∙ z)) (e ∙ w)
 
     not-repeated : (k : ℕ) → k < slotCount → name (x .now .store) q k ≢ 0 → repeated (x .now .store) q k ≡ false
     unfolding repeated
     not-repeated k hk n = false-some slotCount _ (λ j hj. is-off _ (λ t.
         let a = and-true (not (eqb j k)) _ t in
-        eqb-false j k (not-true _ (a .0)) (same-place k q j hk n hq hj (sym (I .content .absentWord q j hq away hj) ∙ eqb-true _ _ (a .1)) .1)))
+        eqb-false j k (not-true _ (a .0)) (same-place k q j hk n hq hj (sym (unheld-word x I q j hq away hj) ∙ eqb-true _ _ (a .1)) .1)))
 
     not-named : (k : ℕ) → k < slotCount → name (x .now .store) q k ≢ 0 → namedByResident (x .now) (name (x .now .store) q k) ≡ false
     unfolding namedByResident
@@ -84,10 +83,10 @@ module _ (x : Point) (I : Invariant x) where
         let a = and-true (occupied (x .now .pool) f) _ t in
         let o : Occupied (view (x .now)) f = occupied-of (x .now) f (a .0) in
         let b = some-true slotCount _ (a .1) in
-        away f o (same-place k (view (x .now) .page f) (b .0) hk n (I .shape .pageLt f o) (b .1) (sym (I .content .frameWord f (b .0) o (b .1)) ∙ eqb-true _ _ (b .2)) .0)))
+        away f o (same-place k (view (x .now) .page f) (b .0) hk n (I .shape .pageLt f o) (b .1) (sym (held-word x I _ f (b .0) (record { at = o; page = refl }) (b .1)) ∙ eqb-true _ _ (b .2)) .0)))
 
     below : (k : ℕ) → k < slotCount → name (x .now .store) q k < x .now .pool .pages
-    below k hk = rw (I .content .absentWord q k hq away hk) (I .sound .below q k hq hk)
+    below k hk = rw (unheld-word x I q k hq away hk) (I .sound .below q k hq hk)
 
     pub may-load : loadable (x .now) q ≡ true
     unfolding loadable wordLoadable

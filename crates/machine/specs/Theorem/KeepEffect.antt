@@ -43,7 +43,7 @@ module _ (v w : View) (K : Steady v w) where
   ]
 
 -- and the same words
-pub record Kept (v w : View) : Type 0 where
+pub record KeptView (v w : View) : Type 0 where
   pub steady : Steady v w
   pub word : (g k : ℕ) → g < v .F → k < slotCount → w .word g k ≡ v .word g k
 
@@ -75,7 +75,7 @@ quiet-rewritten v w m Q = record {
   cleanBytes = λ g i o e l. refl;
 }
 
-module _ (v w : View) (K : Kept v w) (S : Shape v) where
+module _ (v w : View) (K : KeptView v w) (S : Shape v) where
   abbrev T : Steady v w
   T = K .steady
 

@@ -15,11 +15,11 @@ use Rattle.machine.specs.Moves.{plain, evicted}
 use Rattle.machine.specs.History.{Point}
 use Rattle.machine.specs.Theorem.View.{View, view, Occupied, Parent, first-root, first-page}
 use Rattle.machine.specs.Theorem.Invariant.{Invariant, mapOf}
-use Rattle.machine.specs.Theorem.Fit.{Fit, fit-of}
+use Rattle.machine.specs.Theorem.StateFit.{Fit, fit-of}
 use Rattle.machine.specs.Theorem.EvictEffect.{Evicted, evict-shape, evict-content}
 use Rattle.machine.specs.Theorem.PinsEffect.{pins-evicted}
 use Rattle.machine.specs.Laws.MoveLaws.{writtenOutBy-length}
-use Rattle.machine.specs.Theorem.WriteOut.{out-octets, out-wordStays, out-byteStays, out-word, out-byte, plain-lt, plain-some}
+use Rattle.machine.specs.Theorem.ImageOut.{out-octets, out-wordStays, out-byteStays, out-word, out-byte, plain-lt, plain-some}
 use Rattle.machine.specs.Theorem.SlotChange.{slot-putSlot-other}
 use Rattle.machine.specs.Theorem.RecordChange.{change-here, change-other, neat-blank, neat-change, lengths-kept}
 
@@ -64,8 +64,8 @@ module _ (s : State) (I : Fit s) (f : ℕ) (of : Occupied (view s) f) (nz : 1 �
     dirty = λ g n. ap isDirty (change-other rs f blank g n);
     pins = λ g n. ap (λ r. r .pins) (change-other rs f blank g n);
     wordAtParent = ap nameOf (slot-putSlot-same (s .frames) _ _ _ _ (I .sized .frames) (P .occupied .lt) (P .inPage) (renamed-lt _ (numberWord (v .page f)) (omega (arith, pSmall)))) ∙ name-renamed-number _ (v .page f) pSmall (λ z. absurd (pSome z));
-    wordPage = λ g k hg hk n. ap nameOf (slot-putSlot-page (s .frames) _ _ _ g k (P .inPage) hk (λ q. n (sym q)));
-    wordSlot = λ g k hg hk n. ap nameOf (slot-putSlot-other (s .frames) _ _ _ g k (P .inPage) hk n);
+    wordPage = λ g k hg hk m n. ap nameOf (slot-putSlot-page (s .frames) _ _ _ g k (P .inPage) hk (λ q. n (sym q)));
+    wordSlot = λ g k hg hk m n. ap nameOf (slot-putSlot-other (s .frames) _ _ _ g k (P .inPage) hk n);
     bytes = λ g i hg h l. byte-putSlot (s .frames) _ _ _ g i (P .inPage) h l;
     dirtyWord = λ k d hk. out-word (v .page) (recordAt rs f) (s .frames) (s .store) f _ _ (I .sized .frames) (of .lt) (I .sized .store) pN d small k hk (plain-some v (I .shape) f k of hk);
     dirtyBytes = λ i d h l. out-byte (v .page) (recordAt rs f) (s .frames) (s .store) f _ _ (I .sized .frames) (of .lt) (I .sized .store) pN d small i h l;

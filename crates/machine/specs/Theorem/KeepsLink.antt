@@ -15,7 +15,7 @@ use Rattle.machine.specs.Calls.{relinked}
 use Rattle.machine.specs.History.{Point}
 use Rattle.machine.specs.Theorem.View.{View, view, Occupied, NoRoot, single-root}
 use Rattle.machine.specs.Theorem.Invariant.{Invariant, mapOf}
-use Rattle.machine.specs.Theorem.LinkEffect.{Linked, MapLinked, Unnamed, link-sound, link-shape, link-content}
+use Rattle.machine.specs.Theorem.LinkEffect.{LinkedView, MapLinked, Unnamed, link-sound, link-shape, link-content}
 use Rattle.machine.specs.Theorem.PinsEffect.{pins-kept}
 use Rattle.machine.specs.Theorem.SlotChange.{slot-putSlot-other}
 use Rattle.machine.specs.Theorem.RecordChange.{SamePlace, change-here, change-other, change-same, change-steady, neat-change, neat-place, record-lt, lengths-kept}
@@ -53,7 +53,7 @@ module _ (x : Point) (I : Invariant x) (f : ℕ) (of : Occupied (view (x .now)) 
   samePlace : SamePlace (recordAt rs f) r
   samePlace = record { used = refl; page = refl; parent = refl; slot = refl }
 
-  linked : Linked v (view (relinked s f k y)) f k n
+  linked : LinkedView v (view (relinked s f k y)) f k n
   linked = record {
     steady = change-steady s f r (putSlot (s .frames) f k y) (s .store) lt samePlace;
     pins = change-same rs f r (λ t. t .pins) lt refl;

@@ -17,7 +17,7 @@ use Rattle.machine.specs.Moves.{loaded}
 use Rattle.machine.specs.History.{Point, fixedIn}
 use Rattle.machine.specs.Theorem.View.{View, view, Occupied, Absent, first-root}
 use Rattle.machine.specs.Theorem.Invariant.{Invariant, mapOf}
-use Rattle.machine.specs.Theorem.LoadEffect.{Loaded, Fits, absent-fits, empty-other, load-shape, load-content}
+use Rattle.machine.specs.Theorem.LoadEffect.{Loaded, MayComeIn, absent-fits, empty-other, load-shape, load-content}
 use Rattle.machine.specs.Theorem.PinsEffect.{pins-loaded}
 use Rattle.machine.specs.Theorem.SlotChange.{slot-putSlot-other}
 use Rattle.machine.specs.Theorem.RecordChange.{change-here, change-other, neat-change, record-lt, lengths-kept}
@@ -33,7 +33,7 @@ module _ (x : Point) (I : Invariant x) where
   rs = x .now .pool .records
 
   -- a page named by a resident page's number fits
-  pub always-fits : (f k : ℕ) → Occupied v f → k < slotCount → Number (v .word f k) → v .word f k ≢ 0 → Fits v (v .word f k)
+  pub always-fits : (f k : ℕ) → Occupied v f → k < slotCount → Number (v .word f k) → v .word f k ≢ 0 → MayComeIn v (v .word f k)
   always-fits f k of hk l nz = absent-fits v (mapOf (x .map)) (I .shape) (I .content) (I .sound) (v .word f k) (I .shape .numberLt f k of hk l) (I .shape .numberAbsent f k of hk l nz)
 
   module _ (f k e q : ℕ) (of : Occupied v f) (hk : k < slotCount) (eF : e < v .F) (free : v .used e ≡ false) (names : v .word f k ≡ q) (low : Number q) (nz : q ≢ 0) where
@@ -49,7 +49,7 @@ module _ (x : Point) (I : Invariant x) where
     qAbsent : Absent v q
     qAbsent = rw names at (I .shape .numberAbsent f k of hk (rw names low) (rw names nz))
 
-    qFits : Fits v q
+    qFits : MayComeIn v q
     qFits = rw names at (always-fits f k of hk (rw names low) (rw names nz))
 
     other : (g : ℕ) → Occupied v g → g ≢ e

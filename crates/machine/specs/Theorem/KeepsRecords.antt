@@ -16,7 +16,7 @@ use Rattle.machine.specs.Calls.{changeRecord}
 use Rattle.machine.specs.History.{Balance, Point, fixedIn, unfixed}
 use Rattle.machine.specs.Theorem.View.{View, view, Occupied}
 use Rattle.machine.specs.Theorem.Invariant.{NeatRecord, Neat, Pins, Invariant, mapOf}
-use Rattle.machine.specs.Theorem.KeepEffect.{Steady, Kept, kept-shape, kept-content, quiet-rewritten}
+use Rattle.machine.specs.Theorem.KeepEffect.{Steady, KeptView, kept-shape, kept-content, quiet-rewritten}
 use Rattle.machine.specs.Theorem.PinsEffect.{pins-kept, pins-pinned, pins-unpinned}
 use Rattle.machine.specs.Theorem.RecordChange.{SamePlace, change-here, change-other, change-same, change-steady, neat-change, neat-place, record-lt}
 
@@ -71,7 +71,7 @@ module _ (x : Point) (I : Invariant x) where
     pins = B;
   }
     where
-      kept : Kept v (view (withPool s q))
+      kept : KeptView v (view (withPool s q))
       kept = record { steady = K; word = λ g k hg hk. refl }
 
   -- ---- pins

@@ -20,11 +20,11 @@ use Rattle.machine.specs.Moves.{plain, writtenOut, writtenOutTo, cleaned
 use Rattle.machine.specs.History.{Point}
 use Rattle.machine.specs.Theorem.View.{View, view, Occupied, Absent, Content}
 use Rattle.machine.specs.Theorem.Invariant.{NeatRecord, Neat, Invariant, mapOf}
-use Rattle.machine.specs.Theorem.KeepEffect.{Kept, kept-shape, steady-was, steady-plain}
+use Rattle.machine.specs.Theorem.KeepEffect.{KeptView, kept-shape, steady-was, steady-plain}
 use Rattle.machine.specs.Theorem.PinsEffect.{pins-kept}
 use Rattle.machine.specs.Laws.MoveLaws.{writtenOutTo-length}
 use Rattle.machine.specs.Laws.FoundLaws.{found-holds, found-none}
-use Rattle.machine.specs.Theorem.WriteOut.{out-octets, out-wordStays, out-byteStays, out-word, out-byte, plain-lt, plain-some}
+use Rattle.machine.specs.Theorem.ImageOut.{out-octets, out-wordStays, out-byteStays, out-word, out-byte, plain-lt, plain-some}
 use Rattle.machine.specs.Theorem.RecordChange.{change-same, neat-change, lengths-kept}
 
 -- ---- the records marked clean
@@ -152,7 +152,7 @@ module _ (x : Point) (I : Invariant x) where
   enough : v .F ≤ length rs
   enough = omega (arith, I .records, I .shape .most)
 
-  kept : Kept v (view (settled s))
+  kept : KeptView v (view (settled s))
   unfolding settled
   kept = record {
     steady = record {

@@ -20,7 +20,7 @@ use Rattle.machine.specs.Calls.{dirtiedBy, written}
 use Rattle.machine.specs.History.{Point}
 use Rattle.machine.specs.Theorem.View.{View, view, Occupied, Map, MapSound}
 use Rattle.machine.specs.Theorem.Invariant.{Invariant, mapOf}
-use Rattle.machine.specs.Theorem.KeepEffect.{Kept, kept-shape, kept-content, Rewritten}
+use Rattle.machine.specs.Theorem.KeepEffect.{KeptView, kept-shape, kept-content, Rewritten}
 use Rattle.machine.specs.Theorem.PinsEffect.{pins-kept}
 use Rattle.machine.specs.Theorem.RecordChange.{SamePlace, change-here, change-other, change-same, change-steady, neat-change, neat-place, record-lt, lengths-kept}
 
@@ -71,7 +71,7 @@ module _ (x : Point) (I : Invariant x) (f : ℕ) (of : Occupied (view (x .now)) 
   flagDirty : r .dirty ≤ 1
   flagDirty = pick-either (λ (t : FrameRecord). t .dirty ≤ 1) (eqb (length d) 0) (recordAt rs f) (dirtied (recordAt rs f)) (I .neat .at f .dirty) (omega arith)
 
-  kept : Kept v w
+  kept : KeptView v w
   kept = record {
     steady = change-steady s f r (putPayload (s .frames) f offset d) (s .store) lt samePlace;
     word = λ g k hg hk. ap nameOf (slot-putPayload (s .frames) f offset d _ (I .sized .frames) (of .lt) fits g k hk);

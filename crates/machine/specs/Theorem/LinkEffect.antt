@@ -14,7 +14,7 @@ use Rattle.machine.specs.Theorem.View.{View, Occupied, Absent, Parent, C
 use Rattle.machine.specs.Theorem.KeepEffect.{Steady, steady-was, steady-is, steady-reach, steady-absent, steady-absentWas, steady-plain}
 
 -- slot k of frame f is y, and its page dirty
-pub record Linked (v w : View) (f k y : ℕ) : Type 0 where
+pub record LinkedView (v w : View) (f k y : ℕ) : Type 0 where
   pub steady : Steady v w
   pub pins : (g : ℕ) → w .pins g ≡ v .pins g
   pub dirtyF : w .dirty f ≡ true
@@ -82,7 +82,7 @@ module _ (v : View) (m : Map) (S : Shape v) (C : Content v m) (y : ℕ) (fresh :
 
 -- ---- shape and content
 
-module _ (v w : View) (f k y : ℕ) (S : Shape v) (L : Linked v w f k y) (of : Occupied v f) (hk : k < slotCount) (old : Number (v .word f k)) (yN : y < v .N)
+module _ (v w : View) (f k y : ℕ) (S : Shape v) (L : LinkedView v w f k y) (of : Occupied v f) (hk : k < slotCount) (old : Number (v .word f k)) (yN : y < v .N)
     (m : Map) (C : Content v m) (fresh : Unnamed m (v .N) y) (noRoot : y ≢ 0 → NoRoot (v .roots) (v .each) y) where
   abbrev T : Steady v w
   T = L .steady

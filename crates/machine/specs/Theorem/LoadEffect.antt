@@ -40,14 +40,14 @@ pub record Loaded (v w : View) (f k e q : ℕ) : Type 0 where
   pub storeBytes : (p i : ℕ) → p < v .N → i < pageSize → w .storeBytes p i ≡ v .storeBytes p i
 
 -- the words of the stored page q may come in: below N, none of them named by a resident page, each once
-pub record Fits (v : View) (q : ℕ) : Type 0 where
+pub record MayComeIn (v : View) (q : ℕ) : Type 0 where
   pub below : (j : ℕ) → j < slotCount → v .storeWord q j < v .N
   pub fresh : (j g i : ℕ) → j < slotCount → Occupied v g → i < slotCount → v .storeWord q j ≢ 0 → plain (v .page) (v .word g i) ≢ v .storeWord q j
   pub notRoot : (j : ℕ) → j < slotCount → v .storeWord q j ≢ 0 → NoRoot (v .roots) (v .each) (v .storeWord q j)
   pub once : (i j : ℕ) → i < slotCount → j < slotCount → v .storeWord q j ≢ 0 → v .storeWord q i ≡ v .storeWord q j → i ≡ j
 
 -- where the map is a sound store, a page that isn't resident fits
-pub absent-fits : (v : View) (m : Map) → Shape v → Content v m → MapSound m (v .N) (v .roots) (v .each) → (q : ℕ) → q < v .N → Absent v q → Fits v q
+pub absent-fits : (v : View) (m : Map) → Shape v → Content v m → MapSound m (v .N) (v .roots) (v .each) → (q : ℕ) → q < v .N → Absent v q → MayComeIn v q
 absent-fits v m S C M q hq a = record {
   below = λ j hj. rw (stored j hj) (M .below q j hq hj);
   fresh = λ j g i hj o hi n x. a g o (M .once (v .page g) i q j (S .pageLt g o) hi hq hj
@@ -77,7 +77,7 @@ module _ (v w : View) (f k e q : ℕ) (L : Loaded v w f k e q) (eF : e < v .F) (
   loaded-absentWas p a g o z = a g (loaded-is g o) (L .page g (empty-other v e free g o) ∙ z)
 
 module _ (v w : View) (f k e q : ℕ) (S : Shape v) (L : Loaded v w f k e q) (of : Occupied v f) (hk : k < slotCount)
-    (eF : e < v .F) (free : v .used e ≡ false) (names : v .word f k ≡ q) (low′ : Number q) (nz : q ≢ 0) (T : Fits v q) where
+    (eF : e < v .F) (free : v .used e ≡ false) (names : v .word f k ≡ q) (low′ : Number q) (nz : q ≢ 0) (T : MayComeIn v q) where
   qN : q < v .N
   qN = rw names at (S .numberLt f k of hk (rw names low′))
 

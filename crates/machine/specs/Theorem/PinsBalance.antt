@@ -11,7 +11,7 @@ use Rattle.machine.specs.Demand3.{InFrame, Resident}
 use Rattle.machine.specs.Theorem.View.{view}
 use Rattle.machine.specs.Theorem.Invariant.{Invariant}
 use Rattle.machine.specs.Theorem.Holders.{Holder}
-use Rattle.machine.specs.Theorem.Residence.{holder, absent}
+use Rattle.machine.specs.Theorem.Residence.{holder, absent-of}
 use Rattle.machine.specs.Theorem.Demand3Holds.{invariant-along}
 
 -- the pins of a resident page, and of one that isn't resident
@@ -22,7 +22,7 @@ pub record Balanced (x : Point) : Type 0 where
 balanced : (x : Point) → Invariant x → Balanced x
 balanced x I = record {
   pins = λ p f e. let h : Holder (view (x .now)) p f = holder x I p f e in rw (h .page) at (I .pins .count f (h .at));
-  none = λ p n. I .pins .none p (absent x I p n);
+  none = λ p n. I .pins .none p (absent-of x I p n);
 }
 
 pub pins-balance : (frames store : List ℕ) → Octets frames → Octets store → openCall frames store .answer ≡ done

@@ -18,7 +18,8 @@ use Rattle.machine.specs.Theorem.View.{view, Reach, top, via, Occupied, 
 use Rattle.machine.specs.Theorem.Invariant.{Invariant}
 use Rattle.machine.specs.Theorem.Holders.{Holder, occupied-of}
 use Rattle.machine.specs.Theorem.InvariantReads.{blank-record}
-use Rattle.machine.specs.Theorem.Residence.{in-frame, resident, holder, pinned-holder}
+use Rattle.machine.specs.Theorem.Reads.{held-word, held-byte, stored-number}
+use Rattle.machine.specs.Theorem.Residence.{in-frame, resident-of, holder, pinned-holder}
 
 -- a word of page p in frame f against the map's: a number, of no resident page, or swizzled to the frame of the page that the map's names
 pub data Meets (x : Point) (p f k : ℕ) : Type 0 where
@@ -47,7 +48,7 @@ module _ (x : Point) (I : Invariant x) where
   root-holder = record { at = first-root _ (I .shape); page = first-page _ (I .shape) }
 
   pub root-resident : Resident x 0
-  root-resident = resident x I 0 0 root-holder
+  root-resident = resident-of x I 0 0 root-holder
 
   -- the parent's word in the map
   parent-names : (f : ℕ) → Occupied (view (x .now)) f → (P : Parent (view (x .now)) f) → Names x (view (x .now) .page (view (x .now) .up f)) (view (x .now) .upSlot f) (view (x .now) .page f)
@@ -57,7 +58,7 @@ module _ (x : Point) (I : Invariant x) where
   }
 
   parent-resident : (f : ℕ) → Parent (view (x .now)) f → Resident x (view (x .now) .page (view (x .now) .up f))
-  parent-resident f P = resident x I _ (view (x .now) .up f) (record { at = P .occupied; page = refl })
+  parent-resident f P = resident-of x I _ (view (x .now) .up f) (record { at = P .occupied; page = refl })
 
   pub named-by : (p : ℕ) → p ≢ 0 → Resident x p → (q k : ℕ) × Resident x q × Names x q k p
   named-by p n r =
@@ -88,21 +89,16 @@ module _ (x : Point) (I : Invariant x) where
   -- ---- bytes and words
   pub same-payload : (p f i : ℕ) → InFrame x p f → payloadStart ≤ i → i < pageSize → byte (x .now .frames) f i ≡ byte (x .map) p i
   same-payload p f i a lo hi =
-      let h : Holder (view (x .now)) p f = holder x I p f a in
-      I .content .frameByte f i (h .at) lo hi ∙ ap (λ (q : ℕ). byte (x .map) q i) (h .page)
-
-  -- the number that a word of a resident page stands for
-  pub plain-word : (p f k : ℕ) → Holder (view (x .now)) p f → k < slotCount → plain (view (x .now) .page) (name (x .now .frames) f k) ≡ name (x .map) p k
-  plain-word p f k h hk = I .content .frameWord f k (h .at) hk ∙ ap (λ (q : ℕ). name (x .map) q k) (h .page)
+      held-byte x I p f i (holder x I p f a) lo hi
 
   pub meets : (p f k : ℕ) → Holder (view (x .now)) p f → k < slotCount → Meets x p f k
   meets p f k h hk = elim (reading (name (x .now .frames) f k)) [
     | low l ↦
-        let e : name (x .now .frames) f k ≡ name (x .map) p k = sym (plain-low (view (x .now) .page) _ l) ∙ plain-word p f k h hk in
+        let e : name (x .now .frames) f k ≡ name (x .map) p k = sym (plain-low (view (x .now) .page) _ l) ∙ held-word x I p f k h hk in
         number e l (λ n. rw e at (I .shape .numberAbsent f k (h .at) hk l (λ z. n (sym e ∙ z))))
     | high g e ↦
         let C : Child (view (x .now)) f k g = I .shape .child f k g (h .at) hk e in
-        swizzledTo g e C (record { at = C .occupied; page = sym (plain-high (view (x .now) .page) g) ∙ ap (plain (view (x .now) .page)) (sym e) ∙ plain-word p f k h hk })
+        swizzledTo g e C (record { at = C .occupied; page = sym (plain-high (view (x .now) .page) g) ∙ ap (plain (view (x .now) .page)) (sym e) ∙ held-word x I p f k h hk })
   ]
 
   pub swizzled-word : (p f k c g : ℕ) → InFrame x p f → Names x p k c → c ≢ 0 → InFrame x c g → name (x .now .frames) f k ≡ frameWord g
@@ -118,7 +114,7 @@ module _ (x : Point) (I : Invariant x) where
     | number e l away ↦ e ∙ m .word
     | swizzledTo j e C k ↦ absurd (n
         (λ z. not-first (C .notRoot) (I .shape .apart j 0 (k .at) (first-root _ (I .shape)) (k .page ∙ m .word ∙ z ∙ sym (first-page _ (I .shape)))))
-        (resident x I c j (record { at = k .at; page = k .page ∙ m .word })))
+        (resident-of x I c j (record { at = k .at; page = k .page ∙ m .word })))
   ]
 
   -- the whole words, put in the place of the map's
@@ -129,4 +125,4 @@ module _ (x : Point) (I : Invariant x) where
   number-whole p f k c a m n = renamed-own (slot (x .map) p k) _ _ (number-word p f k c a m n)
 
   pub store-plain : (p k : ℕ) → p < x .now .pool .pages → k < slotCount → isNumber (name (x .now .store) p k) ≡ true
-  store-plain p k hp hk = yes-number (name (x .now .store) p k) (I .content .storePlain p k hp hk)
+  store-plain p k hp hk = yes-number (name (x .now .store) p k) (stored-number x I p k hp hk)

@@ -43,8 +43,8 @@ module _ (x : Point) (I : Invariant x) where
   pub in-frame : (p f : ℕ) → Holder (view (x .now)) p f → InFrame x p f
   in-frame p f h = ap (λ (o : Out). o .answer) (answers p (rw (h .page) at (I .shape .pageLt f (h .at)))) ∙ answer-held p f h
 
-  pub resident : (p f : ℕ) → Holder (view (x .now)) p f → Resident x p
-  resident p f h = (f, in-frame p f h)
+  pub resident-of : (p f : ℕ) → Holder (view (x .now)) p f → Resident x p
+  resident-of p f h = (f, in-frame p f h)
 
   found-answer : (p f : ℕ) → foundAnswer (x .now) p ≡ frame f → Holder (view (x .now)) p f
   found-answer p f e = elim (place (x .now) p) [
@@ -70,8 +70,8 @@ module _ (x : Point) (I : Invariant x) where
   pub not-resident : (p : ℕ) → Absent (view (x .now)) p → Resident x p → ⊥
   not-resident p a r = let h : Holder (view (x .now)) p (r .0) = holder p (r .0) (r .1) in a (r .0) (h .at) (h .page)
 
-  pub absent : (p : ℕ) → (Resident x p → ⊥) → Absent (view (x .now)) p
-  absent p n f o e = n (resident p f (record { at = o; page = e }))
+  pub absent-of : (p : ℕ) → (Resident x p → ⊥) → Absent (view (x .now)) p
+  absent-of p n f o e = n (resident-of p f (record { at = o; page = e }))
 
   -- ---- a page is pinned exactly where its frame has pins
   pub pinned-holder : (p : ℕ) → Pinned x p → (f : ℕ) × Holder (view (x .now)) p f × (view (x .now) .pins f ≢ 0)

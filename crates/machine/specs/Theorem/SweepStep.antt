@@ -16,7 +16,7 @@ use Rattle.machine.specs.History.{Point, fixedIn}
 use Rattle.machine.specs.Theorem.View.{view, Occupied, Parent, past-first}
 use Rattle.machine.specs.Theorem.Invariant.{Invariant}
 use Rattle.machine.specs.Theorem.EvictEffect.{Evicted, evicted-is}
-use Rattle.machine.specs.Theorem.Fit.{fit-of}
+use Rattle.machine.specs.Theorem.StateFit.{fit-of}
 use Rattle.machine.specs.Theorem.Keeps.{evict-effect, evict-keeps, load-keeps, sweep-keeps}
 use Rattle.machine.specs.Laws.SweepLaws.{Cooled, sweep-cooled, sweep-sound}
 use Rattle.machine.specs.Theorem.TestReads.{Open, open-of}
@@ -27,7 +27,7 @@ at x s = record { now = s; map = x .map; balance = x .balance }
 
 -- ---- page q, which a number in slot k of frame f names, comes into frame g, whose page is evicted
 
-module _ (x : Point) (I : Invariant x) (g : ℕ) (og : Occupied (view (x .now)) g) (O : Open (view (x .now)) g)
+module _ (x : Point) (I : Invariant x) (g : ℕ) (og : Occupied (view (x .now)) g) (O : Open (x .now) g)
     (f k : ℕ) (of : Occupied (view (x .now)) f) (fg : f ≢ g) (hk : k < slotCount) (low : Number (view (x .now) .word f k)) (nz : view (x .now) .word f k ≢ 0) where
   E : Evicted (view (x .now)) (view (evicted (x .now) g)) g
   E = evict-effect (x .now) (fit-of x I) g og (past-first (O .notRoot))
@@ -37,9 +37,9 @@ module _ (x : Point) (I : Invariant x) (g : ℕ) (og : Occupied (view (x .now)) 
   same-word =
       let P : Parent (view (x .now)) g = I .shape .parent g og (past-first (O .notRoot)) in
       elim (ℕ-discrete f (view (x .now) .up g)) [
-        | no a ↦ E .wordPage f k (of .lt) hk a
+        | no a ↦ E .wordPage f k (of .lt) hk fg a
         | yes a ↦ elim (ℕ-discrete k (view (x .now) .upSlot g)) [
-          | no b ↦ E .wordSlot f k (of .lt) hk b
+          | no b ↦ E .wordSlot f k (of .lt) hk fg b
           | yes b ↦ absurd (let w : view (x .now) .word f k ≡ frameWord g = rw (a, b) (P .names) in omega arith)
         ]
       ]
@@ -60,7 +60,7 @@ module _ (x : Point) (I : Invariant x) (full : (f : ℕ) → f < x .now .pool .c
   abbrev swept : State
   swept = withPool (x .now) (withSwept (x .now .pool) (sweep (x .now .pool) (x .now .frames)))
 
-  victim-open : Open (view (x .now)) victim
+  victim-open : Open (x .now) victim
   victim-open = open-of (x .now) victim (sweep-sound (x .now .pool) (x .now .frames) (I .neat .hand) t .1)
 
   victim-lt : victim < x .now .pool .count
@@ -69,7 +69,7 @@ module _ (x : Point) (I : Invariant x) (full : (f : ℕ) → f < x .now .pool .c
   still-occupied : (f : ℕ) → f < x .now .pool .count → Occupied (view swept) f
   still-occupied f l = record { lt = l; on = same-flag (cool .each f .used) ∙ full f l }
 
-  still-open : Open (view swept) victim
+  still-open : Open swept victim
   still-open = record { notRoot = victim-open .notRoot; unpinned = cool .each victim .pins ∙ victim-open .unpinned; leaf = victim-open .leaf }
 
   pub swept-keeps : (f k : ℕ) → Occupied (view (x .now)) f → 0 < view (x .now) .pins f → k < slotCount → Number (view (x .now) .word f k) → view (x .now) .word f k ≢ 0

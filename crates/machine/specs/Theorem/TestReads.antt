@@ -1,4 +1,4 @@
--- What the tests of a handle and of openness to eviction say of the view. Assumes nothing.
+-- What the tests of a handle and of openness to eviction say of the state. Assumes nothing.
 use Prim.Native.Nat.{ℕ, _<_, _≤_}
 use mathlib.Core.Path.{_≡_, refl, sym, _∙_}
 use mathlib.Core.Logic.{_≢_}
@@ -7,21 +7,22 @@ use borrow.Author.Tests.{eqb-true, eqb-false, eq-eqb, ne-eqb, ltb-true}
 use lib.Dec.{eqb, ltb}
 use Rattle.page.specs.Figures.{slotCount}
 use Rattle.page.specs.Word.{Number, Swizzled, number-yes, number-no}
+use Rattle.page.specs.Page.{name}
 use Rattle.machine.specs.declared.Handle.{Handle}
 use Rattle.machine.specs.Laws.TestLaws.{clash, case, on, off, and-true, every-true, false-every, pick-yes, pick-no}
-use Rattle.machine.specs.Machine.{State, isUsed, recordAt}
+use Rattle.machine.specs.Machine.{State, isUsed, recordAt, pageIn}
 use Rattle.machine.specs.Sweep.{childless, isOpen}
 use Rattle.machine.specs.Laws.SweepLaws.{open-where}
 use Rattle.machine.specs.Rules.{handleFits}
-use Rattle.machine.specs.Theorem.View.{View, view, Occupied}
+use Rattle.machine.specs.Theorem.View.{view, Occupied}
 
 -- the handle's frame is occupied, holds its page, and is pinned
-pub record Handled (v : View) (h : Handle) : Type 0 where
-  pub at : Occupied v (h .frame .0)
-  pub page : v .page (h .frame .0) ≡ h .page .0
-  pub pinned : 0 < v .pins (h .frame .0)
+pub record Handled (s : State) (h : Handle) : Type 0 where
+  pub at : Occupied (view s) (h .frame .0)
+  pub page : pageIn (s .pool .records) (h .frame .0) ≡ h .page .0
+  pub pinned : 0 < recordAt (s .pool .records) (h .frame .0) .pins
 
-pub handled : (s : State) (h : Handle) → handleFits (s .pool) h ≡ true → Handled (view s) h
+pub handled : (s : State) (h : Handle) → handleFits (s .pool) h ≡ true → Handled s h
 unfolding handleFits
 handled s h t =
     let a = and-true (ltb (h .frame .0) (s .pool .count)) _ t in
@@ -30,12 +31,12 @@ handled s h t =
     record { at = record { lt = ltb-true _ _ (a .0); on = b .0 }; page = eqb-true _ _ (c .0); pinned = ltb-true 0 _ (c .1) }
 
 -- the frame is not the root's, is unpinned, and has no swizzled word
-pub record Open (v : View) (f : ℕ) : Type 0 where
+pub record Open (s : State) (f : ℕ) : Type 0 where
   pub notRoot : f ≢ 0
-  pub unpinned : v .pins f ≡ 0
-  pub leaf : (k : ℕ) → k < slotCount → Number (v .word f k)
+  pub unpinned : recordAt (s .pool .records) f .pins ≡ 0
+  pub leaf : (k : ℕ) → k < slotCount → Number (name (s .frames) f k)
 
-pub open-of : (s : State) (f : ℕ) → isOpen (recordAt (s .pool .records) f) (s .frames) f ≡ true → Open (view s) f
+pub open-of : (s : State) (f : ℕ) → isOpen (recordAt (s .pool .records) f) (s .frames) f ≡ true → Open s f
 unfolding childless
 open-of s f o =
     let t = sym (open-where (recordAt (s .pool .records) f) (s .frames) f) ∙ o in
@@ -54,7 +55,7 @@ open-of s f o =
     ]
 
 -- an unpinned frame that is not the root's and yet not open has a swizzled word
-pub shut-of : (s : State) (f : ℕ) → isOpen (recordAt (s .pool .records) f) (s .frames) f ≡ false → f ≢ 0 → view s .pins f ≡ 0 → (k : ℕ) × (k < slotCount) × Swizzled (view s .word f k)
+pub shut-of : (s : State) (f : ℕ) → isOpen (recordAt (s .pool .records) f) (s .frames) f ≡ false → f ≢ 0 → recordAt (s .pool .records) f .pins ≡ 0 → (k : ℕ) × (k < slotCount) × Swizzled (name (s .frames) f k)
 unfolding childless
 shut-of s f o n z =
     let t = sym (open-where (recordAt (s .pool .records) f) (s .frames) f) ∙ o in

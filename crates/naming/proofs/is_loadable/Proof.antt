@@ -5,25 +5,27 @@ use Rattle.naming.specs.ByTable.{loadableBy, loadable-empty}
 use Rattle.naming.proofs.is_loadable.Statement.{statement}
 use Rattle.naming.proofs.is_loadable.Tie as tie
 
-cast-at : tie.Need-cast-at
-cast-at c = search needs
+place-requires : tie.Need-place-requires
+place-requires c κs = search needs
 
-mul-at : tie.Need-mul-at
-mul-at c = search needs
+start-requires : tie.Need-start-requires
+start-requires c κs = search needs
 
 has-word-requires : tie.Need-has-word-requires
 has-word-requires c κs = search needs
 
 returns : tie.Need-returns
-returns c = loadable-empty _ _ _ _ (call-no (c .before .has-word .ensures) (c .if1 .taken))
+returns c = loadable-empty _ _ _ _ (call-no (rw (c .before .before .start .ensures, c .before .before .before .place .ensures) at (c .before .has-word .ensures)) (c .if1 .taken))
 
 mark-page-requires : tie.Need-mark-page-requires
 mark-page-requires c κs = search needs
 
 returns-2 : tie.Need-returns-2
 unfolding loadableBy
-returns-2 c = c .mark-page .ensures .answer
+returns-2 c =
+    let read = c .before .before .before in
+    rw (read .before .start .ensures, read .before .before .place .ensures) at (c .mark-page .ensures .answer)
 
 pub is-loadable-spec : {M : Type 1} → statement M
 is-loadable-spec =
-    tie.close (tie.spec cast-at mul-at has-word-requires returns mark-page-requires returns-2)
+    tie.close (tie.spec place-requires start-requires has-word-requires returns mark-page-requires returns-2)

@@ -18,22 +18,22 @@ abbrev μ-loop : tie.MeasureT-loop
 loop-holds : tie.Need-loop-holds Inv-loop μ-loop
 loop-holds c = (omega arith, passed-none _ _)
 
-mul-has-word : tie.Need-mul-has-word Inv-loop μ-loop
-mul-has-word c = search needs
+cast-t8 : tie.Need-cast-t8 Inv-loop μ-loop
+cast-t8 c = search needs
+
+start-requires : tie.Need-start-requires Inv-loop μ-loop
+start-requires c κs = search needs
 
 has-word-requires : tie.Need-has-word-requires Inv-loop μ-loop
 has-word-requires c κs = search needs
 
-mul-mark-page : tie.Need-mul-mark-page Inv-loop μ-loop
-mul-mark-page c = search needs
-
 mark-page-requires : tie.Need-mark-page-requires Inv-loop μ-loop
-mark-page-requires c κs = (omega arith, omega arith, c .before .before .before .before .loop .inv .1 .tells .size)
+mark-page-requires c κs = (omega arith, omega arith, c .before .before .before .before .before .loop .inv .1 .tells .table)
 
 returns : tie.Need-returns Inv-loop μ-loop
 returns c =
-    fail-page _ _ (omega arith) _ _ (c .before .before .before .before .before .before .loop .inv .1) _ (omega arith)
-    (rw (not-true (c .before .mark-page .result) (c .if2 .taken)) at (c .before .mark-page .ensures))
+    fail-page _ _ (omega arith) _ _ (c .before .before .before .before .before .before .before .loop .inv .1) _ (omega arith)
+    (rw (c .before .before .before .before .before .start .ensures, not-true (c .before .mark-page .result) (c .if2 .taken)) at (c .before .mark-page .ensures))
 
 add-p : tie.Need-add-p Inv-loop μ-loop
 add-p c = search needs
@@ -45,8 +45,8 @@ loop-again : tie.Need-loop-again Inv-loop μ-loop
 loop-again c = (
   omega arith,
   ⊎-elim
-      (λ a. rw (a .4) (pass-page _ _ (omega arith) _ _ (c .before .before .before .loop .inv .1) _ (rw (not-false (a .2 .result) (a .3 .left)) at (a .2 .ensures))))
-      (λ a. rw (a .1) (pass-over _ _ (omega arith) _ _ (c .before .before .before .loop .inv .1) (sym (c .before .has-word .ensures) ∙ a .0 .left)))
+      (λ a. rw (a .4) (pass-page _ _ (omega arith) _ _ (c .before .before .before .before .loop .inv .1) _ (rw (c .before .before .start .ensures, not-false (a .2 .result) (a .3 .left)) at (a .2 .ensures))))
+      (λ a. rw (a .1) (pass-over _ _ (omega arith) _ _ (c .before .before .before .before .loop .inv .1) (sym (rw (c .before .before .start .ensures) at (c .before .has-word .ensures)) ∙ a .0 .left)))
       (c .if1 .came),
 )
 
@@ -62,9 +62,9 @@ is-sound-spec =
     Inv-loop
     μ-loop
     loop-holds
-    mul-has-word
+    cast-t8
+    start-requires
     has-word-requires
-    mul-mark-page
     mark-page-requires
     returns
     add-p

@@ -6,7 +6,7 @@ use native.Mathlib.Omega.{arith}
 use mathlib.Core.Path.{refl, sym, _∙_}
 use Rattle.machine.specs.Laws.TestLaws.{clash}
 use Rattle.agreement.specs.Deciding.{holds, fails}
-use Rattle.agreement.specs.Rows.{pass-zeros}
+use Rattle.agreement.specs.Twice.{pass-zeros}
 use Rattle.agreement.specs.Fit.{Fits}
 use Rattle.agreement.specs.FitLaws.{page-below}
 use Rattle.agreement.proofs.frame.note.Statement.{statement}
@@ -32,7 +32,8 @@ note-numbers-requires c κs =
     let k = holds (c .before .before .before .before .before .is-fitting .result) _ (c .before .before .before .before .before .is-fitting .ensures) (not-false _ (c .before .before .before .before .if1 .left)) in
     let S = c .before .before .before .before .before .before .before .pre .0 in
     let b : c .before .before .before .before .before .before .before .args .rec .page .0 < c .before .before .before .before .before .before .before .args .pages = page-below _ _ _ _ _ _ (S .some) k (eq-eqb _ 1 (c .before .before .if2 .taken)) in
-    omega (arith, S .pages, S .size, c .before .before .before .before .before .before .before .pre .1, c .before .start .ensures)
+    let f = c .before .before .before .before .before .before .before .pre .1 in
+    (omega arith, S .pages, omega (arith, S .size, c .before .start .ensures), c .before .before .before .before .before .before .before .pre .2)
 
 returns-2 : tie.Need-returns-2
 returns-2 c =
@@ -51,7 +52,7 @@ returns-3 c = record {
   fits = λ e. holds (c .before .before .before .is-fitting .result) _ (c .before .before .before .is-fitting .ensures) (not-false _ (c .before .before .if1 .left));
   counts = λ e u. absurd (clash (sym u ∙ ne-eqb _ 1 (c .if2 .left)));
   nothing = λ e u. refl;
-  notes = λ row i h t k. pass-zeros _ row i _ 17 (h .empty (ne-eqb _ 1 (c .if2 .left))) t;
+  notes = λ row i h t k. pass-zeros row i _ 17 (h .empty (ne-eqb _ 1 (c .if2 .left))) t;
 }
 
 pub note-spec : {M : Type 1} → statement M

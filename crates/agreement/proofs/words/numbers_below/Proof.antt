@@ -1,25 +1,29 @@
 -- `numbers_below` meets its contract: the numbers before slot k are right. Assumes nothing.
 use borrow.Author.Needs.{needs}
-use Prim.Native.Nat.{_≤_, _+_, _*_, _-_}
-use mathlib.Core.Path.{_≡_, refl, _∙_, ap}
+use Prim.Native.Nat.{ℕ, _≤_, _+_, _*_, _-_}
+use mathlib.Core.Path.{_≡_, _∙_, ap}
+use mathlib.Core.List.{List}
 use native.Mathlib.Omega.{arith}
-use lib.ListN.{length, length-set}
+use lib.ListN.{set, replicate}
 use Rattle.page.specs.Figures.{slotCount, wordSize}
 use Rattle.page.specs.Word.{nameAt}
-use Rattle.agreement.specs.Fit.{numberBelow, Entries}
-use Rattle.agreement.specs.FitLaws.{entries-more}
+use Rattle.seen.specs.Fold.{fold, fold-none, fold-more}
+use Rattle.agreement.specs.Fit.{numberBelow, fill}
+use Rattle.agreement.specs.FitLaws.{below-of}
 use Rattle.agreement.proofs.words.numbers_below.Statement.{statement}
 use Rattle.agreement.proofs.words.numbers_below.Tie as tie
 
+abbrev row : List ℕ → ℕ → ℕ → ℕ → ℕ
+row frames start pages k = numberBelow pages (nameAt frames (start + wordSize * k))
+
 abbrev Inv-loop : tie.InvT-loop
-Inv-loop frames start pages numbers₀ k₀ numbers k =
-    (k ≤ slotCount) × (length numbers ≡ slotCount) × Entries (λ j. numberBelow pages (nameAt frames (start + wordSize * j))) k numbers
+Inv-loop frames start pages numbers₀ k₀ numbers k = (k ≤ slotCount) × (numbers ≡ fold (fill (row frames start pages)) (replicate slotCount 0) k)
 
 abbrev μ-loop : tie.MeasureT-loop
 μ-loop frames start pages numbers₀ k₀ numbers k = slotCount - k
 
 loop-holds : tie.Need-loop-holds Inv-loop μ-loop
-loop-holds c = (omega arith, refl, λ j l. absurd (omega arith))
+loop-holds c = (omega arith, fold-none _ _)
 
 mul-name-at : tie.Need-mul-name-at Inv-loop μ-loop
 mul-name-at c = search needs
@@ -49,10 +53,10 @@ loop-again : tie.Need-loop-again Inv-loop μ-loop
 loop-again c =
     let l = c .before .before .before .loop in
     let e = c .number-below .ensures ∙ ap (numberBelow (c .before .before .before .before .before .args .pages)) (c .before .name-at .ensures) in
-    (omega arith, simp length-set (l .inv .1), entries-more _ (l .numbers) (l .k) _ (omega arith) e (l .inv .2))
+    (omega arith, fold-more _ _ _ (l .inv .1) (ap (set (l .numbers) (l .k)) e))
 
 returns : tie.Need-returns Inv-loop μ-loop
-returns c = record { size = c .before .loop .inv .1; right = λ k l. c .before .loop .inv .2 k (omega arith) }
+returns c = let e : c .before .loop .k ≡ 16 = omega arith in below-of _ _ _ _ (rw e at (c .before .loop .inv .1))
 
 pub numbers-below-spec : {M : Type 1} → statement M
 numbers-below-spec =

@@ -19,22 +19,25 @@ abbrev μ-loop : tie.MeasureT-loop
 loop-holds : tie.Need-loop-holds Inv-loop μ-loop
 loop-holds c = (omega arith, in-no-page _ _ _)
 
-mul-page-has : tie.Need-mul-page-has Inv-loop μ-loop
-mul-page-has c = search needs
+cast-t8 : tie.Need-cast-t8 Inv-loop μ-loop
+cast-t8 c = search needs
 
-page-has-requires : tie.Need-page-has-requires Inv-loop μ-loop
-page-has-requires c κs = search needs
+start-requires : tie.Need-start-requires Inv-loop μ-loop
+start-requires c κs = search needs
 
-cast-t10 : tie.Need-cast-t10 Inv-loop μ-loop
-cast-t10 c = search needs
+has-requires : tie.Need-has-requires Inv-loop μ-loop
+has-requires c κs = search needs
+
+cast-t12 : tie.Need-cast-t12 Inv-loop μ-loop
+cast-t12 c = search needs
 
 is-resident-requires : tie.Need-is-resident-requires Inv-loop μ-loop
 is-resident-requires c κs = search needs
 
 returns : tie.Need-returns Inv-loop μ-loop
 returns c =
-    sym (in-page _ _ _ _ (c .before .before .before .before .before .loop .p) (omega arith)
-    (sym (c .before .before .before .page-has .ensures) ∙ c .before .before .if1 .taken) (call-no (c .before .is-resident .ensures) (c .if2 .taken)))
+    sym (in-page _ _ _ _ (c .before .before .before .before .before .before .loop .p) (omega arith)
+    (sym (rw (c .before .before .before .before .start .ensures) at (c .before .before .before .has .ensures)) ∙ c .before .before .if1 .taken) (call-no (c .before .is-resident .ensures) (c .if2 .taken)))
 
 add-p : tie.Need-add-p Inv-loop μ-loop
 add-p c = search needs
@@ -47,9 +50,9 @@ loop-again c = (
   omega arith,
   ⊎-elim
       (λ a. pass-resident _ _ _ _ (call-yes (a .1 .ensures) (a .2 .left)))
-      (λ a. pass-other _ _ _ _ (sym (c .before .page-has .ensures) ∙ a .left))
+      (λ a. pass-other _ _ _ _ (sym (rw (c .before .before .start .ensures) at (c .before .has .ensures)) ∙ a .left))
       (c .if1 .came)
-      ∙ c .before .before .before .loop .inv .1,
+      ∙ c .before .before .before .before .loop .inv .1,
 )
 
 returns-2 : tie.Need-returns-2 Inv-loop μ-loop
@@ -64,9 +67,10 @@ in-store-spec =
     Inv-loop
     μ-loop
     loop-holds
-    mul-page-has
-    page-has-requires
-    cast-t10
+    cast-t8
+    start-requires
+    has-requires
+    cast-t12
     is-resident-requires
     returns
     add-p

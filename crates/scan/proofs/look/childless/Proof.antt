@@ -2,16 +2,16 @@
 use Prim.Native.Nat.{ℕ, _≤_, _-_, _+_, _*_}
 use mathlib.Core.Path.{_≡_, sym, ap, _∙_}
 use mathlib.Core.Logic.{⊎-elim}
-use mathlib.Core.Bool.{Bool, true, false, not}
+use mathlib.Core.Bool.{Bool, true}
 use mathlib.Core.List.{List}
 use native.Mathlib.Omega.{arith}
 use borrow.Author.Needs.{needs}
 use Rattle.page.specs.Figures.{slotCount}
 use Rattle.page.specs.Word.{nameAt, isNumber}
 use Rattle.page.specs.Page.{slot}
-use Rattle.machine.specs.Tests.{every}
-use Rattle.machine.specs.Laws.TestLaws.{every-zero, every-keep, every-drop, call-no, call-yes}
+use Rattle.machine.specs.Laws.TestLaws.{call-no, call-yes}
 use Rattle.machine.specs.Sweep.{childless}
+use Rattle.seen.specs.Fold.{fold, fold-none, fold-more, everyOf, every-fold, flag-cleared, flag-kept}
 use Rattle.scan.proofs.look.childless.Statement.{statement}
 use Rattle.scan.proofs.look.childless.Tie as tie
 
@@ -20,27 +20,20 @@ abbrev number : List ℕ → ℕ → ℕ → Bool
 number fs start k = isNumber (nameAt fs (start + 4 * k))
 
 abbrev Inv-loop : tie.InvT-loop
-Inv-loop frames start none₀ k₀ none k = (k ≤ slotCount) × (none ≡ every k (number frames start))
+Inv-loop frames start none₀ k₀ none k = (k ≤ slotCount) × (none ≡ fold (everyOf (number frames start)) true k)
 
 abbrev μ-loop : tie.MeasureT-loop
 μ-loop frames start none₀ k₀ none k = slotCount - k
 
-module _ (fs : List ℕ) (start k : ℕ) where
-  swizzled : {w : ℕ} {r : Bool} → w ≡ nameAt fs (start + 4 * k) → r ≡ isNumber w → not r ≡ true → false ≡ every (k + 1) (number fs start)
-  swizzled e f h = every-drop k (number fs start) (sym (ap isNumber e) ∙ call-no f h)
-
-  plain : {w : ℕ} {r none : Bool} → w ≡ nameAt fs (start + 4 * k) → r ≡ isNumber w → not r ≡ false → none ≡ every k (number fs start) → none ≡ every (k + 1) (number fs start)
-  plain e f h i = i ∙ every-keep k (number fs start) (sym (ap isNumber e) ∙ call-yes f h)
-
-over : (fs : List ℕ) (f start k : ℕ) (none : Bool) → start ≡ 256 * f → k ≡ slotCount → none ≡ every k (number fs start) → none ≡ childless fs f
+over : (fs : List ℕ) (f start k : ℕ) (none : Bool) → start ≡ 256 * f → k ≡ slotCount → none ≡ fold (everyOf (number fs start)) true k → none ≡ childless fs f
 unfolding childless slot
-over fs f start k none s e i = rw (s, e) at i
+over fs f start k none s e i = rw (s, e) at i ∙ every-fold _ slotCount
 
 start-requires : tie.Need-start-requires Inv-loop μ-loop
 start-requires c κs = search needs
 
 loop-holds : tie.Need-loop-holds Inv-loop μ-loop
-loop-holds c = (omega arith, sym (every-zero _))
+loop-holds c = (omega arith, fold-none _ _)
 
 mul-name-at : tie.Need-mul-name-at Inv-loop μ-loop
 mul-name-at c = search needs
@@ -62,9 +55,15 @@ loop-less c = search needs
 
 loop-again : tie.Need-loop-again Inv-loop μ-loop
 loop-again c =
-    let e = c .before .before .name-at .ensures in
-    let f = c .before .is-number .ensures in
-    (omega arith, ⊎-elim (λ w. w .1 ∙ swizzled _ _ _ e f (w .0 .taken)) (λ w. w .1 ∙ plain _ _ _ e f (w .0 .left) (c .before .before .before .before .loop .inv .1)) (c .if1 .came))
+    let l = c .before .before .before .before .loop in
+    let e = ap isNumber (sym (c .before .before .name-at .ensures)) in
+    let f = c .before .is-number .ensures in (
+      omega arith,
+      fold-more _ _ _ (l .inv .1) (⊎-elim
+          (λ w. flag-cleared (l .none) (e ∙ call-no f (w .0 .taken)) (w .1))
+          (λ w. flag-kept (l .none) (e ∙ call-yes f (w .0 .left)) (w .1))
+          (c .if1 .came)),
+    )
 
 returns : tie.Need-returns Inv-loop μ-loop
 returns c = over _ _ _ _ _ (c .before .before .start .ensures) (omega arith) (c .before .loop .inv .1)

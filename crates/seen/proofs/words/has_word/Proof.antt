@@ -1,32 +1,31 @@
--- `seen::has_word` meets its contract: `hit` tells of the words passed. Assumes nothing.
+-- `seen::words::has_word` meets its contract: `hit` tells of the words passed. Assumes nothing.
 use borrow.Author.Needs.{needs}
 use borrow.Author.Tests.{eq-eqb, ne-eqb}
 use Prim.Native.Nat.{ℕ, _≤_, _-_}
 use mathlib.Core.Path.{_≡_, sym, _∙_, ap}
-use mathlib.Core.Bool.{Bool, not}
+use mathlib.Core.Bool.{Bool, false, not}
 use mathlib.Core.List.{List}
 use mathlib.Core.Logic.{⊎-elim}
 use native.Mathlib.Omega.{arith}
 use lib.Dec.{eqb}
 use Rattle.page.specs.Figures.{slotCount}
-use Rattle.machine.specs.Tests.{some}
-use Rattle.machine.specs.Laws.TestLaws.{some-zero}
-use Rattle.seen.specs.Seen.{wordsFrom, hasWord}
-use Rattle.seen.specs.SeenLaws.{some-keep, some-hit}
-use Rattle.seen.proofs.has_word.Statement.{statement}
-use Rattle.seen.proofs.has_word.Tie as tie
+use Rattle.page.specs.Page.{wordsFrom}
+use Rattle.seen.specs.Fold.{fold, fold-none, fold-more, someOf, some-fold, flag-set, flag-unset}
+use Rattle.seen.specs.Among.{hasWord}
+use Rattle.seen.proofs.words.has_word.Statement.{statement}
+use Rattle.seen.proofs.words.has_word.Tie as tie
 
 abbrev test : List ℕ → ℕ → ℕ → Bool
 test buffer at k = not (eqb (wordsFrom buffer at k) 0)
 
 abbrev Inv-loop : tie.InvT-loop
-Inv-loop buffer at hit₀ k₀ hit k = (k ≤ slotCount) × (hit ≡ some k (test buffer at))
+Inv-loop buffer at hit₀ k₀ hit k = (k ≤ slotCount) × (hit ≡ fold (someOf (test buffer at)) false k)
 
 abbrev μ-loop : tie.MeasureT-loop
 μ-loop buffer at hit₀ k₀ hit k = slotCount - k
 
 loop-holds : tie.Need-loop-holds Inv-loop μ-loop
-loop-holds c = (omega arith, sym (some-zero _))
+loop-holds c = (omega arith, fold-none _ _)
 
 mul-name-at : tie.Need-mul-name-at Inv-loop μ-loop
 mul-name-at c = search needs
@@ -44,20 +43,21 @@ loop-less : tie.Need-loop-less Inv-loop μ-loop
 loop-less c = search needs
 
 loop-again : tie.Need-loop-again Inv-loop μ-loop
-loop-again c = (
-  omega arith,
-  ⊎-elim
-      (λ a. a .1 ∙ sym (some-hit _ _ (ap not (ne-eqb _ 0 (λ z. a .0 .taken (c .before .name-at .ensures ∙ z))))))
-      (λ a. a .1 ∙ c .before .before .before .loop .inv .1
-      ∙ sym (some-keep _ _ (ap not (eq-eqb _ 0 (sym (c .before .name-at .ensures) ∙ a .0 .left)))))
-      (c .if1 .came),
-)
+loop-again c =
+    let l = c .before .before .before .loop in
+    let e = c .before .name-at .ensures in (
+      omega arith,
+      fold-more _ _ _ (l .inv .1) (⊎-elim
+          (λ a. flag-set (l .hit) (ap not (ne-eqb _ 0 (λ z. a .0 .taken (e ∙ z)))) (a .1))
+          (λ a. flag-unset (l .hit) (ap not (eq-eqb _ 0 (sym e ∙ a .0 .left))) (a .1))
+          (c .if1 .came)),
+    )
 
 returns : tie.Need-returns Inv-loop μ-loop
 unfolding hasWord
 returns c =
     let e : c .before .loop .k ≡ 16 = omega arith in
-    rw e at (c .before .loop .inv .1)
+    rw e at (c .before .loop .inv .1) ∙ some-fold _ slotCount
 
 pub has-word-spec : {M : Type 1} → statement M
 has-word-spec =

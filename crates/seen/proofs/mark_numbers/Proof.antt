@@ -1,0 +1,68 @@
+-- `seen::mark_numbers` meets its contract: the numbers before place k are marked. Assumes nothing.
+use borrow.Author.Needs.{needs}
+use borrow.Author.Tests.{not-true, not-false}
+use Prim.Native.Nat.{_≤_, _-_}
+use mathlib.Core.Path.{_≡_, refl}
+use mathlib.Core.Logic.{⊎-elim}
+use native.Mathlib.Omega.{arith}
+use Rattle.page.specs.Figures.{slotCount, mostPages}
+use Rattle.seen.specs.Fold.{flag-cleared, flag-kept}
+use Rattle.seen.specs.Seen.{rowOf, Marked}
+use Rattle.seen.specs.SeenLaws.{marked-none, marked-more}
+use Rattle.seen.proofs.mark_numbers.Statement.{statement}
+use Rattle.seen.proofs.mark_numbers.Tie as tie
+
+abbrev Inv-loop : tie.InvT-loop
+Inv-loop numbers seen₀ fresh₀ k₀ seen fresh k = (k ≤ slotCount) × Marked k (rowOf numbers) mostPages seen₀ seen fresh
+
+abbrev μ-loop : tie.MeasureT-loop
+μ-loop numbers seen₀ fresh₀ k₀ seen fresh k = slotCount - k
+
+loop-holds : tie.Need-loop-holds Inv-loop μ-loop
+loop-holds c = (omega arith, marked-none _ _ _ (c .pre .1))
+
+mul-x : tie.Need-mul-x Inv-loop μ-loop
+mul-x c = search needs
+
+element-copy-out-x : tie.Need-element-copy-out-x Inv-loop μ-loop
+element-copy-out-x c = search needs
+
+cast-x : tie.Need-cast-x Inv-loop μ-loop
+cast-x c = record { fits = omega (arith, c .before .before .before .pre .0 (c .before .before .loop .k) (omega arith)) }
+
+note-requires : tie.Need-note-requires Inv-loop μ-loop
+note-requires c κs = c .before .before .before .before .pre .0 (c .before .before .before .loop .k) (omega arith)
+
+add-k : tie.Need-add-k Inv-loop μ-loop
+add-k c = search needs
+
+loop-less : tie.Need-loop-less Inv-loop μ-loop
+loop-less c = search needs
+
+loop-again : tie.Need-loop-again Inv-loop μ-loop
+loop-again c =
+    let l = c .before .before .before .before .before .loop in (
+      omega arith,
+      marked-more _ _ _ (l .k) (omega arith) (l .seen) _ refl (λ n. c .before .before .before .before .before .before .pre .0 (l .k) (omega arith)) _ _ (c .before .note .ensures) _ _
+          (⊎-elim (λ a. flag-cleared (l .fresh) (not-true _ (a .0 .taken)) (a .1)) (λ a. flag-kept (l .fresh) (not-false _ (a .0 .left)) (a .1)) (c .if1 .came))
+          (l .inv .1),
+    )
+
+returns : tie.Need-returns Inv-loop μ-loop
+returns c = let e : c .before .loop .k ≡ 16 = omega arith in rw e at (c .before .loop .inv .1)
+
+pub mark-numbers-spec : {M : Type 1} → statement M
+mark-numbers-spec =
+    tie.close
+    (tie.spec
+    Inv-loop
+    μ-loop
+    loop-holds
+    mul-x
+    element-copy-out-x
+    cast-x
+    note-requires
+    add-k
+    loop-less
+    loop-again
+    returns)
