@@ -1,6 +1,6 @@
--- Places of payloads: that an accepted show or peek names a place within its buffer. Assumes nothing.
+-- Places of payloads: that show and peek name a place within its buffer. Assumes nothing.
 use Prim.Native.Nat.{ℕ, _+_, _-_, _<_, _≤_}
-use mathlib.Core.Path.{_≡_, refl, sym, _∙_, ap}
+use mathlib.Core.Path.{_≡_, refl, sym, subst}
 use mathlib.Core.Bool.{Bool, true, false}
 use mathlib.Core.List.{List}
 use native.Mathlib.Omega.{arith}
@@ -16,112 +16,57 @@ use Rattle.machine.specs.declared.Place.{Place}
 use Rattle.machine.specs.Tests.{Rule, firstBroken}
 use Rattle.machine.specs.Laws.TestLaws.{clash, pick-yes, pick-no, verdict-no, verdict-yes, case, on, off}
 use Rattle.machine.specs.Machine.{State, found}
-use Rattle.machine.specs.Answers.{Answer, refused, payload, Buffer, inFrames, inStore, out, bufferIf, placeAnswer, Lent, cut, Shown, handedBack}
+use Rattle.machine.specs.Answers.{Answer, payload, inStore, out, placeOf, Lent, cut, Shown, lentIf, handedAt}
 use Rattle.machine.specs.Calls.{decide, handleRules, pageRules, payloadPlace, showCall, peekCall}
 use Rattle.machine.specs.Laws.RuleLaws.{handle-kept, page-kept, answer-no, answer-yes}
-
--- no place, with a refusal's number
-abbrev pub refusedPlace : ℕ → Place
-refusedPlace n = record { refusal = n; in_store = false; start = 0; size = 0 }
 
 -- the payload of page p of the store, or of the frames
 abbrev pub payloadIn : Bool → ℕ → Place
 payloadIn b p = record { refusal = 0; in_store = b; start = payloadAt p; size = payloadSize }
 
--- an accepted place lies within its buffer
+-- a place lies within its buffer
 pub record Within (r : Place) (fs st : List ℕ) : Type 0 where
-  pub frames : r .refusal ≡ 0 → r .in_store ≡ false → r .start + r .size ≤ length fs
-  pub store : r .refusal ≡ 0 → r .in_store ≡ true → r .start + r .size ≤ length st
+  pub frames : r .in_store ≡ false → r .start + r .size ≤ length fs
+  pub store : r .in_store ≡ true → r .start + r .size ≤ length st
 
--- ---- the answer that a place stands for
+-- ---- a payload lies within where no rule is broken; the empty part at the start of the frames always does
 
-pub place-refused : (r : Place) → (r .refusal ≡ 0 → ⊥) → placeAnswer r ≡ refused (r .refusal)
-unfolding placeAnswer
-place-refused r h = sym (verdict-no refused (payload (bufferIf (r .in_store)) (r .start) (r .size)) refl h)
+in-frames : (fs st : List ℕ) (n : ℕ) {a k : ℕ} → a + k ≤ length fs → Within (record { refusal = n; in_store = false; start = a; size = k }) fs st
+in-frames fs st n h = record { frames = λ e. h; store = λ e. absurd (clash (sym e)) }
 
-pub place-accepted : (r : Place) → r .refusal ≡ 0 → placeAnswer r ≡ payload (bufferIf (r .in_store)) (r .start) (r .size)
-unfolding placeAnswer
-place-accepted r h = sym (verdict-yes refused refl h refl)
+in-store : (fs st : List ℕ) {a k : ℕ} → a + k ≤ length st → Within (placeOf (payload inStore a k)) fs st
+in-store fs st h = record { frames = λ e. absurd (clash e); store = λ e. h }
 
--- ---- where the place is accepted, no rule was broken, and the payload lies within
+abbrev Placed : State → Answer → Type 0
+Placed s a = Within (placeOf a) (s .frames) (s .store)
 
-never : {A : Type 0} {n : ℕ} {b : Buffer} {a k : ℕ} → payload b a k ≡ refused n → A
-never e = let z : _≡_ {A = ℕ} 0 1 = cc in absurd (omega arith)
-
-accepted : (s : State) (rules : List Rule) (a : Answer) {b : Buffer} {x n : ℕ} → payload b x n ≡ decide s rules (out a s) .answer → firstBroken rules ≡ 0
-accepted s rules a e = elim (ℕ-discrete (firstBroken rules) 0) [
-  | yes h ↦ h
-  | no h ↦ never (e ∙ sym (answer-no s rules (out a s) refl h))
+decided : (s : State) (rules : List Rule) (a : Answer) → (firstBroken rules ≡ 0 → Placed s a) → Placed s (decide s rules (out a s) .answer)
+decided s rules a h = elim (ℕ-discrete (firstBroken rules) 0) [
+  | yes z ↦ subst (Placed s) (answer-yes s rules s refl z refl) (h z)
+  | no z ↦ subst (Placed s) (answer-no s rules (out a s) refl z) (in-frames (s .frames) (s .store) (firstBroken rules) (omega arith))
 ]
 
-given : (s : State) (rules : List Rule) (a : Answer) {b : Buffer} {x n : ℕ} → payload b x n ≡ decide s rules (out a s) .answer → payload b x n ≡ a
-given s rules a e = e ∙ sym (answer-yes s rules s refl (accepted s rules a e) refl)
-
-is-frames : (b : Bool) {x n y m : ℕ} → payload (bufferIf b) x n ≡ payload inFrames y m → b ≡ false
-is-frames true e = let z : _≡_ {A = ℕ} 0 1 = cc in absurd (omega arith)
-is-frames false e = refl
-
-is-store : (b : Bool) {x n y m : ℕ} → payload (bufferIf b) x n ≡ payload inStore y m → b ≡ true
-is-store true e = refl
-is-store false e = let z : _≡_ {A = ℕ} 0 1 = cc in absurd (omega arith)
-
-ends : {b c : Buffer} {x n y m : ℕ} → payload b x n ≡ payload c y m → x + n ≡ y + m
-ends {x = x} {n = n} {y = y} {m = m} e = let p : x ≡ y = cc in let q : n ≡ m = cc in omega arith
-
-in-frames : (r : Place) (fs st : List ℕ) {y m : ℕ} → payload (bufferIf (r .in_store)) (r .start) (r .size) ≡ payload inFrames y m → y + m ≤ length fs → Within r fs st
-in-frames r fs st e h = record {
-  frames = λ z b. let k = ends e in omega arith;
-  store = λ z b. absurd (clash (sym b ∙ is-frames (r .in_store) e));
-}
-
-in-store : (r : Place) (fs st : List ℕ) {y m : ℕ} → payload (bufferIf (r .in_store)) (r .start) (r .size) ≡ payload inStore y m → y + m ≤ length st → Within r fs st
-in-store r fs st e h = record {
-  frames = λ z b. absurd (clash (sym (is-store (r .in_store) e) ∙ b));
-  store = λ z b. let k = ends e in omega arith;
-}
-
--- a claim about accepted places alone
-where-accepted : (r : Place) (fs st : List ℕ) → (r .refusal ≡ 0 → Within r fs st) → Within r fs st
-where-accepted r fs st f = record { frames = λ z b. f z .frames z b; store = λ z b. f z .store z b }
-
-pub show-within : (s : State) (h : Handle) (r : Place) → placeAnswer r ≡ showCall s h .answer → Within r (s .frames) (s .store)
+pub show-within : (s : State) (h : Handle) {r : Place} → r ≡ placeOf (showCall s h .answer) → Within r (s .frames) (s .store)
 unfolding showCall
-show-within s h r e = where-accepted r _ _ (λ z.
-    let p = sym (place-accepted r z) ∙ e in
-    let k = handle-kept s h (accepted s (handleRules s h) _ p) in
-    in-frames r _ _ (given s (handleRules s h) _ p) (omega arith))
+show-within s h e = rw e (decided s (handleRules s h) _ (λ z. let k = handle-kept s h z in in-frames (s .frames) (s .store) 0 (omega arith)))
 
-pub peek-within : (s : State) (q : PageNumber) (r : Place) → placeAnswer r ≡ peekCall s q .answer → Within r (s .frames) (s .store)
+pub peek-within : (s : State) (q : PageNumber) {r : Place} → r ≡ placeOf (peekCall s q .answer) → Within r (s .frames) (s .store)
 unfolding peekCall payloadPlace
-peek-within s q r e = where-accepted r _ _ (λ z.
+peek-within s q e = rw e (decided s (pageRules s q) _ (λ z.
+    let k = page-kept s q z in
     let f = found (s .pool) (q .0) in
-    let p = sym (place-accepted r z) ∙ e in
-    let k = page-kept s q (accepted s (pageRules s q) _ p) in
-    let g = given s (pageRules s q) _ p in
     elim (case (ltb f (s .pool .count))) [
-      | on t ↦ let l : f < s .pool .count = ltb-true f (s .pool .count) t in in-frames r _ _ (g ∙ sym (pick-yes _ t refl)) (omega arith)
-      | off t ↦ in-store r _ _ (g ∙ sym (pick-no _ t refl)) (omega arith)
-    ])
+      | on t ↦ let l : f < s .pool .count = ltb-true f (s .pool .count) t in subst (Placed s) (pick-yes _ t refl) (in-frames (s .frames) (s .store) 0 (omega arith))
+      | off t ↦ subst (Placed s) (pick-no _ t refl) (in-store (s .frames) (s .store) (omega arith))
+    ]))
 
 -- ---- what is handed back at a place
 
 -- what `&s[a..a + n]` gives is the cut
-pub cut-part : (x : Lent) (a n : ℕ) → _≡_ {A = Lent} (record { at = (x .at .0, a + x .at .1); bytes = take (a + n - a) (drop a (x .bytes)) }) (cut x a n)
+cut-part : (x : Lent) (a n : ℕ) → _≡_ {A = Lent} (record { at = (x .at .0, a + x .at .1); bytes = take (a + n - a) (drop a (x .bytes)) }) (cut x a n)
 unfolding cut bytesFrom
 cut-part x a n = let k : a + n - a ≡ n = omega arith in rw k
 
-module _ (fs st : Lent) (r : Place) where
-  pub hand-refused : (r .refusal ≡ 0 → ⊥) → record { part = cut fs 0 0; number = r .refusal } ≡ handedBack fs st (placeAnswer r)
-  hand-refused h = ap (handedBack fs st) (sym (place-refused r h))
-
-  accepted-at : {b : Bool} → r .refusal ≡ 0 → r .in_store ≡ b → payload (bufferIf b) (r .start) (r .size) ≡ placeAnswer r
-  accepted-at z e = ap (λ (c : Bool). payload (bufferIf c) (r .start) (r .size)) (sym e) ∙ sym (place-accepted r z)
-
-  numbered : {x y : Lent} → r .refusal ≡ 0 → x ≡ y → _≡_ {A = Shown} (record { part = x; number = r .refusal }) (record { part = y; number = 0 })
-  numbered z e = cc
-
-  pub hand-frames : {x : Lent} → r .refusal ≡ 0 → r .in_store ≡ false → x ≡ cut fs (r .start) (r .size) → record { part = x; number = r .refusal } ≡ handedBack fs st (placeAnswer r)
-  hand-frames z e i = numbered z i ∙ ap (handedBack fs st) (accepted-at z e)
-
-  pub hand-store : {x : Lent} → r .refusal ≡ 0 → r .in_store ≡ true → x ≡ cut st (r .start) (r .size) → record { part = x; number = r .refusal } ≡ handedBack fs st (placeAnswer r)
-  hand-store z e i = numbered z i ∙ ap (handedBack fs st) (accepted-at z e)
+-- the part of the one buffer, where the place says so
+pub handed : (fs st : Lent) (p : Place) {b : Bool} → p .in_store ≡ b → let x = lentIf b fs st in _≡_ {A = Shown} (record { part = record { at = (x .at .0, p .start + x .at .1); bytes = take (p .start + p .size - p .start) (drop (p .start) (x .bytes)) }; number = p .refusal }) (handedAt fs st p)
+handed fs st p {b} e = rw (e, cut-part (lentIf b fs st) (p .start) (p .size))

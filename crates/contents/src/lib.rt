@@ -12,14 +12,14 @@ use residents::Residents;
 ghost use mathlib.Core.Path.{_≡_};
 ghost use Rattle.machine.specs.Machine.{state, pageNumber};
 ghost use Rattle.machine.specs.Moves.{plain};
-ghost use Rattle.machine.specs.Answers.{lent, handedBack, placeAnswer, wordAnswer, findAnswer};
+ghost use Rattle.machine.specs.Answers.{lent, handedBack, placeOf, wordAnswer, findAnswer};
 ghost use Rattle.machine.specs.Calls.{showCall, peekCall, wordCall, findCall};
 ghost use Rattle.residents.specs.Residents.{pageBy};
 ghost use Rattle.contents.specs.Words.{Resolvable};
 
 // Where the payload of the handle's page lies.
 pub fn show_place(pool: Pool, frames: &[u8], store: &[u8], handle: Handle) -> Place
-    ensures { λ r. ⌜ placeAnswer r ≡ showCall (state pool (now (frames .entry)) (now (store .entry))) handle .answer ⌝ }
+    ensures { λ r. ⌜ r ≡ placeOf (showCall (state pool (now (frames .entry)) (now (store .entry))) handle .answer) ⌝ }
 {
     let mut residents = residents::NONE;
     let mut seen = seen::NONE;
@@ -42,7 +42,7 @@ pub fn show_place(pool: Pool, frames: &[u8], store: &[u8], handle: Handle) -> Pl
 
 // Where the payload of a page lies: in its frame if it is resident, otherwise in the store.
 pub fn peek_place(pool: Pool, frames: &[u8], store: &[u8], page: PageNumber) -> Place
-    ensures { λ r. ⌜ placeAnswer r ≡ peekCall (state pool (now (frames .entry)) (now (store .entry))) page .answer ⌝ }
+    ensures { λ r. ⌜ r ≡ placeOf (peekCall (state pool (now (frames .entry)) (now (store .entry))) page .answer) ⌝ }
 {
     let mut residents = residents::NONE;
     let mut seen = seen::NONE;

@@ -5,12 +5,12 @@ use page::PageNumber;
 use page::StorePlace;
 ghost use mathlib.Core.Path.{_≡_};
 ghost use mathlib.Core.Bool.{true, false};
-ghost use Rattle.machine.specs.Answers.{lent, handedBack, placeAnswer};
-ghost use Rattle.contents.specs.Places.{Within, refusedPlace, payloadIn};
+ghost use Rattle.machine.specs.Answers.{lent, noPlace, handedAt};
+ghost use Rattle.contents.specs.Places.{Within, payloadIn};
 
-// No place, with a refusal's number.
+// The empty part at the start of the frames, with a refusal's number.
 pub fn refused(refusal: u8) -> Place
-    ensures { λ r. ⌜ r ≡ refusedPlace refusal ⌝ }
+    ensures { λ r. ⌜ r ≡ noPlace refusal ⌝ }
 {
     Place {
         refusal,
@@ -44,16 +44,12 @@ pub fn in_store(page: PageNumber) -> Place
     }
 }
 
-// The part of frames or store at a place, and its number for the caller; refused, the empty part at the start of the frames.
+// The part of frames or store at a place, and its number for the caller.
 pub fn part_at<'a>(place: Place, frames: &'a [u8], store: &'a [u8], number: &mut u8) -> &'a [u8]
     requires { ⌜ Within place (now frames) (now store) ⌝ }
-    ensures { λ r. ⌜ record { part = lent r; number = now (number .exit) } ≡ handedBack (lent (frames .entry)) (lent (store .entry)) (placeAnswer place) ⌝ }
+    ensures { λ r. ⌜ record { part = lent r; number = now (number .exit) } ≡ handedAt (lent (frames .entry)) (lent (store .entry)) place ⌝ }
 {
-    let refusal = place.refusal;
-    *number = refusal;
-    if refusal != 0 {
-        return &frames[0..0];
-    }
+    *number = place.refusal;
     let start = place.start;
     let end = start + place.size;
     if place.in_store {

@@ -1,37 +1,86 @@
-// The call listing: reads records of 16 bytes from standard input to its end, and prints a line for each.
+// The call listing: reads records of 16 bytes from standard input to its end, and prints a line for each. What is there is read in one block, and its lines are out before more is read.
+mod block;
+mod message;
 mod text;
 
 use libc::STDIN_FILENO;
+use libc::STDOUT_FILENO;
 use page::PageNumber;
 use pool::Pool;
+ghost use Prim.Native.Nat.{_≤_};
 
 // 4 frames, and a store of 16 pages.
 const FRAMES: usize = 4 * PageNumber::SIZE;
 
 const STORE: usize = 16 * PageNumber::SIZE;
 
-// The bytes of a record.
-const RECORD: usize = 16;
+// The bytes of a block, and of the lines of as many records as it can hold: a line has at most 24.
+const BLOCK: usize = 4096;
 
-// What a turn leaves: whether a whole record was there, and the pool after it.
+const TEXT: usize = BLOCK / block::RECORD * 24;
+
+// What a turn leaves: whether there may be more, the pool, how many bytes of a part record stand at the start of the block, and how many records there were, and how many that are no calls.
 struct Turn {
     more: bool,
     pool: Pool,
+    part: usize,
+    records: u64,
+    odd: u64,
 }
 
-// Reads a record, runs it and prints its line. A part record, and the end of the input, end the listing.
-fn list_next(pool: Pool, frames: &mut [u8; FRAMES], store: &mut [u8; STORE]) -> Turn {
-    let mut entry = [0u8; RECORD];
-    let n = io::read_full(STDIN_FILENO, &mut entry);
-    if n < RECORD {
-        return Turn { more: false, pool };
+// The last turn.
+fn last(turn: Turn) -> Turn
+    ensures { λ r. ⌜ r .part ≤ 15 ⌝ }
+{
+    let pool = turn.pool;
+    Turn {
+        more: false,
+        pool,
+        part: 0,
+        records: turn.records,
+        odd: turn.odd,
     }
-    let line = recording::list_record(pool, frames, store, &entry);
-    text::print_line(line.call, line.refusal, line.frame, line.page);
-    let next = line.pool;
+}
+
+// Reads what is there after the part record, lists it and writes its lines.
+fn list_next(
+    turn: Turn,
+    frames: &mut [u8; FRAMES],
+    store: &mut [u8; STORE],
+    block: &mut [u8; BLOCK],
+) -> Turn
+    requires { ⌜ turn .part ≤ 15 ⌝ }
+    ensures { λ r. ⌜ r .part ≤ 15 ⌝ }
+{
+    let bytes: &mut [u8] = block;
+    let part = turn.part;
+    let got = libc::read(STDIN_FILENO, &mut bytes[part..]);
+    if got < 0 {
+        message::unread();
+        return last(turn);
+    }
+    let n = io::count(got, &bytes[part..]);
+    if n == 0 {
+        message::ended(part, turn.records, turn.odd);
+        return last(turn);
+    }
+    let end = part + n;
+    let mut text = [0u8; TEXT];
+    let pool = turn.pool;
+    let run = block::list_records(pool, frames, store, &bytes[..end], &mut text);
+    let to = run.end;
+    if !io::write_all(STDOUT_FILENO, &text[..to]) {
+        message::unwritten();
+        return last(turn);
+    }
+    let rest = block::keep_rest(bytes, end);
+    let next = run.pool;
     Turn {
         more: true,
         pool: next,
+        part: rest,
+        records: std::num::wrapping_add_u64(turn.records, (end / block::RECORD) as u64),
+        odd: std::num::wrapping_add_u64(turn.odd, run.odd),
     }
 }
 
@@ -39,15 +88,22 @@ fn list_next(pool: Pool, frames: &mut [u8; FRAMES], store: &mut [u8; STORE]) -> 
 fn main() {
     let mut frames = [0u8; FRAMES];
     let mut store = [0u8; STORE];
+    let mut block = [0u8; BLOCK];
     let opened = pool::open(&mut frames, &store);
-    let mut pool = opened.pool;
+    let pool = opened.pool;
+    let mut turn = Turn {
+        more: true,
+        pool,
+        part: 0,
+        records: 0,
+        odd: 0,
+    };
     let mut turns = u64::MAX;
     while turns > 0 {
-        let t = list_next(pool, &mut frames, &mut store);
-        if !t.more {
+        turn = list_next(turn, &mut frames, &mut store, &mut block);
+        if !turn.more {
             return;
         }
-        pool = t.pool;
         turns -= 1;
     }
 }

@@ -1,37 +1,36 @@
-// A line of the listing, written out in one piece.
-use libc::STDOUT_FILENO;
+// The lines of the listing, in a text.
+use recording::Line;
 ghost use Prim.Native.Nat.{_+_, _≤_};
-ghost use lib.ListN.{length};
-ghost use Rattle.io.specs.Counts.{Counts};
+ghost use mathlib.Core.Path.{_≡_};
+ghost use lib.ListN.{length, take};
+ghost use Rattle.recording.specs.Listing.{numbers};
+ghost use Rattle.listing.specs.Printing.{withNumber, withLine};
 
-// The most bytes of a number with the byte after it, and of a line.
-const FIELD: usize = 6;
-
-const LINE: usize = 4 * FIELD;
-
-// Puts a number in decimal and a byte after it into a line from `at` on, and gives where they end.
-fn put_number(line: &mut [u8], at: usize, n: u16, after: u8) -> usize
-    requires { ⌜ at + 6 ≤ length (now line) ⌝ }
+// Puts a number in decimal and a byte after it into a text from `at` on, and gives where they end.
+fn put_number(text: &mut [u8], at: usize, n: u16, after: u8) -> usize
+    requires { ⌜ at + 6 ≤ length (now text) ⌝ }
     ensures { λ r. ⌜ r ≤ at + 6 ⌝ }
-    ensures { λ r. ⌜ Counts r (now (line .exit)) ⌝ }
+    ensures { λ r. ⌜ take r (now (text .exit)) ≡ withNumber (take at (now (text .entry))) n after ⌝ }
 {
     let mut digits = [0u8; 20];
     let k = io::decimal(n as u64, &mut digits);
     let mut i = 0;
     while i < k {
-        line[at + i] = digits[i];
+        text[at + i] = digits[i];
         i += 1;
     }
-    line[at + k] = after;
+    text[at + k] = after;
     at + k + 1
 }
 
-// Prints the four numbers of a line.
-pub fn print_line(call: u8, refusal: u8, frame: u8, page: u16) {
-    let mut line = [0u8; LINE];
-    let mut at = put_number(&mut line, 0, call as u16, b' ');
-    at = put_number(&mut line, at, refusal as u16, b' ');
-    at = put_number(&mut line, at, frame as u16, b' ');
-    at = put_number(&mut line, at, page, b'\n');
-    io::write_all(STDOUT_FILENO, &line[..at]);
+// Puts the four numbers of a line into a text from `at` on, and gives where the line ends.
+pub fn put_line(text: &mut [u8], at: usize, line: Line) -> usize
+    requires { ⌜ at + 24 ≤ length (now text) ⌝ }
+    ensures { λ r. ⌜ r ≤ at + 24 ⌝ }
+    ensures { λ r. ⌜ take r (now (text .exit)) ≡ withLine (take at (now (text .entry))) (numbers (line .call) (line .refusal) (line .frame .0) (line .page .0)) ⌝ }
+{
+    let mut end = put_number(text, at, line.call as u16, b' ');
+    end = put_number(text, end, line.refusal as u16, b' ');
+    end = put_number(text, end, line.frame.0 as u16, b' ');
+    put_number(text, end, line.page.0, b'\n')
 }

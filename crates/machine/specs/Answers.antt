@@ -61,12 +61,23 @@ findAnswer (At f) = frame (f .0)
 findAnswer Absent = nowhere
 findAnswer (RefusedFind n) = refused n
 
-abbrev pub bufferIf : Bool → Buffer
-bufferIf true = inStore
-bufferIf false = inFrames
+abbrev pub isStore : Buffer → Bool
+isStore inFrames = false
+isStore inStore = true
 
-unfoldable pub placeAnswer : Place → Answer
-placeAnswer p = verdict (p .refusal) refused (payload (bufferIf (p .in_store)) (p .start) (p .size))
+-- no payload: the empty part at the start of the frames, with the refusal's number
+abbrev pub noPlace : ℕ → Place
+noPlace n = record { refusal = n; in_store = false; start = 0; size = 0 }
+
+-- show and peek, which give no answer of another kind
+abbrev pub placeOf : Answer → Place
+placeOf (payload b a n) = record { refusal = 0; in_store = isStore b; start = a; size = n }
+placeOf (refused n) = noPlace n
+placeOf done = noPlace 0
+placeOf (handle f p n) = noPlace 0
+placeOf (number p) = noPlace 0
+placeOf (frame f) = noPlace 0
+placeOf nowhere = noPlace 0
 
 -- ---- a part of a lent slice that is handed back
 
@@ -87,13 +98,14 @@ pub record Shown : Type 0 where
   pub part : Lent
   pub number : ℕ
 
+abbrev pub lentIf : Bool → Lent → Lent → Lent
+lentIf true fs st = st
+lentIf false fs st = fs
+
+-- what a place gives of frames and store
+abbrev pub handedAt : Lent → Lent → Place → Shown
+handedAt fs st p = record { part = cut (lentIf (p .in_store) fs st) (p .start) (p .size); number = p .refusal }
+
 -- "A refused show or peek gives the empty part at the start of the frames; both put their number, 0 if accepted, into a number the caller lends."
 abbrev pub handedBack : Lent → Lent → Answer → Shown
-handedBack fs st (payload inFrames a n) = record { part = cut fs a n; number = 0 }
-handedBack fs st (payload inStore a n) = record { part = cut st a n; number = 0 }
-handedBack fs st (refused n) = record { part = cut fs 0 0; number = n }
-handedBack fs st done = record { part = cut fs 0 0; number = 0 }
-handedBack fs st (handle f p n) = record { part = cut fs 0 0; number = 0 }
-handedBack fs st (number p) = record { part = cut fs 0 0; number = 0 }
-handedBack fs st (frame f) = record { part = cut fs 0 0; number = 0 }
-handedBack fs st nowhere = record { part = cut fs 0 0; number = 0 }
+handedBack fs st a = handedAt fs st (placeOf a)

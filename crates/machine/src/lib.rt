@@ -71,7 +71,7 @@ pub enum Standing {
     Evictable,
 }
 
-// Where a payload lies, as numbers: in the store or in the frames, from `start` on, `size` bytes. Beside a refusal these say nothing.
+// Where a payload lies, as numbers: in the store or in the frames, from `start` on, `size` bytes. Beside a refusal: no bytes, at the start of the frames.
 #[repr(C)]
 pub struct Place {
     pub refusal: u8,

@@ -1,40 +1,62 @@
--- The structs that stand for answers at the host boundary: document 01's number and values for each.
+-- The structs that stand for answers at the host boundary: document 01's number and values for each, and 0 in every field beside a refusal.
+use Prim.Native.Nat.{ℕ}
 use mathlib.Core.Bool.{true, false}
+use mathlib.Core.List.{List}
+use Rattle.machine.specs.declared.Handle.{Handle}
 use Rattle.machine.specs.declared.Pool.{Pool}
-use Rattle.machine.specs.declared.FixAnswer.{FixAnswer}
-use Rattle.machine.specs.declared.FixAnswer.the-variants.{Fixed as Given, Refused as RefusedFix}
-use Rattle.machine.specs.declared.WordAnswer.{WordAnswer}
-use Rattle.machine.specs.declared.WordAnswer.the-variants.{Names, Refused as RefusedWord}
-use Rattle.machine.specs.declared.FindAnswer.{FindAnswer}
-use Rattle.machine.specs.declared.FindAnswer.the-variants.{At, Absent, Refused as RefusedFind}
-use Rattle.machine.specs.Tests.{pick, verdict}
 use Rattle.machine.specs.Machine.{frameIndex, pageNumber}
-use Rattle.machine.specs.Answers.{Answer, refused, handle, number, frame, nowhere}
+use Rattle.machine.specs.Answers.{Answer, refused, done, handle, payload, number, frame, nowhere, Out}
 use Rattle.pagepool.specs.declared.answers.Fixed.{Fixed}
 use Rattle.pagepool.specs.declared.answers.Named.{Named}
 use Rattle.pagepool.specs.declared.answers.Found.{Found}
 
--- root and fix
-unfoldable pub fixedAnswer : Fixed → Answer
-fixedAnswer r = verdict (r .refusal) refused (handle (r .handle .frame .0) (r .handle .page .0) (r .looks))
+-- ---- root and fix, which give no answer of another kind
 
-unfoldable pub namedAnswer : Named → Answer
-namedAnswer r = verdict (r .refusal) refused (number (r .page .0))
+abbrev pub fixedWith : ℕ → ℕ → ℕ → ℕ → Pool → Fixed
+fixedWith n f p looks x = record { refusal = n; handle = record { frame = frameIndex f; page = pageNumber p }; looks = looks; pool = x }
 
-unfoldable pub foundAnswer : Found → Answer
-foundAnswer r = verdict (r .refusal) refused (pick (r .present) (frame (r .frame .0)) nowhere)
+abbrev pub fixedOf : Answer → Pool → Fixed
+fixedOf (handle f p looks) x = fixedWith 0 f p looks x
+fixedOf (refused n) x = fixedWith n 0 0 0 x
+fixedOf done x = fixedWith 0 0 0 0 x
+fixedOf (payload b a n) x = fixedWith 0 0 0 0 x
+fixedOf (number p) x = fixedWith 0 0 0 0 x
+fixedOf (frame f) x = fixedWith 0 0 0 0 x
+fixedOf nowhere x = fixedWith 0 0 0 0 x
 
--- ---- the struct for each of the pool's answers; "A refused call answers its number alone"
+-- the struct, with the frames and the store that the call leaves
+pub record FixedOut : Type 0 where
+  pub fixed : Fixed
+  pub frames : List ℕ
+  pub store : List ℕ
 
-abbrev pub fixedOf : FixAnswer → Pool → Fixed
-fixedOf (Given h n) p = record { refusal = 0; handle = h; looks = n; pool = p }
-fixedOf (RefusedFix n) p = record { refusal = n; handle = record { frame = frameIndex 0; page = pageNumber 0 }; looks = 0; pool = p }
+abbrev pub fixedOut : Out → FixedOut
+fixedOut o = record { fixed = fixedOf (o .answer) (o .left .pool); frames = o .left .frames; store = o .left .store }
 
-abbrev pub namedOf : WordAnswer → Named
-namedOf (Names p) = record { refusal = 0; page = p }
-namedOf (RefusedWord n) = record { refusal = n; page = pageNumber 0 }
+-- ---- word
 
-abbrev pub foundOf : FindAnswer → Found
-foundOf (At f) = record { refusal = 0; present = true; frame = f }
-foundOf Absent = record { refusal = 0; present = false; frame = frameIndex 0 }
-foundOf (RefusedFind n) = record { refusal = n; present = false; frame = frameIndex 0 }
+abbrev pub namedWith : ℕ → ℕ → Named
+namedWith n p = record { refusal = n; page = pageNumber p }
+
+abbrev pub namedOf : Answer → Named
+namedOf (number p) = namedWith 0 p
+namedOf (refused n) = namedWith n 0
+namedOf done = namedWith 0 0
+namedOf (handle f p looks) = namedWith 0 0
+namedOf (payload b a n) = namedWith 0 0
+namedOf (frame f) = namedWith 0 0
+namedOf nowhere = namedWith 0 0
+
+-- ---- find
+
+abbrev pub noFrame : ℕ → Found
+noFrame n = record { refusal = n; present = false; frame = frameIndex 0 }
+
+abbrev pub foundOf : Answer → Found
+foundOf (frame f) = record { refusal = 0; present = true; frame = frameIndex f }
+foundOf nowhere = noFrame 0
+foundOf (refused n) = noFrame n
+foundOf done = noFrame 0
+foundOf (handle f p looks) = noFrame 0
+foundOf (payload b a n) = noFrame 0
+foundOf (number p) = noFrame 0

@@ -1,4 +1,4 @@
-// The answers that are enums in the pool, as structs: the refusal's number, 0 where the call was accepted, beside the values, all 0 with a refusal.
+// The answers that are enums in the pool, as structs: the refusal's number, 0 where the call was accepted, beside the values, all 0 beside a refusal.
 use pool::FindAnswer;
 use pool::Fix;
 use pool::FixAnswer;
@@ -8,6 +8,7 @@ use pool::PageNumber;
 use pool::Pool;
 use pool::WordAnswer;
 ghost use mathlib.Core.Path.{_≡_};
+ghost use Rattle.machine.specs.Answers.{fixAnswer, wordAnswer, findAnswer};
 ghost use Rattle.pagepool.specs.Structs.{fixedOf, namedOf, foundOf};
 
 // The answer of root and fix: the records, the handle and the looks of the sweep.
@@ -36,7 +37,7 @@ pub struct Found {
 
 // The struct for an answer of root or fix.
 pub fn from_fix(fix: Fix) -> Fixed
-    ensures { λ r. ⌜ r ≡ fixedOf (fix .answer) (fix .pool) ⌝ }
+    ensures { λ r. ⌜ r ≡ fixedOf (fixAnswer (fix .answer)) (fix .pool) ⌝ }
 {
     let answer = fix.answer;
     let pool = fix.pool;
@@ -64,7 +65,7 @@ pub fn from_fix(fix: Fix) -> Fixed
 
 // The struct for an answer of word.
 pub fn from_word(answer: WordAnswer) -> Named
-    ensures { λ r. ⌜ r ≡ namedOf answer ⌝ }
+    ensures { λ r. ⌜ r ≡ namedOf (wordAnswer answer) ⌝ }
 {
     match answer {
         WordAnswer::Names(page) => Named { refusal: 0, page },
@@ -77,7 +78,7 @@ pub fn from_word(answer: WordAnswer) -> Named
 
 // The struct for an answer of find.
 pub fn from_find(answer: FindAnswer) -> Found
-    ensures { λ r. ⌜ r ≡ foundOf answer ⌝ }
+    ensures { λ r. ⌜ r ≡ foundOf (findAnswer answer) ⌝ }
 {
     match answer {
         FindAnswer::At(frame) => Found {

@@ -13,9 +13,9 @@ use pool::Place;
 use pool::Pool;
 ghost use mathlib.Core.Path.{_≡_};
 ghost use Rattle.machine.specs.Machine.{state};
-ghost use Rattle.machine.specs.Answers.{out, doneAnswer, placeAnswer};
+ghost use Rattle.machine.specs.Answers.{out, doneAnswer, placeOf};
 ghost use Rattle.machine.specs.Calls.{openCall, rootCall, fixCall, unfixCall, showCall, peekCall, wordCall, writeCall, linkCall, unlinkCall, evictCall, settleCall, findCall};
-ghost use Rattle.pagepool.specs.Structs.{fixedAnswer, namedAnswer, foundAnswer};
+ghost use Rattle.pagepool.specs.Structs.{fixedOut, namedOf, foundOf};
 
 // Brings page 0 into frame 0 and gives the records of a new pool; refused, all-zero ones.
 #[no_mangle]
@@ -28,7 +28,7 @@ pub extern "C" fn pool_open(frames: &mut [u8], store: &[u8]) -> Done
 // Pins page 0.
 #[no_mangle]
 pub extern "C" fn pool_root(pool: Pool, frames: &[u8], store: &[u8]) -> Fixed
-    ensures { λ r. ⌜ out (fixedAnswer r) (state (r .pool) (now (frames .entry)) (now (store .entry))) ≡ rootCall (state pool (now (frames .entry)) (now (store .entry))) ⌝ }
+    ensures { λ r. ⌜ record { fixed = r; frames = now (frames .entry); store = now (store .entry) } ≡ fixedOut (rootCall (state pool (now (frames .entry)) (now (store .entry)))) ⌝ }
 {
     answers::from_fix(pool::root(pool, frames, store))
 }
@@ -42,7 +42,7 @@ pub extern "C" fn pool_fix(
     handle: Handle,
     slot: usize,
 ) -> Fixed
-    ensures { λ r. ⌜ out (fixedAnswer r) (state (r .pool) (now (frames .exit)) (now (store .exit))) ≡ fixCall (state pool (now (frames .entry)) (now (store .entry))) handle slot ⌝ }
+    ensures { λ r. ⌜ record { fixed = r; frames = now (frames .exit); store = now (store .exit) } ≡ fixedOut (fixCall (state pool (now (frames .entry)) (now (store .entry))) handle slot) ⌝ }
 {
     answers::from_fix(pool::fix(pool, frames, store, handle, slot))
 }
@@ -58,7 +58,7 @@ pub extern "C" fn pool_unfix(pool: Pool, frames: &[u8], store: &[u8], handle: Ha
 // Where the payload of the handle's page lies, for the host to read in its own buffer.
 #[no_mangle]
 pub extern "C" fn pool_show(pool: Pool, frames: &[u8], store: &[u8], handle: Handle) -> Place
-    ensures { λ r. ⌜ placeAnswer r ≡ showCall (state pool (now (frames .entry)) (now (store .entry))) handle .answer ⌝ }
+    ensures { λ r. ⌜ r ≡ placeOf (showCall (state pool (now (frames .entry)) (now (store .entry))) handle .answer) ⌝ }
 {
     pool::show_place(pool, frames, store, handle)
 }
@@ -66,7 +66,7 @@ pub extern "C" fn pool_show(pool: Pool, frames: &[u8], store: &[u8], handle: Han
 // Where the payload of a page lies, in its frame if it is resident, otherwise in the store.
 #[no_mangle]
 pub extern "C" fn pool_peek(pool: Pool, frames: &[u8], store: &[u8], page: PageNumber) -> Place
-    ensures { λ r. ⌜ placeAnswer r ≡ peekCall (state pool (now (frames .entry)) (now (store .entry))) page .answer ⌝ }
+    ensures { λ r. ⌜ r ≡ placeOf (peekCall (state pool (now (frames .entry)) (now (store .entry))) page .answer) ⌝ }
 {
     pool::peek_place(pool, frames, store, page)
 }
@@ -80,7 +80,7 @@ pub extern "C" fn pool_word(
     handle: Handle,
     slot: usize,
 ) -> Named
-    ensures { λ r. ⌜ namedAnswer r ≡ wordCall (state pool (now (frames .entry)) (now (store .entry))) handle slot .answer ⌝ }
+    ensures { λ r. ⌜ r ≡ namedOf (wordCall (state pool (now (frames .entry)) (now (store .entry))) handle slot .answer) ⌝ }
 {
     answers::from_word(pool::word(pool, frames, store, handle, slot))
 }
@@ -153,7 +153,7 @@ pub extern "C" fn pool_settle(pool: Pool, frames: &[u8], store: &mut [u8]) -> Do
 // The frame that holds a page.
 #[no_mangle]
 pub extern "C" fn pool_find(pool: Pool, frames: &[u8], store: &[u8], page: PageNumber) -> Found
-    ensures { λ r. ⌜ foundAnswer r ≡ findCall (state pool (now (frames .entry)) (now (store .entry))) page .answer ⌝ }
+    ensures { λ r. ⌜ r ≡ foundOf (findCall (state pool (now (frames .entry)) (now (store .entry))) page .answer) ⌝ }
 {
     answers::from_find(pool::find(pool, frames, store, page))
 }

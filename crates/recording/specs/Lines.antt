@@ -2,22 +2,22 @@
 use Prim.Native.Nat.{ℕ}
 use mathlib.Core.List.{List}
 use Rattle.machine.specs.declared.Pool.{Pool}
-use Rattle.machine.specs.Machine.{state}
+use Rattle.machine.specs.Machine.{state, frameIndex, pageNumber}
 use Rattle.machine.specs.Answers.{Answer, Out}
 use Rattle.recording.specs.declared.lines.Line.{Line}
 use Rattle.recording.specs.Listing.{callIn, numbers, lineOf, Listed}
 
 -- the line of a record with these numbers after its call
 abbrev pub lineWith : List ℕ → ℕ → ℕ → ℕ → Pool → Line
-lineWith b n f p x = record { call = callIn b; refusal = n; frame = f; page = p; pool = x }
+lineWith b n f p x = record { call = callIn b; refusal = n; frame = frameIndex f; page = pageNumber p; pool = x }
 
 -- the line of a record with this answer
 unfoldable pub lineFor : List ℕ → Answer → Pool → Line
-lineFor b a x = let l = lineOf b a in record { call = l .call; refusal = l .refusal; frame = l .frame; page = l .page; pool = x }
+lineFor b a x = let l = lineOf b a in record { call = l .call; refusal = l .refusal; frame = frameIndex (l .frame); page = pageNumber (l .page); pool = x }
 
 -- a line with the frames and the store beside it
 abbrev pub lined : Line → List ℕ → List ℕ → Listed
-lined r fs st = record { line = numbers (r .call) (r .refusal) (r .frame) (r .page); left = state (r .pool) fs st }
+lined r fs st = record { line = numbers (r .call) (r .refusal) (r .frame .0) (r .page .0); left = state (r .pool) fs st }
 
 -- what a record lists by what its call answers and leaves
 abbrev pub listedOut : List ℕ → Out → Listed

@@ -15,8 +15,8 @@ ghost use Rattle.recording.specs.Lines.{lineWith, lineFor};
 pub struct Line {
     pub call: u8,
     pub refusal: u8,
-    pub frame: u8,
-    pub page: u16,
+    pub frame: FrameIndex,
+    pub page: PageNumber,
     pub pool: Pool,
 }
 
@@ -27,8 +27,8 @@ pub fn bare(pool: Pool, entry: &[u8; 16], refusal: u8) -> Line
     Line {
         call: entry[fields::CALL],
         refusal,
-        frame: 0,
-        page: 0,
+        frame: FrameIndex(0),
+        page: PageNumber(0),
         pool,
     }
 }
@@ -40,8 +40,8 @@ fn placed(pool: Pool, entry: &[u8; 16], frame: FrameIndex, page: PageNumber) -> 
     Line {
         call: entry[fields::CALL],
         refusal: 0,
-        frame: frame.0,
-        page: page.0,
+        frame,
+        page,
         pool,
     }
 }

@@ -1,7 +1,7 @@
 -- `contents::peek` meets its contract: the place lies within its buffer, and the part there is handed back. Assumes nothing.
 use mathlib.Core.Path.{ap, _∙_}
 use Rattle.machine.specs.Machine.{State, state}
-use Rattle.machine.specs.Answers.{lent, handedBack}
+use Rattle.machine.specs.Answers.{lent, handedAt}
 use Rattle.contents.specs.Places.{peek-within}
 use borrow.Author.Needs.{needs}
 use Rattle.contents.proofs.peek.Statement.{statement}
@@ -14,10 +14,10 @@ peek-place-requires : tie.Need-peek-place-requires
 peek-place-requires c κs = search needs
 
 part-at-requires : tie.Need-part-at-requires
-part-at-requires c κs = peek-within (given (c .before .before .before .before)) (c .before .before .before .before .args .page) _ (c .before .peek-place .ensures)
+part-at-requires c κs = peek-within (given (c .before .before .before .before)) (c .before .before .before .before .args .page) (c .before .peek-place .ensures)
 
 returns : tie.Need-returns
-returns c = c .part-at .ensures ∙ ap (handedBack (lent (c .before .before .before .before .before .args .frames)) (lent (c .before .before .before .before .before .args .store))) (c .before .before .peek-place .ensures)
+returns c = c .part-at .ensures ∙ ap (handedAt (lent (c .before .before .before .before .before .args .frames)) (lent (c .before .before .before .before .before .args .store))) (c .before .before .peek-place .ensures)
 
 pub peek-spec : {M : Type 1} → statement M
 peek-spec = tie.close (tie.spec peek-place-requires part-at-requires returns)

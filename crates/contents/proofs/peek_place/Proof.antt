@@ -1,10 +1,9 @@
 -- `contents::peek_place` meets its contract: refused, resident, in the store. Assumes nothing.
 use mathlib.Core.Path.{refl, ap, _∙_}
 use native.Mathlib.Omega.{arith}
-use Rattle.machine.specs.Answers.{placeAnswer}
+use Rattle.machine.specs.Answers.{placeOf}
 use Rattle.machine.specs.Calls.{peekCall}
 use Rattle.machine.specs.Laws.RuleLaws.{answer-no}
-use Rattle.contents.specs.Places.{place-refused, place-accepted}
 use Rattle.scan.specs.ByTable.{few}
 use Rattle.contents.specs.Lookup.{peek-in-frame, peek-in-store}
 use borrow.Author.Needs.{needs}
@@ -19,7 +18,7 @@ refused-requires c κs = search needs
 
 returns : tie.Need-returns
 unfolding peekCall
-returns c = ap placeAnswer (c .refused .ensures) ∙ place-refused _ (c .before .if1 .taken) ∙ answer-no _ _ _ (c .before .before .page-refusal .ensures .0) (c .before .if1 .taken)
+returns c = c .refused .ensures ∙ ap placeOf (answer-no _ _ _ (c .before .before .page-refusal .ensures .0) (c .before .if1 .taken))
 
 find-frame-requires : tie.Need-find-frame-requires
 find-frame-requires c κs = few _ _ (c .before .before .page-refusal .ensures) (c .before .if1 .left) refl
@@ -32,16 +31,16 @@ in-frame-requires c κs = search needs
 
 returns-2 : tie.Need-returns-2
 returns-2 c =
-    ap placeAnswer (c .in-frame .ensures) ∙ place-accepted _ refl
-    ∙ peek-in-frame _ _ (c .before .before .before .before .before .page-refusal .ensures) (c .before .before .before .before .if1 .left) refl (c .before .before .find-frame .ensures) (c .before .if2 .taken)
+    c .in-frame .ensures
+    ∙ ap placeOf (peek-in-frame _ _ (c .before .before .before .before .before .page-refusal .ensures) (c .before .before .before .before .if1 .left) refl (c .before .before .find-frame .ensures) (c .before .if2 .taken))
 
 in-store-requires : tie.Need-in-store-requires
 in-store-requires c κs = search needs
 
 returns-3 : tie.Need-returns-3
 returns-3 c =
-    ap placeAnswer (c .in-store .ensures) ∙ place-accepted _ refl
-    ∙ peek-in-store _ _ (c .before .before .before .before .before .page-refusal .ensures) (c .before .before .before .before .if1 .left) refl (c .before .before .find-frame .ensures) (c .before .if2 .left)
+    c .in-store .ensures
+    ∙ ap placeOf (peek-in-store _ _ (c .before .before .before .before .before .page-refusal .ensures) (c .before .before .before .before .if1 .left) refl (c .before .before .find-frame .ensures) (c .before .if2 .left))
 
 pub peek-place-spec : {M : Type 1} → statement M
 peek-place-spec =

@@ -1,7 +1,7 @@
 -- `contents::show` meets its contract: the place lies within its buffer, and the part there is handed back. Assumes nothing.
 use mathlib.Core.Path.{ap, _∙_}
 use Rattle.machine.specs.Machine.{State, state}
-use Rattle.machine.specs.Answers.{lent, handedBack}
+use Rattle.machine.specs.Answers.{lent, handedAt}
 use Rattle.contents.specs.Places.{show-within}
 use borrow.Author.Needs.{needs}
 use Rattle.contents.proofs.show.Statement.{statement}
@@ -14,10 +14,10 @@ show-place-requires : tie.Need-show-place-requires
 show-place-requires c κs = search needs
 
 part-at-requires : tie.Need-part-at-requires
-part-at-requires c κs = show-within (given (c .before .before .before .before)) (c .before .before .before .before .args .handle) _ (c .before .show-place .ensures)
+part-at-requires c κs = show-within (given (c .before .before .before .before)) (c .before .before .before .before .args .handle) (c .before .show-place .ensures)
 
 returns : tie.Need-returns
-returns c = c .part-at .ensures ∙ ap (handedBack (lent (c .before .before .before .before .before .args .frames)) (lent (c .before .before .before .before .before .args .store))) (c .before .before .show-place .ensures)
+returns c = c .part-at .ensures ∙ ap (handedAt (lent (c .before .before .before .before .before .args .frames)) (lent (c .before .before .before .before .before .args .store))) (c .before .before .show-place .ensures)
 
 pub show-spec : {M : Type 1} → statement M
 show-spec = tie.close (tie.spec show-place-requires part-at-requires returns)

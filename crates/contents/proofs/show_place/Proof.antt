@@ -1,10 +1,9 @@
 -- `contents::show_place` meets its contract. Assumes nothing.
 use mathlib.Core.Path.{refl, ap, _∙_}
-use Rattle.machine.specs.Answers.{placeAnswer}
+use Rattle.machine.specs.Answers.{placeOf}
 use Rattle.machine.specs.Machine.{recordAt}
 use Rattle.machine.specs.Calls.{showCall}
 use Rattle.machine.specs.Laws.RuleLaws.{answer-no, answer-yes}
-use Rattle.contents.specs.Places.{place-refused, place-accepted}
 use borrow.Author.Needs.{needs}
 use Rattle.contents.proofs.show_place.Statement.{statement}
 use Rattle.contents.proofs.show_place.Tie as tie
@@ -26,14 +25,14 @@ refused-requires c κs = search needs
 
 returns : tie.Need-returns
 unfolding showCall
-returns c = ap placeAnswer (c .refused .ensures) ∙ place-refused _ (c .before .if1 .taken) ∙ answer-no _ _ _ (c .before .before .handle-refusal .ensures .0) (c .before .if1 .taken)
+returns c = c .refused .ensures ∙ ap placeOf (answer-no _ _ _ (c .before .before .handle-refusal .ensures .0) (c .before .if1 .taken))
 
 in-frame-requires : tie.Need-in-frame-requires
 in-frame-requires c κs = search needs
 
 returns-2 : tie.Need-returns-2
 unfolding showCall
-returns-2 c = ap placeAnswer (c .in-frame .ensures) ∙ answer-yes _ _ _ (c .before .before .handle-refusal .ensures .0) (c .before .if1 .left) (place-accepted _ refl)
+returns-2 c = c .in-frame .ensures ∙ ap placeOf (answer-yes _ _ _ (c .before .before .handle-refusal .ensures .0) (c .before .if1 .left) refl)
 
 pub show-place-spec : {M : Type 1} → statement M
 show-place-spec =

@@ -1,13 +1,14 @@
 -- `listing::main` meets its contract: the turns left fall with each turn. Assumes nothing.
+use Prim.Native.Nat.{_≤_}
 use borrow.Author.Needs.{needs}
 use Rattle.listing.proofs.main.Statement.{statement}
 use Rattle.listing.proofs.main.Tie as tie
 
 abbrev Inv-loop : tie.InvT-loop
-Inv-loop frames₀ store₀ pool₀ turns₀ frames store pool turns = Unit {0}
+Inv-loop frames₀ store₀ block₀ turn₀ turns₀ frames store block turn turns = turn .part ≤ 15
 
 abbrev μ-loop : tie.MeasureT-loop
-μ-loop frames₀ store₀ pool₀ turns₀ frames store pool turns = turns
+μ-loop frames₀ store₀ block₀ turn₀ turns₀ frames store block turn turns = turns
 
 slice-aggregate-open : tie.Need-slice-aggregate-open Inv-loop μ-loop
 slice-aggregate-open c = search needs
@@ -22,7 +23,7 @@ loop-holds : tie.Need-loop-holds Inv-loop μ-loop
 loop-holds c = search needs
 
 list-next-requires : tie.Need-list-next-requires Inv-loop μ-loop
-list-next-requires c κs = search needs
+list-next-requires c κs = c .before .before .before .before .loop .inv
 
 returns : tie.Need-returns Inv-loop μ-loop
 returns c = search needs
@@ -34,7 +35,7 @@ loop-less : tie.Need-loop-less Inv-loop μ-loop
 loop-less c = search needs
 
 loop-again : tie.Need-loop-again Inv-loop μ-loop
-loop-again c = search needs
+loop-again c = c .before .before .list-next .ensures
 
 returns-2 : tie.Need-returns-2 Inv-loop μ-loop
 returns-2 c = search needs

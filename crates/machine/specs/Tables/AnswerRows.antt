@@ -7,9 +7,9 @@ use Rattle.machine.specs.declared.FixAnswer.the-variants.{Fixed, Refused
 use Rattle.machine.specs.declared.WordAnswer.the-variants.{Names, Refused as RefusedWord}
 use Rattle.machine.specs.declared.FindAnswer.the-variants.{At, Absent, Refused as RefusedFind}
 use Rattle.machine.specs.Machine.{State, frameIndex, pageNumber}
-use Rattle.machine.specs.Answers.{Answer, refused, done, handle, payload, inFrames, inStore, number, frame, nowhere, doneAnswer, fixAnswer, wordAnswer, findAnswer, placeAnswer, Shown, handedBack}
+use Rattle.machine.specs.Answers.{Answer, refused, done, handle, payload, inFrames, inStore, number, frame, nowhere, doneAnswer, fixAnswer, wordAnswer, findAnswer, placeOf, Shown, handedBack}
 use Rattle.machine.specs.Calls.{showCall, peekCall, wordCall, findCall}
-use Rattle.machine.specs.Tables.Rows.{resident, names, swizzledTo, page, machine, handleOf, Case, answers, leaves, hands, allHold}
+use Rattle.machine.specs.Tables.Rows.{resident, names, swizzledTo, page, machine, handleOf, Case, is, answers, placed, leaves, hands, allHold}
 
 -- page 1 in frame 1 by the root's slot 0, page 2 not resident, named by the root's slot 1
 abbrev two : State
@@ -31,9 +31,9 @@ answerTable =
     ∷ answers (findAnswer (RefusedFind 6)) (refused 6)
     ∷ answers (doneAnswer 0) done
     ∷ answers (doneAnswer 9) (refused 9)
-    ∷ answers (placeAnswer (record { refusal = 0; in_store = false; start = 320; size = 192 })) (payload inFrames 320 192)
-    ∷ answers (placeAnswer (record { refusal = 0; in_store = true; start = 576; size = 192 })) (payload inStore 576 192)
-    ∷ answers (placeAnswer (record { refusal = 3; in_store = true; start = 576; size = 192 })) (refused 3)
+    ∷ is (placed (placeOf (payload inFrames 320 192))) (0 ∷ 0 ∷ 320 ∷ 192 ∷ [])
+    ∷ is (placed (placeOf (payload inStore 576 192))) (0 ∷ 1 ∷ 576 ∷ 192 ∷ [])
+    ∷ is (placed (placeOf (refused 3))) (3 ∷ 0 ∷ 0 ∷ 0 ∷ [])
     -- "Show hands back a handle's payload." "Peek, by page number, hands back the payload from the frame if resident, otherwise from the store." "Both put their number, 0 if accepted, into a number the caller lends."
     ∷ hands (handed (showCall two (handleOf 1 1) .answer)) (5, 1320) (replicate 192 11) 0
     ∷ hands (handed (peekCall two (pageNumber 1) .answer)) (5, 1320) (replicate 192 11) 0

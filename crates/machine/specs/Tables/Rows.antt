@@ -8,6 +8,7 @@ use Rattle.page.specs.Word.{wordAt, putWord, nameOf, renamed, givesPage}
 use Rattle.page.specs.Page.{slot, putSlot, pageOf, putPage, putPayload, bytesFrom}
 use Rattle.machine.specs.declared.FrameRecord.{FrameRecord}
 use Rattle.machine.specs.declared.Handle.{Handle}
+use Rattle.machine.specs.declared.Place.{Place}
 use Rattle.machine.specs.Tests.{pick, _and_, _or_, _⇒_, every, some, firstBroken, verdict}
 use Rattle.machine.specs.Machine.{State, state, frameIndex, pageNumber, zeroPool, openedPool, occupied, foundFrom}
 use Rattle.machine.specs.Agreement.{isBlank, rootInPlace, pagesApart, handInRange, fieldsInRange, allInRange, emptyBlank, parentsName, pointsBack, swizzledPointBack, absent, numbersAbsent, numbersOnce, reachesRoot, allReachRoot, agree}
@@ -15,7 +16,7 @@ use Rattle.machine.specs.Soundness.{wordsBelow, wordsOnce, sound}
 use Rattle.machine.specs.Moves.{plain, imageTo, writtenOutBy, writtenOutTo, cleanedTo, settled, evicted, loaded}
 use Rattle.machine.specs.Sweep.{after, emptyFrom, childless, standing, lookLeaves, lookTakes, sweepFrom}
 use Rattle.machine.specs.Naming.{currentWord, named, namedByResident, repeated, wordLoadable, loadable}
-use Rattle.machine.specs.Answers.{Answer, refused, done, handle, payload, inFrames, inStore, number, frame, nowhere, doneAnswer, placeAnswer, cut, Shown, Out}
+use Rattle.machine.specs.Answers.{Answer, refused, done, handle, payload, inFrames, inStore, number, frame, nowhere, doneAnswer, cut, Shown, Out}
 use Rattle.machine.specs.Rules.{lengthsFit, handleFits, rangeFits}
 use Rattle.machine.specs.Calls.{decide, openCall, rootCall, fixCall, missOut, unfixCall, showCall, payloadPlace, peekCall, wordCall, writeCall, linkCall, unlinkCall, evictCall, settleCall, foundAnswer, findCall}
 
@@ -92,6 +93,14 @@ which nowhere = 7
 abbrev fields : FrameRecord → List ℕ
 fields r = r .used ∷ r .dirty ∷ r .usage ∷ r .slot ∷ r .parent .0 ∷ r .pins ∷ r .page .0 ∷ []
 
+abbrev flag : Bool → ℕ
+flag false = 0
+flag true = 1
+
+-- a place's fields: the refusal, whether it is in the store, start and size
+abbrev pub placed : Place → List ℕ
+placed p = p .refusal ∷ flag (p .in_store) ∷ p .start ∷ p .size ∷ []
+
 -- all of a machine: every record's fields, F, N, the hand, and both buffers with their lengths
 abbrev whole : State → List ℕ
 whole s =
@@ -133,6 +142,6 @@ sameNumbers (x ∷ xs) (y ∷ ys) = eqb x y && sameNumbers xs ys
 
 -- every row gives what document 01 says. To unfold it unfolds the definitions that the rows are computed by.
 unfoldable pub allHold : List Case → Bool
-unfolding sameNumbers openCall rootCall fixCall missOut unfixCall showCall payloadPlace peekCall wordCall writeCall linkCall unlinkCall evictCall settleCall foundAnswer findCall decide verdict firstBroken pick _and_ _or_ _⇒_ every some lengthsFit handleFits rangeFits agree rootInPlace pagesApart handInRange allInRange fieldsInRange emptyBlank isBlank parentsName pointsBack swizzledPointBack absent numbersAbsent givesPage numbersOnce reachesRoot allReachRoot sound wordsBelow wordsOnce zeroPool openedPool occupied foundFrom nameOf renamed slot wordAt putSlot putWord pageOf putPage putPayload bytesFrom plain imageTo writtenOutBy writtenOutTo cleanedTo settled evicted loaded after emptyFrom childless standing lookLeaves lookTakes sweepFrom currentWord named namedByResident repeated wordLoadable loadable doneAnswer placeAnswer cut
+unfolding sameNumbers openCall rootCall fixCall missOut unfixCall showCall payloadPlace peekCall wordCall writeCall linkCall unlinkCall evictCall settleCall foundAnswer findCall decide verdict firstBroken pick _and_ _or_ _⇒_ every some lengthsFit handleFits rangeFits agree rootInPlace pagesApart handInRange allInRange fieldsInRange emptyBlank isBlank parentsName pointsBack swizzledPointBack absent numbersAbsent givesPage numbersOnce reachesRoot allReachRoot sound wordsBelow wordsOnce zeroPool openedPool occupied foundFrom nameOf renamed slot wordAt putSlot putWord pageOf putPage putPayload bytesFrom plain imageTo writtenOutBy writtenOutTo cleanedTo settled evicted loaded after emptyFrom childless standing lookLeaves lookTakes sweepFrom currentWord named namedByResident repeated wordLoadable loadable doneAnswer cut
 allHold [] = true
 allHold (c ∷ cs) = sameNumbers (c .gives) (c .says) && allHold cs

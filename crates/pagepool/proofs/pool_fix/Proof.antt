@@ -1,5 +1,5 @@
 -- `pagepool::pool_fix` meets its contract. Assumes nothing.
-use Rattle.pagepool.specs.StructLaws.{fixed-out, fix-numbered}
+use Rattle.pagepool.specs.StructLaws.{fixed-out}
 use borrow.Author.Needs.{needs}
 use Rattle.pagepool.proofs.pool_fix.Statement.{statement}
 use Rattle.pagepool.proofs.pool_fix.Tie as tie
@@ -17,7 +17,7 @@ same-length-2 : tie.Need-same-length-2
 same-length-2 c = search needs
 
 returns : tie.Need-returns
-returns c = let fix = c .before .before .before .before .before .fix in fixed-out (fix .result) _ _ (c .from-fix .ensures) (fix .ensures) (fix-numbered _ _ _)
+returns c = let fix = c .before .before .before .before .before .fix in fixed-out (fix .result) _ _ (c .from-fix .ensures) (fix .ensures)
 
 pub pool-fix-spec : {M : Type 1} → statement M
 pool-fix-spec =

@@ -1,5 +1,5 @@
 -- `pagepool::pool_root` meets its contract. Assumes nothing.
-use Rattle.pagepool.specs.StructLaws.{fixed-out, root-numbered}
+use Rattle.pagepool.specs.StructLaws.{fixed-out}
 use borrow.Author.Needs.{needs}
 use Rattle.pagepool.proofs.pool_root.Statement.{statement}
 use Rattle.pagepool.proofs.pool_root.Tie as tie
@@ -11,7 +11,7 @@ from-fix-requires : tie.Need-from-fix-requires
 from-fix-requires c κs = search needs
 
 returns : tie.Need-returns
-returns c = fixed-out (c .before .root .result) _ _ (c .from-fix .ensures) (c .before .root .ensures) (root-numbered _)
+returns c = fixed-out (c .before .root .result) _ _ (c .from-fix .ensures) (c .before .root .ensures)
 
 pub pool-root-spec : {M : Type 1} → statement M
 pool-root-spec = tie.close (tie.spec root-requires from-fix-requires returns)

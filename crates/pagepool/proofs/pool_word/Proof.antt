@@ -1,5 +1,6 @@
 -- `pagepool::pool_word` meets its contract. Assumes nothing.
-use Rattle.pagepool.specs.StructLaws.{named-answer, word-numbered}
+use mathlib.Core.Path.{_∙_, ap}
+use Rattle.pagepool.specs.Structs.{namedOf}
 use borrow.Author.Needs.{needs}
 use Rattle.pagepool.proofs.pool_word.Statement.{statement}
 use Rattle.pagepool.proofs.pool_word.Tie as tie
@@ -11,7 +12,7 @@ from-word-requires : tie.Need-from-word-requires
 from-word-requires c κs = search needs
 
 returns : tie.Need-returns
-returns c = named-answer (c .before .word .result) (c .from-word .ensures) (c .before .word .ensures) (word-numbered _ _ _)
+returns c = c .from-word .ensures ∙ ap namedOf (c .before .word .ensures)
 
 pub pool-word-spec : {M : Type 1} → statement M
 pool-word-spec = tie.close (tie.spec word-requires from-word-requires returns)

@@ -1,0 +1,110 @@
+-- `listing::block::list_records` meets its contract: each record on the state that the one before left, and its line after the lines before. Assumes nothing.
+use Prim.Native.Nat.{_*_, _-_, _/_, _≤_}
+use mathlib.Core.Path.{_≡_, refl, sym, _∙_}
+use mathlib.Core.List.{[]}
+use native.Mathlib.Omega.{arith}
+use lib.ListN.{length, take}
+use Rattle.io.proofs.Counting.{counts}
+use Rattle.machine.specs.Machine.{state}
+use Rattle.listing.specs.Printing.{printed, listedFrom}
+use Rattle.listing.specs.PrintingLaws.{all-listed, none-listed, one-listed, one-printed}
+use borrow.Author.Needs.{needs}
+use Rattle.listing.proofs.block.list_records.Statement.{statement}
+use Rattle.listing.proofs.block.list_records.Tie as tie
+
+abbrev Inv-loop : tie.InvT-loop
+Inv-loop frames₀ store₀ block text₀ count pool₀ end₀ odd₀ i₀ frames store text pool end odd i = (i ≤ count) × (16 * count ≤ length block) × (end ≤ 24 * i) × (24 * count ≤ length text₀) × (length frames ≡ length frames₀) × (length store ≡ length store₀) × (length text ≡ length text₀) × (listedFrom count block 0 (printed [] (state pool₀ frames₀ store₀)) ≡ listedFrom (count - i) block i (printed (take end text) (state pool frames store)))
+
+abbrev μ-loop : tie.MeasureT-loop
+μ-loop frames₀ store₀ block text₀ count pool₀ end₀ odd₀ i₀ frames store text pool end odd i = count - i
+
+loop-holds : tie.Need-loop-holds Inv-loop μ-loop
+loop-holds c = (search needs, omega arith, search needs, c .before .before .before .before .pre, refl, refl, refl, all-listed _ _ _)
+
+mul-at : tie.Need-mul-at Inv-loop μ-loop
+mul-at c = search needs
+
+slice-aggregate-copy-into : tie.Need-slice-aggregate-copy-into Inv-loop μ-loop
+slice-aggregate-copy-into c = search needs
+
+add-copy-into : tie.Need-add-copy-into Inv-loop μ-loop
+add-copy-into c = search needs
+
+sub-copy-into : tie.Need-sub-copy-into Inv-loop μ-loop
+sub-copy-into c = search needs
+
+part-copy-into-start : tie.Need-part-copy-into-start Inv-loop μ-loop
+part-copy-into-start c = search needs
+
+part-copy-into-end : tie.Need-part-copy-into-end Inv-loop μ-loop
+part-copy-into-end c = search needs
+
+copy-into-requires : tie.Need-copy-into-requires Inv-loop μ-loop
+copy-into-requires c κs = search needs
+
+list-record-requires : tie.Need-list-record-requires Inv-loop μ-loop
+list-record-requires c κs = search needs
+
+oddity-requires : tie.Need-oddity-requires Inv-loop μ-loop
+oddity-requires c κs = search needs
+
+wrapping-add-u64-requires : tie.Need-wrapping-add-u64-requires Inv-loop μ-loop
+wrapping-add-u64-requires c κs = search needs
+
+put-line-requires : tie.Need-put-line-requires Inv-loop μ-loop
+put-line-requires c κs = search needs
+
+add-i : tie.Need-add-i Inv-loop μ-loop
+add-i c = let h = add-copy-into (c .before .before .before .before .before .before .before .before .before .before .before .before .before .before .before .before .before .before) .fits in record { fits = omega (arith, h) }
+
+loop-less : tie.Need-loop-less Inv-loop μ-loop
+loop-less c = search needs
+
+loop-again : tie.Need-loop-again Inv-loop μ-loop
+loop-again c =
+    let l = c .before .before .before .before .before .before .before .before .before .before .before .before .before .before .before .before .before .before .before .before .loop in
+    let b = c .before .before .before .before .before .before .before .before .before .before .before .before .before .before .before .before .before .before .before .before .before .before .before .before .before .args .block .now in
+    let run = one-printed (take (l .end) (l .text)) _ (c .before .before .before .before .before .before .before .before .before .before .before .list-record .ensures) (c .before .before .before .put-line .ensures .1) in
+    (omega arith, l .inv .1, omega arith, l .inv .3, omega arith, omega arith, omega arith, l .inv .7 ∙ one-listed b (length b / 16) (l .i) (take (l .end) (l .text)) (state (l .pool) (l .frames) (l .store)) (c .before .before .before .before .before .before .before .before .before .before .before .before .before .before .before .before .before .before .before .loop-test .taken) (c .before .before .before .before .before .before .before .before .before .before .before .before .before .before .before .before .copy-into .ensures .0) run)
+
+same-length : tie.Need-same-length Inv-loop μ-loop
+same-length c = c .before .loop .inv .4
+
+same-length-2 : tie.Need-same-length-2 Inv-loop μ-loop
+same-length-2 c = c .before .loop .inv .5
+
+same-length-3 : tie.Need-same-length-3 Inv-loop μ-loop
+same-length-3 c = c .before .loop .inv .6
+
+returns : tie.Need-returns Inv-loop μ-loop
+returns c =
+    let l = c .before .loop in
+    let b = c .before .before .before .before .before .before .args .block .now in
+    let h : l .end ≤ length (l .text) = omega arith in
+    (counts _ _ h, sym (l .inv .7 ∙ none-listed b (length b / 16) (l .i) _ (c .loop-test .left)))
+
+pub list-records-spec : {M : Type 1} → statement M
+list-records-spec =
+    tie.close
+    (tie.spec
+    Inv-loop
+    μ-loop
+    loop-holds
+    mul-at
+    slice-aggregate-copy-into
+    add-copy-into
+    sub-copy-into
+    part-copy-into-start
+    part-copy-into-end
+    copy-into-requires
+    list-record-requires
+    oddity-requires
+    wrapping-add-u64-requires
+    put-line-requires
+    add-i
+    loop-less
+    loop-again
+    same-length
+    same-length-2
+    same-length-3
+    returns)

@@ -1,0 +1,51 @@
+"""The program a record at a time, and the command ./listing: what it prints, what it says on standard error, and how it ends."""
+import os
+import select
+import subprocess
+
+RECORD = 16
+COMMAND = os.path.join(os.path.dirname(os.path.abspath(__file__)), "../../listing")
+
+
+def line_by_line(program, given):
+    """The lines of records that are handed over one by one, each once the line before it is there."""
+    run = subprocess.Popen([program], stdin=subprocess.PIPE, stdout=subprocess.PIPE, bufsize=0)
+    lines = []
+    for at in range(0, len(given), RECORD):
+        run.stdin.write(given[at:at + RECORD])
+        if not select.select([run.stdout], [], [], 10)[0]:
+            lines.append("no line within 10 seconds")
+            break
+        lines += run.stdout.read(100).decode("ascii", "replace").split("\n")[:-1]
+    run.communicate()
+    return lines
+
+
+def ends(arguments, stdout=subprocess.PIPE, **given):
+    """The status, the lines and the words on standard error of a run of the command."""
+    run = subprocess.run([COMMAND, *arguments], stdout=stdout, stderr=subprocess.PIPE, **given)
+    printed, said = ((text or b"").decode("utf-8", "replace") for text in (run.stdout, run.stderr))
+    return run.returncode, printed.split("\n")[:-1], said
+
+
+def runs(given, wanted):
+    """Each use of the command: its name, what came of it, the status and the lines that are wanted, and what standard error has to say."""
+    yield "a recording", ends(["-"], input=given), 0, wanted, ""
+    yield "a part record", ends(["-"], input=given + given[:5]), 0, wanted, "a part record of 5 bytes"
+    yield "a text", ends(["-"], input=b"a text of 16 by\n"), 0, ["97 17 0 0"], "is this a recording?"
+    yield "no such file", ends(["nosuch"]), 2, [], "no such file"
+    with open("/dev/full", "wb") as full:
+        yield "no room for the lines", ends(["-"], stdout=full, input=given), 1, [], "could not all be written"
+    folder = os.open("/", os.O_RDONLY)
+    yield "a directory as standard input", ends(["-"], stdin=folder), 1, [], "could not be read"
+    os.close(folder)
+
+
+def results(program, given, wanted, compare):
+    """Whether each comparison holds."""
+    yield compare("a record at a time", line_by_line(program, given), wanted)
+    for name, (status, lines, said), status_wanted, lines_wanted, words in runs(given, wanted):
+        yield compare(f"./listing, {name}", lines + [f"status {status}"], lines_wanted + [f"status {status_wanted}"])
+        yield compare(f"./listing, {name}, says", [] if (words in said if words else not said) else [said.strip() or "nothing"], [])
+    status, lines, said = ends(["--help"])
+    yield compare("./listing --help", [status, "./listing FILE" in " ".join(lines), said], [0, True, ""])
