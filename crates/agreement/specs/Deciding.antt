@@ -12,9 +12,9 @@ abbrev pub Decides : Bool → Type 0 → Type 0
 Decides true P = P
 Decides false P = P → ⊥
 
-pub holds : (b : Bool) (P : Type 0) → Decides b P → b ≡ true → P
-holds true P d e = d
-holds false P d e = absurd (clash (sym e))
+pub decided : (b : Bool) (P : Type 0) → Decides b P → b ≡ true → P
+decided true P d e = d
+decided false P d e = absurd (clash (sym e))
 
 pub fails : (b : Bool) (P : Type 0) → Decides b P → b ≡ false → P → ⊥
 fails true P d e = absurd (clash e)

@@ -19,7 +19,7 @@ use Rattle.seen.specs.Seen.{Seen}
 use Rattle.residents.specs.Residents.{Residents}
 use Rattle.residents.specs.Handed.{Handed}
 use Rattle.agreement.specs.Counting.{countIf}
-use Rattle.agreement.specs.Twice.{Passed, Progress}
+use Rattle.agreement.specs.Twice.{PassedRow, Progress}
 
 -- ---- a record by itself
 
@@ -63,7 +63,7 @@ pub record RootFits (r : FrameRecord) : Type 0 where
   pub page : r .page .0 ≡ 0
 
 -- the record of another occupied frame
-pub record Resident (F N : ℕ) (r : FrameRecord) : Type 0 where
+pub record ResidentFits (F N : ℕ) (r : FrameRecord) : Type 0 where
   pub pins : r .pins ≤ maxPins
   pub usage : r .usage ≤ maxUsage
   pub dirty : r .dirty ≤ 1
@@ -80,7 +80,7 @@ pub record Linked (fs : List ℕ) (f : ℕ) (r : FrameRecord) (above : Bool) : T
 -- the record of frame f, and the word that names it
 pub record Fits (fs : List ℕ) (F N f : ℕ) (r : FrameRecord) (above : Bool) : Type 0 where
   pub root : f ≡ 0 → RootFits r
-  pub resident : f ≢ 0 → isUsed r ≡ true → Resident F N r
+  pub resident : f ≢ 0 → isUsed r ≡ true → ResidentFits F N r
   pub linked : f ≢ 0 → isUsed r ≡ true → Linked fs f r above
   pub empty : isUsed r ≡ false → Blank r
 
@@ -103,8 +103,8 @@ unfoldable pub numberIn : List FrameRecord → List ℕ → ℕ → ℕ → ℕ 
 numberIn rs fs N f j = pick (eqb j 0) (pageIn rs f) (numberBelow N (name fs f (j - 1)))
 
 -- the numbers of the frames one after the other, 0 for an empty frame's
-unfoldable pub numbers : List FrameRecord → List ℕ → ℕ → ℕ → ℕ
-numbers rs fs N i = pick (isUsed (recordAt rs (i / perFrame))) (numberIn rs fs N (i / perFrame) (i % perFrame)) 0
+unfoldable pub numbersInFrames : List FrameRecord → List ℕ → ℕ → ℕ → ℕ
+numbersInFrames rs fs N i = pick (isUsed (recordAt rs (i / perFrame))) (numberIn rs fs N (i / perFrame) (i % perFrame)) 0
 
 -- ---- the words that are not below N, which are to be swizzled, and the frames that they are to name
 
@@ -128,7 +128,7 @@ aboveUsed rs r = isUsed (recordAt rs (r .parent .0 % recordCount))
 
 pub record FramesFit (rs : List FrameRecord) (fs : List ℕ) (F N : ℕ) : Type 0 where
   pub fits : (f : ℕ) → f < F → Fits fs F N f (recordAt rs f) (aboveUsed rs (recordAt rs f))
-  pub once : (i j : ℕ) → i < j → j < perFrame * F → numbers rs fs N i ≡ numbers rs fs N j → numbers rs fs N i ≡ 0
+  pub once : (i j : ℕ) → i < j → j < perFrame * F → numbersInFrames rs fs N i ≡ numbersInFrames rs fs N j → numbersInFrames rs fs N i ≡ 0
   pub even : countIf (slotCount * F) (isOver rs fs N) + 1 ≡ countIf F (usedIn rs)
 
 -- ---- tables of numbers
@@ -159,7 +159,7 @@ pub record BelowOf (fs : List ℕ) (N at : ℕ) (ns : List ℕ) : Type 0 where
 -- the page and then the words of an occupied frame were noted: in any row that has them, the row goes on
 abbrev pub NotesNumbers : List ℕ → ℕ → ℕ → ℕ → Seen → Seen → Bool → Type 0
 NotesNumbers fs N at page seen seen' fresh =
-    (row : ℕ → ℕ) (i : ℕ) → row i ≡ page → HasWords fs N at row (i + 1) → Passed row i seen → Progress row (i + perFrame) seen' fresh
+    (row : ℕ → ℕ) (i : ℕ) → row i ≡ page → HasWords fs N at row (i + 1) → PassedRow row i seen → Progress row (i + perFrame) seen' fresh
 
 -- none of the words from `at` on is a number below N
 abbrev pub NoNumber : List ℕ → ℕ → ℕ → Type 0
@@ -199,17 +199,17 @@ pub record FrameNoted (fs : List ℕ) (F N f : ℕ) (r : FrameRecord) (above : B
   pub fits : ok ≡ true → Fits fs F N f r above
   pub counts : ok ≡ true → isUsed r ≡ true → over ≡ countIf slotCount (overFrom fs N (pageSize * f))
   pub nothing : ok ≡ true → isUsed r ≡ false → over ≡ 0
-  pub notes : (row : ℕ → ℕ) (i : ℕ) → HasNumbers fs N f r row i → Passed row i seen → Fits fs F N f r above → Progress row (i + perFrame) seen' ok
+  pub notes : (row : ℕ → ℕ) (i : ℕ) → HasNumbers fs N f r row i → PassedRow row i seen → Fits fs F N f r above → Progress row (i + perFrame) seen' ok
 
 -- ---- the parents
 
-abbrev pub parentIn : List FrameRecord → ℕ → ℕ
-parentIn rs f = recordAt rs f .parent .0
+abbrev pub parentAt : List FrameRecord → ℕ → ℕ
+parentAt rs f = recordAt rs f .parent .0
 
 -- the table has the parent of each of F frames
 pub record HasParents (rs : List FrameRecord) (F : ℕ) (t : List ℕ) : Type 0 where
   pub size : F ≤ length t
-  pub parent : Entries (parentIn rs) F t
+  pub parent : Entries (parentAt rs) F t
 
 -- following parents from each of F frames reaches frame 0
 abbrev pub AllLead : (ℕ → ℕ) → ℕ → Type 0
@@ -221,9 +221,9 @@ AllLead up F = (f : ℕ) → f < F → (n : ℕ) × (climb up n f ≡ 0)
 pub record Before (rs : List FrameRecord) (fs : List ℕ) (F N f : ℕ) (seen : Seen) (t residents : List ℕ) (occupied over : ℕ) : Type 0 where
   pub most : f ≤ F
   pub fits : (g : ℕ) → g < f → Fits fs F N g (recordAt rs g) (aboveUsed rs (recordAt rs g))
-  pub passed : Passed (numbers rs fs N) (perFrame * f) seen
+  pub passed : PassedRow (numbersInFrames rs fs N) (perFrame * f) seen
   pub room : F ≤ length t
-  pub parents : Entries (parentIn rs) f t
+  pub parents : Entries (parentAt rs) f t
   pub size : length residents ≡ mostFrames
   pub held : Entries (pageIn rs) f residents
   pub clear : (g : ℕ) → f ≤ g → entry residents g ≡ 0
@@ -235,9 +235,9 @@ pub record Settled (rs : List FrameRecord) (fs : List ℕ) (F N : ℕ) (seen : S
   pub rest : RestBlank rs F
   pub fit : FramesFit rs fs F N
   pub parents : HasParents rs F t
-  pub passed : Passed (numbers rs fs N) (perFrame * F) seen
+  pub passed : PassedRow (numbersInFrames rs fs N) (perFrame * F) seen
   pub held : Residents rs residents
 
 -- the answer, and what it tells of the tables
-abbrev pub Outcome : Pool → List ℕ → List ℕ → Seen → Bool → Type 0
-Outcome p fs residents seen r = (r ≡ agree p fs) × (r ≡ true → Handed p fs residents seen)
+abbrev pub Decided : Pool → List ℕ → List ℕ → Seen → Bool → Type 0
+Decided p fs residents seen r = (r ≡ agree p fs) × (r ≡ true → Handed p fs residents seen)

@@ -25,7 +25,7 @@ use Rattle.machine.specs.Machine.{isUsed, recordAt, pageIn}
 use Rattle.machine.specs.Agreement.{isBlank}
 use Rattle.seen.specs.Fold.{fold}
 use Rattle.agreement.specs.Counting.{countIf, count-zero, count-yes, count-no, count-add, count-ext, count-none, count-le}
-use Rattle.agreement.specs.Fit.{Blank, firstFields, lastFields, NoField, Gathers, RootFits, Resident, Linked, Fits, numberBelow, perFrame, numberIn, numbers, overFrom, isOver, HasWords, HasNumbers, overWeight, entry, Entries, BelowOf, weight, addWord, fill, SumsWords}
+use Rattle.agreement.specs.Fit.{Blank, firstFields, lastFields, NoField, Gathers, RootFits, ResidentFits, Linked, Fits, numberBelow, perFrame, numberIn, numbersInFrames, overFrom, isOver, HasWords, HasNumbers, overWeight, entry, Entries, BelowOf, weight, addWord, fill, SumsWords}
 
 -- ---- the all-zero record
 
@@ -141,31 +141,31 @@ module _ (rs : List FrameRecord) (fs : List ℕ) (N f : ℕ) where
     at-place : (perFrame * f + j) % perFrame ≡ j
     at-place = omega arith
 
-    pub numbers-used : isUsed (recordAt rs f) ≡ true → numbers rs fs N (perFrame * f + j) ≡ numberIn rs fs N f j
-    unfolding numbers
+    pub numbers-used : isUsed (recordAt rs f) ≡ true → numbersInFrames rs fs N (perFrame * f + j) ≡ numberIn rs fs N f j
+    unfolding numbersInFrames
     numbers-used u = rw (at-frame, at-place) (sym (pick-yes 0 u refl))
 
-    pub numbers-empty : isUsed (recordAt rs f) ≡ false → numbers rs fs N (perFrame * f + j) ≡ 0
-    unfolding numbers
+    pub numbers-empty : isUsed (recordAt rs f) ≡ false → numbersInFrames rs fs N (perFrame * f + j) ≡ 0
+    unfolding numbersInFrames
     numbers-empty u = rw (at-frame, at-place) (sym (pick-no _ u refl))
 
-  pub numbers-page : isUsed (recordAt rs f) ≡ true → numbers rs fs N (perFrame * f) ≡ pageIn rs f
+  pub numbers-page : isUsed (recordAt rs f) ≡ true → numbersInFrames rs fs N (perFrame * f) ≡ pageIn rs f
   unfolding numberIn
   numbers-page u =
-      ap (numbers rs fs N) (sym (add-zero (perFrame * f))) ∙ numbers-used 0 (omega arith) u ∙ sym (pick-yes (numberBelow N (name fs f (0 - 1))) (eq-eqb 0 0 refl) refl)
+      ap (numbersInFrames rs fs N) (sym (add-zero (perFrame * f))) ∙ numbers-used 0 (omega arith) u ∙ sym (pick-yes (numberBelow N (name fs f (0 - 1))) (eq-eqb 0 0 refl) refl)
 
-  pub numbers-word : (k : ℕ) → k < slotCount → isUsed (recordAt rs f) ≡ true → numbers rs fs N (perFrame * f + (1 + k)) ≡ numberBelow N (name fs f k)
+  pub numbers-word : (k : ℕ) → k < slotCount → isUsed (recordAt rs f) ≡ true → numbersInFrames rs fs N (perFrame * f + (1 + k)) ≡ numberBelow N (name fs f k)
   unfolding numberIn
   numbers-word k h u =
       let e : 1 + k - 1 ≡ k = omega arith in
       numbers-used (1 + k) (omega arith) u ∙ sym (pick-no (pageIn rs f) (ne-eqb (1 + k) 0 (λ z. omega arith)) refl) ∙ ap (λ (x : ℕ). numberBelow N (name fs f x)) e
 
   -- the row has the words of an occupied frame
-  has-words : isUsed (recordAt rs f) ≡ true → HasWords fs N (pageSize * f) (numbers rs fs N) (perFrame * f + 1)
-  has-words u k h = ap (numbers rs fs N) (add-assoc (perFrame * f) 1 k) ∙ numbers-word k h u ∙ ap (numberBelow N) (name-row fs f k)
+  has-words : isUsed (recordAt rs f) ≡ true → HasWords fs N (pageSize * f) (numbersInFrames rs fs N) (perFrame * f + 1)
+  has-words u k h = ap (numbersInFrames rs fs N) (add-assoc (perFrame * f) 1 k) ∙ numbers-word k h u ∙ ap (numberBelow N) (name-row fs f k)
 
   -- the row has the numbers of frame f
-  pub has-numbers : HasNumbers fs N f (recordAt rs f) (numbers rs fs N) (perFrame * f)
+  pub has-numbers : HasNumbers fs N f (recordAt rs f) (numbersInFrames rs fs N) (perFrame * f)
   has-numbers = record { page = numbers-page; words = has-words; empty = λ u j h. numbers-empty j h u }
 
   -- ---- the words that are not below N, counted frame by frame
@@ -210,7 +210,7 @@ module _ (fs : List ℕ) (F N f : ℕ) (r : FrameRecord) (above : Bool) where
   pub fits-root : f ≡ 0 → RootFits r → Fits fs F N f r above
   fits-root z k = record { root = λ e. k; resident = λ n. absurd (n z); linked = λ n. absurd (n z); empty = λ u. absurd (clash (sym (k .used) ∙ u)) }
 
-  pub fits-linked : f ≢ 0 → isUsed r ≡ true → Resident F N r → Linked fs f r above → Fits fs F N f r above
+  pub fits-linked : f ≢ 0 → isUsed r ≡ true → ResidentFits F N r → Linked fs f r above → Fits fs F N f r above
   fits-linked n u k l = record { root = λ z. absurd (n z); resident = λ m v. k; linked = λ m v. l; empty = λ v. absurd (clash (sym u ∙ v)) }
 
   pub fits-empty : f ≢ 0 → Blank r → Fits fs F N f r above

@@ -22,23 +22,23 @@ use Rattle.residents.specs.ResidentLaws.{in-table, table-in, held-of, of-held, 
 use Rattle.residents.specs.Handed.{Handed}
 use Rattle.agreement.specs.Sizes.{Sizes}
 use Rattle.agreement.specs.Deciding.{Decides}
-use Rattle.agreement.specs.Twice.{Passed}
-use Rattle.agreement.specs.Fit.{perFrame, numbers, entry, AllLead, Settled, Outcome}
+use Rattle.agreement.specs.Twice.{PassedRow}
+use Rattle.agreement.specs.Fit.{perFrame, numbersInFrames, entry, AllLead, Settled, Decided}
 use Rattle.agreement.specs.FitLaws.{below-low, numbers-page, numbers-word}
 use Rattle.agreement.specs.Same.{nothing, page, loose, at, end-lead}
 
 module _ (p : Pool) (fs : List ℕ) (S : Sizes (p .count) (p .pages) fs) (A : Agreed p fs) (residents : List ℕ) (T : Residents (p .records) residents)
-    (seen : Seen) (P : Passed (numbers (p .records) fs (p .pages)) (perFrame * p .count) seen) where
+    (seen : Seen) (P : PassedRow (numbersInFrames (p .records) fs (p .pages)) (perFrame * p .count) seen) where
   abbrev s : State
   s = state p fs []
 
   -- ---- what is in the row of the numbers
 
   abbrev inRow : ℕ → Bool
-  inRow = among (numbers (p .records) fs (p .pages)) (perFrame * p .count)
+  inRow = among (numbersInFrames (p .records) fs (p .pages)) (perFrame * p .count)
 
-  row-at : (i x : ℕ) → i < perFrame * p .count → numbers (p .records) fs (p .pages) i ≡ x → inRow x ≡ true
-  row-at i x l e = is-among (numbers (p .records) fs (p .pages)) (perFrame * p .count) x i l e
+  row-at : (i x : ℕ) → i < perFrame * p .count → numbersInFrames (p .records) fs (p .pages) i ≡ x → inRow x ≡ true
+  row-at i x l e = is-among (numbersInFrames (p .records) fs (p .pages)) (perFrame * p .count) x i l e
 
   row-page : (f x : ℕ) → occupied p f ≡ true → pageIn (p .records) f ≡ x → inRow x ≡ true
   row-page f x o e = row-at (perFrame * f) x (omega (arith, occupied-lt p f o)) (numbers-page (p .records) fs (p .pages) f (occupied-used p f o) ∙ e)
@@ -56,8 +56,8 @@ module _ (p : Pool) (fs : List ℕ) (S : Sizes (p .count) (p .pages) fs) (A : Ag
 
     row-named : inRow x ≡ true → namedByResident s x ≡ true
     row-named t =
-        let r = among-is (numbers (p .records) fs (p .pages)) (perFrame * p .count) x t in
-        let e : numbers (p .records) fs (p .pages) (r .0) ≡ x = r .2 in
+        let r = among-is (numbersInFrames (p .records) fs (p .pages)) (perFrame * p .count) x t in
+        let e : numbersInFrames (p .records) fs (p .pages) (r .0) ≡ x = r .2 in
         by ∙ elim (at p fs S A (r .0) (r .1)) [
           | nothing z ↦ absurd (omega arith)
           | page f o m q ↦ or-left _ (in-table s (S .most) A residents T f x o (sym q ∙ e))
@@ -77,7 +77,7 @@ module _ (p : Pool) (fs : List ℕ) (S : Sizes (p .count) (p .pages) fs) (A : Ag
 
 -- the last test gives the answer. The code has F as `count`.
 pub end-all : (p : Pool) (fs : List ℕ) (S : Sizes (p .count) (p .pages) fs) (count : ℕ) → count ≡ p .count → (seen : Seen) (t residents : List ℕ) → Settled (p .records) fs count (p .pages) seen t residents
-    → (h : ℕ) → h ≡ p .hand .0 → h < count → (r : Bool) → Decides r (AllLead (entry t) count) → Outcome p fs residents seen r
+    → (h : ℕ) → h ≡ p .hand .0 → h < count → (r : Bool) → Decides r (AllLead (entry t) count) → Decided p fs residents seen r
 end-all p fs S count e seen t residents Z h q l r d =
     let a = end-lead p fs S count e seen t residents Z h q l r d in
     (a, λ z. handed p fs S (facts p fs (sym a ∙ z)) residents (Z .held) seen (rw e at (Z .passed)))

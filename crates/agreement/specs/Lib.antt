@@ -5,6 +5,6 @@ pub mod Twice
 pub mod Fit
 pub mod FitLaws
 pub mod PassLaws
-pub mod Steps
+pub mod ParentSteps
 pub mod Same
 pub mod Hands

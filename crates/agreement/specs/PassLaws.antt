@@ -18,7 +18,7 @@ use Rattle.residents.specs.Residents.{Residents}
 use Rattle.residents.specs.Handed.{Clear}
 use Rattle.agreement.specs.Counting.{countIf, count-zero, count-more, count-le}
 use Rattle.agreement.specs.Twice.{Progress, pass-none, not-twice}
-use Rattle.agreement.specs.Fit.{Blank, Gathers, Fits, perFrame, numbers, isOver, usedIn, aboveUsed, RestBlank, FramesFit, FrameNoted, entry, parentIn, Before, Settled}
+use Rattle.agreement.specs.Fit.{Blank, Gathers, Fits, perFrame, numbersInFrames, isOver, usedIn, aboveUsed, RestBlank, FramesFit, FrameNoted, entry, parentAt, Before, Settled}
 use Rattle.agreement.specs.FitLaws.{entries-more, has-numbers, over-used, over-empty}
 
 -- an entry of a table of zeros
@@ -33,7 +33,7 @@ module _ (rs : List FrameRecord) (fs : List ℕ) (F N : ℕ) where
   before-first t residents seen m C = record {
     most = omega arith;
     fits = λ g a. absurd (omega arith);
-    passed = rw (C .noneSeen) (pass-none (numbers rs fs N));
+    passed = rw (C .noneSeen) (pass-none (numbersInFrames rs fs N));
     room = m;
     parents = λ g a. absurd (omega arith);
     size = ap length (C .noPage) ∙ length-replicate {A = ℕ} mostFrames 0;
@@ -49,15 +49,15 @@ module _ (rs : List FrameRecord) (fs : List ℕ) (F N : ℕ) where
   module _ (f : ℕ) (seen : Seen) (t residents : List ℕ) (occupied over : ℕ) (B : Before rs fs F N f seen t residents occupied over) (l : f < F)
       (seen' : Seen) (more : ℕ) (ok : Bool) (D : FrameNoted fs F N f (recordAt rs f) (aboveUsed rs (recordAt rs f)) seen seen' more ok) where
     -- the frame's numbers in the row
-    progress : Fits fs F N f (recordAt rs f) (aboveUsed rs (recordAt rs f)) → Progress (numbers rs fs N) (perFrame * (f + 1)) seen' ok
+    progress : Fits fs F N f (recordAt rs f) (aboveUsed rs (recordAt rs f)) → Progress (numbersInFrames rs fs N) (perFrame * (f + 1)) seen' ok
     progress fit =
         let q : perFrame * (f + 1) ≡ perFrame * f + perFrame = omega arith in
-        rw q (D .notes (numbers rs fs N) (perFrame * f) (has-numbers rs fs N f) (B .passed) fit)
+        rw q (D .notes (numbersInFrames rs fs N) (perFrame * f) (has-numbers rs fs N f) (B .passed) fit)
 
     -- the frame doesn't fit
     pub misfit : ok ≡ false → FramesFit rs fs F N → ⊥
     misfit z fit =
-        not-twice (numbers rs fs N) (perFrame * (f + 1)) (perFrame * F) (omega arith) (fit .once) (rw z at (progress (fit .fits f l)))
+        not-twice (numbersInFrames rs fs N) (perFrame * (f + 1)) (perFrame * F) (omega arith) (fit .once) (rw z at (progress (fit .fits f l)))
 
     over-more : ok ≡ true → over + more ≡ countIf (slotCount * (f + 1)) (isOver rs fs N)
     over-more z = elim (case (isUsed (recordAt rs f))) [
@@ -69,13 +69,13 @@ module _ (rs : List FrameRecord) (fs : List ℕ) (F N : ℕ) where
         sum a b = rw (a, b)
 
     -- the frame fits
-    pub before-more : f < mostFrames → ok ≡ true → Before rs fs F N (f + 1) seen' (set t f (parentIn rs f)) (set residents f (pageIn rs f)) (occupied + boolByte (isUsed (recordAt rs f))) (over + more)
+    pub before-more : f < mostFrames → ok ≡ true → Before rs fs F N (f + 1) seen' (set t f (parentAt rs f)) (set residents f (pageIn rs f)) (occupied + boolByte (isUsed (recordAt rs f))) (over + more)
     before-more m z = record {
       most = omega arith;
       fits = λ g m. elim (ℕ-discrete g f) [ yes e ↦ rw e (D .fits z) | no e ↦ B .fits g (omega arith) ];
       passed = rw z at (progress (D .fits z));
-      room = rw (length-set t f (parentIn rs f)) (B .room);
-      parents = entries-more (parentIn rs) t f _ (omega (arith, B .room)) refl (B .parents);
+      room = rw (length-set t f (parentAt rs f)) (B .room);
+      parents = entries-more (parentAt rs) t f _ (omega (arith, B .room)) refl (B .parents);
       size = length-set residents f (pageIn rs f) ∙ B .size;
       held = entries-more (pageIn rs) residents f _ (omega (arith, B .size)) refl (B .held);
       clear = λ g a. getD-set-other residents f g (pageIn rs f) 0 (λ e. omega arith) ∙ B .clear g (omega arith);

@@ -22,11 +22,11 @@ use Rattle.machine.specs.Laws.AgreementFacts.{occupied-lt, occupied-used, make-
 use Rattle.machine.specs.Laws.Parents.{climb-zero, climb-suc, climb-reach, reach-climb}
 use Rattle.seen.specs.Seen.{Seen}
 use Rattle.agreement.specs.Sizes.{Sizes}
-use Rattle.agreement.specs.Deciding.{Decides, holds, fails}
+use Rattle.agreement.specs.Deciding.{Decides, decided, fails}
 use Rattle.agreement.specs.Counting.{countIf, without, without-of, without-other, count-without, Into, into-le, into-all}
-use Rattle.agreement.specs.Fit.{Blank, RootFits, Resident, Linked, Fits, RestBlank, perFrame, numbers, numberBelow, isOver, usedIn, aboveUsed, FramesFit, parentIn, entry, AllLead, Settled, Outcome}
+use Rattle.agreement.specs.Fit.{Blank, RootFits, ResidentFits, Linked, Fits, RestBlank, perFrame, numbersInFrames, numberBelow, isOver, usedIn, aboveUsed, FramesFit, parentAt, entry, AllLead, Settled, Decided}
 use Rattle.agreement.specs.FitLaws.{blank-of, of-blank, below-low, below-high, numbers-page, numbers-word, numbers-empty}
-use Rattle.agreement.specs.Steps.{Below, climb-same}
+use Rattle.agreement.specs.ParentSteps.{Below, climb-same}
 
 -- a flag that is 1 is in its range
 flag-range : {b : ℕ} → eqb b 1 ≡ true → b ≤ 1
@@ -50,7 +50,7 @@ module _ (p : Pool) (fs : List ℕ) (S : Sizes (p .count) (p .pages) fs) where
     root-fits : RootFits (recordAt (p .records) 0)
     root-fits = fits 0 (omega (arith, S .least)) .root refl
 
-    resident : (f : ℕ) → f ≢ 0 → f < p .count → isUsed (recordAt (p .records) f) ≡ true → Resident (p .count) (p .pages) (recordAt (p .records) f)
+    resident : (f : ℕ) → f ≢ 0 → f < p .count → isUsed (recordAt (p .records) f) ≡ true → ResidentFits (p .count) (p .pages) (recordAt (p .records) f)
     resident f n l u = fits f l .resident n u
 
     linked : (f : ℕ) → f ≢ 0 → f < p .count → isUsed (recordAt (p .records) f) ≡ true → Linked fs f (recordAt (p .records) f) (isUsed (recordAt (p .records) (parentOf p f)))
@@ -113,9 +113,9 @@ module _ (p : Pool) (fs : List ℕ) (S : Sizes (p .count) (p .pages) fs) where
     root = root-fits (fit .fits)
 
     row : ℕ → ℕ
-    row = numbers (p .records) fs (p .pages)
+    row = numbersInFrames (p .records) fs (p .pages)
 
-    of-used : (f : ℕ) → occupied p f ≡ true → f ≢ 0 → Resident (p .count) (p .pages) (recordAt (p .records) f)
+    of-used : (f : ℕ) → occupied p f ≡ true → f ≢ 0 → ResidentFits (p .count) (p .pages) (recordAt (p .records) f)
     of-used f o n = resident (fit .fits) f n (occupied-lt p f o) (occupied-used p f o)
 
     -- two places of the row with one number that is not 0 are one place
@@ -189,7 +189,7 @@ module _ (p : Pool) (fs : List ℕ) (S : Sizes (p .count) (p .pages) fs) where
     parent-below : (f : ℕ) → f < p .count → parentOf p f < p .count
     parent-below f l = in-range f (omega (arith, S .most)) .parent
 
-    code-facts : p .hand .0 < p .count → AllLead (parentIn (p .records)) (p .count) → Agreed p fs
+    code-facts : p .hand .0 < p .count → AllLead (parentAt (p .records)) (p .count) → Agreed p fs
     code-facts hand lead = record {
       root = root-occupied;
       rootPage = root .page;
@@ -236,7 +236,7 @@ module _ (p : Pool) (fs : List ℕ) (S : Sizes (p .count) (p .pages) fs) where
       page = A .rootPage;
     }
 
-    is-resident : (f : ℕ) → f < p .count → f ≢ 0 → occupied p f ≡ true → Resident (p .count) (p .pages) (recordAt (p .records) f)
+    is-resident : (f : ℕ) → f < p .count → f ≢ 0 → occupied p f ≡ true → ResidentFits (p .count) (p .pages) (recordAt (p .records) f)
     is-resident f l n o =
         let r = A .inRange f (omega (arith, S .most)) in
         record { pins = r .pins; usage = r .usage; dirty = r .dirty; slot = r .slot; parent = r .parent; page = r .page; other = λ e. n (A .apart f 0 o (A .root) (e ∙ sym (A .rootPage))) }
@@ -256,17 +256,17 @@ module _ (p : Pool) (fs : List ℕ) (S : Sizes (p .count) (p .pages) fs) where
 
     -- what stands at a place of the row
     pub data At (i : ℕ) : Type 0 where
-      nothing : numbers (p .records) fs (p .pages) i ≡ 0 → At i
-      page : (f : ℕ) → occupied p f ≡ true → i ≡ perFrame * f → numbers (p .records) fs (p .pages) i ≡ pageIn (p .records) f → At i
-      loose : (f k : ℕ) → occupied p f ≡ true → k < slotCount → i ≡ perFrame * f + (1 + k) → Number (name fs f k) → name fs f k ≢ 0 → numbers (p .records) fs (p .pages) i ≡ name fs f k → At i
+      nothing : numbersInFrames (p .records) fs (p .pages) i ≡ 0 → At i
+      page : (f : ℕ) → occupied p f ≡ true → i ≡ perFrame * f → numbersInFrames (p .records) fs (p .pages) i ≡ pageIn (p .records) f → At i
+      loose : (f k : ℕ) → occupied p f ≡ true → k < slotCount → i ≡ perFrame * f + (1 + k) → Number (name fs f k) → name fs f k ≢ 0 → numbersInFrames (p .records) fs (p .pages) i ≡ name fs f k → At i
 
     at-word : (i f k : ℕ) → i ≡ perFrame * f + (1 + k) → k < slotCount → occupied p f ≡ true → At i
     at-word i f k e h o =
-        let w : numbers (p .records) fs (p .pages) i ≡ numberBelow (p .pages) (name fs f k) = ap (numbers (p .records) fs (p .pages)) e ∙ numbers-word (p .records) fs (p .pages) f k h (occupied-used p f o) in
+        let w : numbersInFrames (p .records) fs (p .pages) i ≡ numberBelow (p .pages) (name fs f k) = ap (numbersInFrames (p .records) fs (p .pages)) e ∙ numbers-word (p .records) fs (p .pages) f k h (occupied-used p f o) in
         elim (decLt (name fs f k) (p .pages)) [
           | no b ↦ nothing (w ∙ below-high (p .pages) (name fs f k) (omega arith))
           | yes b ↦
-              let v : numbers (p .records) fs (p .pages) i ≡ name fs f k = w ∙ below-low (p .pages) (name fs f k) b in
+              let v : numbersInFrames (p .records) fs (p .pages) i ≡ name fs f k = w ∙ below-low (p .pages) (name fs f k) b in
               elim (ℕ-discrete (name fs f k) 0) [
                 | yes z ↦ nothing (v ∙ z)
                 | no z ↦ loose f k o h e (omega (arith, S .pages)) z v
@@ -275,10 +275,10 @@ module _ (p : Pool) (fs : List ℕ) (S : Sizes (p .count) (p .pages) fs) where
 
     at-frame : (i f j : ℕ) → i ≡ perFrame * f + j → j < perFrame → f < p .count → At i
     at-frame i f j e h l = elim (case (isUsed (recordAt (p .records) f))) [
-      | off u ↦ nothing (ap (numbers (p .records) fs (p .pages)) e ∙ numbers-empty (p .records) fs (p .pages) f j h u)
+      | off u ↦ nothing (ap (numbersInFrames (p .records) fs (p .pages)) e ∙ numbers-empty (p .records) fs (p .pages) f j h u)
       | on u ↦ elim (ℕ-discrete j 0) [
         | yes z ↦ let q : i ≡ perFrame * f = omega arith in
-            page f (make-occupied p f l u) q (ap (numbers (p .records) fs (p .pages)) q ∙ numbers-page (p .records) fs (p .pages) f u)
+            page f (make-occupied p f l u) q (ap (numbersInFrames (p .records) fs (p .pages)) q ∙ numbers-page (p .records) fs (p .pages) f u)
         | no z ↦ at-word i f (j - 1) (omega arith) (omega arith) (make-occupied p f l u)
       ]
     ]
@@ -286,7 +286,7 @@ module _ (p : Pool) (fs : List ℕ) (S : Sizes (p .count) (p .pages) fs) where
     pub at : (i : ℕ) → i < perFrame * p .count → At i
     at i l = at-frame i (i / perFrame) (i % perFrame) (omega arith) (omega arith) (omega arith)
 
-    once-at : (i j : ℕ) → i < j → At i → At j → numbers (p .records) fs (p .pages) i ≡ numbers (p .records) fs (p .pages) j → numbers (p .records) fs (p .pages) i ≡ 0
+    once-at : (i j : ℕ) → i < j → At i → At j → numbersInFrames (p .records) fs (p .pages) i ≡ numbersInFrames (p .records) fs (p .pages) j → numbersInFrames (p .records) fs (p .pages) i ≡ 0
     once-at i j l (nothing e) y q = e
     once-at i j l (page f o m e) (nothing d) q = q ∙ d
     once-at i j l (page f o m e) (page g o' m' d) q = absurd (omega (arith, A .apart f g o o' (sym e ∙ q ∙ d)))
@@ -334,7 +334,7 @@ module _ (p : Pool) (fs : List ℕ) (S : Sizes (p .count) (p .pages) fs) where
     is-frames : FramesFit (p .records) fs (p .count) (p .pages)
     is-frames = record { fits = is-fit; once = λ i j l m. once-at i j l (at i (omega arith)) (at j m); even = is-even }
 
-    is-lead : AllLead (parentIn (p .records)) (p .count)
+    is-lead : AllLead (parentAt (p .records)) (p .count)
     is-lead f l = elim (case (occupied p f)) [
       | on o ↦ (p .count, reach-climb p (A .rootParent) (p .count) (p .count) f (le-refl (p .count)) (A .reach f o))
       | off o ↦ (1, climb-suc (parentOf p) 0 f ∙ climb-zero (parentOf p) (parentOf p f) ∙ blank-of _ (A .blank f (omega (arith, S .most)) o) .parent)
@@ -348,20 +348,20 @@ module _ (p : Pool) (fs : List ℕ) (S : Sizes (p .count) (p .pages) fs) where
   module _ (count : ℕ) (e : count ≡ p .count) where
     -- where a test fails, whatever the tables are
     module _ (residents : List ℕ) (seen : Seen) where
-      refused : (Agreed p fs → ⊥) → Outcome p fs residents seen false
+      refused : (Agreed p fs → ⊥) → Decided p fs residents seen false
       refused h = (disagree h, λ z. absurd (clash (sym z)))
 
-      pub end-hand : (h : ℕ) → h ≡ p .hand .0 → count ≤ h → Outcome p fs residents seen false
+      pub end-hand : (h : ℕ) → h ≡ p .hand .0 → count ≤ h → Decided p fs residents seen false
       end-hand h q l = refused (λ A. omega (arith, A .hand))
 
-      pub end-rest : (RestBlank (p .records) count → ⊥) → Outcome p fs residents seen false
+      pub end-rest : (RestBlank (p .records) count → ⊥) → Decided p fs residents seen false
       end-rest h = refused (λ A. h (rw e (is-rest p fs S A)))
 
-      pub end-frames : (FramesFit (p .records) fs count (p .pages) → ⊥) → Outcome p fs residents seen false
+      pub end-frames : (FramesFit (p .records) fs count (p .pages) → ⊥) → Decided p fs residents seen false
       end-frames h = refused (λ A. h (rw e (is-frames p fs S A)))
 
     module _ (seen : Seen) (t residents : List ℕ) (Z : Settled (p .records) fs count (p .pages) seen t residents) where
-      below : (f : ℕ) → f < count → parentIn (p .records) f < count
+      below : (f : ℕ) → f < count → parentAt (p .records) f < count
       below f l = rw e (parent-below p fs S (rw e at (Z .rest)) (rw e at (Z .fit)) f (omega arith))
 
       pub table-below : Below count t
@@ -370,14 +370,14 @@ module _ (p : Pool) (fs : List ℕ) (S : Sizes (p .count) (p .pages) fs) where
       pub table-root : entry t 0 ≡ 0
       table-root = Z .parents .parent 0 (omega (arith, S .least)) ∙ Z .fit .fits 0 (omega (arith, S .least)) .root refl .parent
 
-      lead-in : AllLead (entry t) count → AllLead (parentIn (p .records)) count
-      lead-in lead f l = let a = lead f l in (a .0, sym (climb-same (entry t) (parentIn (p .records)) count (Z .parents .parent) (table-below .lt) (a .0) f l) ∙ a .1)
+      lead-in : AllLead (entry t) count → AllLead (parentAt (p .records)) count
+      lead-in lead f l = let a = lead f l in (a .0, sym (climb-same (entry t) (parentAt (p .records)) count (Z .parents .parent) (table-below .lt) (a .0) f l) ∙ a .1)
 
-      lead-out : AllLead (parentIn (p .records)) count → AllLead (entry t) count
-      lead-out lead f l = let a = lead f l in (a .0, climb-same (entry t) (parentIn (p .records)) count (Z .parents .parent) (table-below .lt) (a .0) f l ∙ a .1)
+      lead-out : AllLead (parentAt (p .records)) count → AllLead (entry t) count
+      lead-out lead f l = let a = lead f l in (a .0, climb-same (entry t) (parentAt (p .records)) count (Z .parents .parent) (table-below .lt) (a .0) f l ∙ a .1)
 
       pub end-lead : (h : ℕ) → h ≡ p .hand .0 → h < count → (r : Bool) → Decides r (AllLead (entry t) count) → r ≡ agree p fs
       end-lead h q l r d = elim (case r) [
-        | on z ↦ z ∙ sym (tests p fs (code-facts p fs S (rw e at (Z .rest)) (rw e at (Z .fit)) (omega arith) (rw e at (lead-in (holds r _ d z)))))
+        | on z ↦ z ∙ sym (tests p fs (code-facts p fs S (rw e at (Z .rest)) (rw e at (Z .fit)) (omega arith) (rw e at (lead-in (decided r _ d z)))))
         | off z ↦ z ∙ disagree (λ A. fails r (AllLead (entry t) count) d z (lead-out (rw e (is-lead p fs S A))))
       ]

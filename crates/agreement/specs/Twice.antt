@@ -14,7 +14,7 @@ use Rattle.seen.specs.Seen.{Seen, none, noted, Tells, Notes, fresh, Marked}
 use Rattle.seen.specs.SeenLaws.{none-noted, tells-ext, marked-none, marked-more, fresh-zero, fresh-new, fresh-is}
 
 -- no number but 0 stands at two of the first n places, and the table tells of the numbers there
-pub record Passed (row : ℕ → ℕ) (n : ℕ) (seen : Seen) : Type 0 where
+pub record PassedRow (row : ℕ → ℕ) (n : ℕ) (seen : Seen) : Type 0 where
   pub tells : Tells seen (among row n)
   pub once : (i j : ℕ) → i < j → j < n → row i ≡ row j → row i ≡ 0
 
@@ -29,10 +29,10 @@ pub record Twice (row : ℕ → ℕ) (n : ℕ) : Type 0 where
 
 -- after n places: they are passed, or a number stands there twice
 abbrev pub Progress : (ℕ → ℕ) → ℕ → Seen → Bool → Type 0
-Progress row n seen true = Passed row n seen
+Progress row n seen true = PassedRow row n seen
 Progress row n seen false = Twice row n
 
-pub pass-none : (row : ℕ → ℕ) → Passed row 0 none
+pub pass-none : (row : ℕ → ℕ) → PassedRow row 0 none
 pass-none row = record { tells = tells-ext none _ _ none-noted (λ x p l. sym (among-zero row x)); once = λ i j l m. absurd (omega arith) }
 
 pub twice-more : (row : ℕ → ℕ) (n m : ℕ) → n ≤ m → Twice row n → Twice row m
@@ -64,7 +64,7 @@ module _ (row : ℕ → ℕ) (n m : ℕ) (w : ℕ → ℕ) (has : (k : ℕ) → 
         | no l ↦ let p = place (r .0) (omega arith) (r .1) in or-right (among row n x) (is-among w m x (p .0) (p .1) (sym (p .3) ∙ r .2))
       ])
 
-  module _ (small : (k : ℕ) → k < m → w k < mostPages) (seen seen' : Seen) (P : Passed row n seen) where
+  module _ (small : (k : ℕ) → k < m → w k < mostPages) (seen seen' : Seen) (P : PassedRow row n seen) where
     fresh-once : every m (fresh (noted seen) w mostPages) ≡ true → (i j : ℕ) → i < j → j < n + m → row i ≡ row j → row i ≡ 0
     fresh-once t i j l h e = elim (decLt j n) [
       | yes b ↦ P .once i j l b e
@@ -115,14 +115,14 @@ module _ (row : ℕ → ℕ) (n m : ℕ) (w : ℕ → ℕ) (has : (k : ℕ) → 
     goes-on false M = let r = false-every m _ (sym (M .answer)) in stale-twice (r .0) (r .1) (r .2)
 
 -- zeros from place n on
-pub pass-zeros : (row : ℕ → ℕ) (n : ℕ) (seen : Seen) (m : ℕ) → ((k : ℕ) → k < m → row (n + k) ≡ 0) → Passed row n seen → Passed row (n + m) seen
+pub pass-zeros : (row : ℕ → ℕ) (n : ℕ) (seen : Seen) (m : ℕ) → ((k : ℕ) → k < m → row (n + k) ≡ 0) → PassedRow row n seen → PassedRow row (n + m) seen
 pass-zeros row n seen m z P = goes-on row n m (λ k. 0) z (λ k l. omega arith) seen seen P true (record {
   answer = sym (true-every m _ (λ k l. fresh-zero (noted seen) (λ j. 0) mostPages k refl));
   tells = λ e. record { table = P .tells .table; right = λ x p l. sym (or-same (noted seen x) (not-among (λ j. 0) m x (λ k h q. omega arith))) };
 })
 
 -- one number, noted
-pub pass-one : (row : ℕ → ℕ) (n : ℕ) (seen seen' : Seen) (x : ℕ) → row n ≡ x → x < mostPages → (new : Bool) → Notes x seen seen' new → Passed row n seen → Progress row (n + 1) seen' new
+pub pass-one : (row : ℕ → ℕ) (n : ℕ) (seen seen' : Seen) (x : ℕ) → row n ≡ x → x < mostPages → (new : Bool) → Notes x seen seen' new → PassedRow row n seen → Progress row (n + 1) seen' new
 pass-one row n seen seen' x e l new S P =
     goes-on row n 1 (λ k. x) (λ k h. let z : n + k ≡ n = omega arith in ap row z ∙ e) (λ k h. l) seen seen' P new
     (marked-more (λ k. x) mostPages seen 0 (omega arith) seen x refl (λ z. l) seen' new S true new (and-yes refl refl) (marked-none (λ k. x) mostPages seen (P .tells .table)))

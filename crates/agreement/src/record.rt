@@ -4,7 +4,7 @@ use page::FrameIndex;
 use page::PageNumber;
 ghost use mathlib.Core.Path.{_≡_};
 ghost use Rattle.agreement.specs.Deciding.{Decides};
-ghost use Rattle.agreement.specs.Fit.{Blank, firstFields, lastFields, RootFits, Resident};
+ghost use Rattle.agreement.specs.Fit.{Blank, firstFields, lastFields, RootFits, ResidentFits};
 
 // The largest value of a flag.
 const MAX_FLAG: u8 = 1;
@@ -74,7 +74,7 @@ pub fn root_fits(rec: FrameRecord) -> bool
 
 // Is another occupied frame's record in range, and its page not the root's.
 pub fn resident_fits(rec: FrameRecord, count: usize, pages: u32) -> bool
-    ensures { λ r. ⌜ Decides r (Resident count pages rec) ⌝ }
+    ensures { λ r. ⌜ Decides r (ResidentFits count pages rec) ⌝ }
 {
     if FrameIndex::MAX_PINS < rec.pins {
         return false;

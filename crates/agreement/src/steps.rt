@@ -5,7 +5,7 @@ ghost use Prim.Native.Nat.{_≤_};
 ghost use Rattle.page.specs.Figures.{mostFrames};
 ghost use Rattle.agreement.specs.Deciding.{Decides};
 ghost use Rattle.agreement.specs.Fit.{entry, AllLead};
-ghost use Rattle.agreement.specs.Steps.{Below, Round};
+ghost use Rattle.agreement.specs.ParentSteps.{Below, Round};
 
 // Moves each of the first entries on to what its entry has: are all at frame 0 then.
 fn jump(table: &mut [u8; FrameIndex::MOST], count: usize) -> bool

@@ -30,15 +30,15 @@ madeDirty p f = withRecord p f (dirtied (recordAt (p .records) f))
 
 -- ---- no rule is broken
 
-pub record Writable (s : State) (h : Handle) (offset n : ℕ) : Type 0 where
+pub record WriteKept (s : State) (h : Handle) (offset n : ℕ) : Type 0 where
   pub kept : HandleKept s h
   pub from : offset ≤ payloadSize
   pub size : n ≤ payloadSize - offset
 
 -- m is the refusal that the code computed
-pub writable : (s : State) (h : Handle) (offset n : ℕ) {m : ℕ} → m ≡ firstBroken (writeRules s h offset n) → m ≡ 0 → Writable s h offset n
+pub write-kept : (s : State) (h : Handle) (offset n : ℕ) {m : ℕ} → m ≡ firstBroken (writeRules s h offset n) → m ≡ 0 → WriteKept s h offset n
 unfolding rangeFits
-writable s h offset n e z =
+write-kept s h offset n e z =
     let a = handle-parts s h (rule5 offset n ∷ []) (sym e ∙ z) in
     let b = and-true (leb offset payloadSize) (leb n (payloadSize - offset)) (first-kept 4 (rangeFits offset n) [] (a .1) .0) in
     record { kept = a .0; from = leb-true offset payloadSize (b .0); size = leb-true n (payloadSize - offset) (b .1) }
@@ -95,7 +95,7 @@ module _ (s : State) (h : Handle) (offset : ℕ) (bytes : List ℕ) {m : ℕ} wh
       → out (doneAnswer 0) (state (withRecord (s .pool) at r) fs (s .store)) ≡ writeCall s h offset bytes
   unfolding writeCall
   write-bytes e z n i d j =
-      let k = writable s h offset (length bytes) e z .kept in
+      let k = write-kept s h offset (length bytes) e z .kept in
       done-yes s (writeRules s h offset (length bytes)) e z (bytes-written s (h .frame .0) offset bytes n (put-dirty (s .pool) h (k .kept .sized .most) (k .held .below) i d) j)
 
 module _ (s : State) (h : Handle) (k : ℕ) {at : ℕ} {r : FrameRecord} {fs : List ℕ} where

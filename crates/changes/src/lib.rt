@@ -2,24 +2,14 @@
 mod refusals;
 
 use machine::Done;
-use machine::FrameRecord;
 use machine::Handle;
 use machine::Pool;
 use page::FrameIndex;
 use page::PageNumber;
 ghost use mathlib.Core.Path.{_≡_};
-ghost use Rattle.machine.specs.Machine.{state, dirtied as dirty};
+ghost use Rattle.machine.specs.Machine.{state};
 ghost use Rattle.machine.specs.Answers.{out, doneAnswer};
 ghost use Rattle.machine.specs.Calls.{writeCall, linkCall, unlinkCall};
-
-// The record of a page that is now dirty.
-fn dirtied(rec: FrameRecord) -> FrameRecord
-    ensures { λ r. ⌜ r ≡ dirty rec ⌝ }
-{
-    let mut next = rec;
-    next.dirty = 1;
-    next
-}
 
 // Puts bytes at a payload offset of the handle's page.
 pub fn write(
@@ -57,7 +47,7 @@ pub fn write(
     }
     let start = FrameIndex::start(handle.frame) + PageNumber::PAYLOAD_START + offset;
     page::copy::copy_into(&mut frames[start..start + n], bytes);
-    next.records[at] = dirtied(held);
+    next.records[at] = records::dirtied(held);
     Done {
         pool: next,
         refusal: 0,
@@ -95,7 +85,7 @@ pub fn link(
         return Done { pool, refusal };
     }
     page::slot::put_in_slot(frames, handle.frame, slot, PageNumber::word(page));
-    next.records[at] = dirtied(held);
+    next.records[at] = records::dirtied(held);
     Done {
         pool: next,
         refusal: 0,
@@ -125,7 +115,7 @@ pub fn unlink(pool: Pool, frames: &mut [u8], store: &[u8], handle: Handle, slot:
         return Done { pool, refusal };
     }
     page::slot::put_in_slot(frames, handle.frame, slot, page::word::NOTHING);
-    next.records[at] = dirtied(held);
+    next.records[at] = records::dirtied(held);
     Done {
         pool: next,
         refusal: 0,

@@ -18,7 +18,7 @@ use Rattle.machine.specs.Calls.{pageRules, payloadPlace, peekCall, foundAnswer,
 use Rattle.machine.specs.Laws.RuleLaws.{answer-yes}
 use Rattle.seen.specs.Seen.{Seen}
 use Rattle.residents.specs.Handed.{Handed}
-use Rattle.scan.specs.ByTable.{foundBy, counted, at-found}
+use Rattle.scan.specs.FoundByTable.{foundBy, counted-frames, at-found}
 
 -- n is the refusal by rules 1, 2 and 6, F the count that the frames' length gives, and f the frame that the code found
 module _ (s : State) (q : PageNumber) {residents : List ℕ} {seen : Seen} {n F : ℕ} (e : (n ≡ firstBroken (pageRules s q)) × (n ≡ 0 → Handed (s .pool) (s .frames) residents seen)) (z : n ≡ 0) (c : F ≡ length (s .frames) / pageSize) where
@@ -28,7 +28,7 @@ module _ (s : State) (q : PageNumber) {residents : List ℕ} {seen : Seen} {n F 
 
     module _ (l : f < F) where
       resident : ltb (found (s .pool) (q .0)) (s .pool .count) ≡ true
-      resident = rw (← here) (lt-ltb f _ (omega (arith, counted s q e z c)))
+      resident = rw (← here) (lt-ltb f _ (omega (arith, counted-frames s q e z c)))
 
       pub find-at : frame f ≡ findCall s q .answer
       unfolding findCall foundAnswer
@@ -40,7 +40,7 @@ module _ (s : State) (q : PageNumber) {residents : List ℕ} {seen : Seen} {n F 
 
     module _ (l : F ≤ f) where
       absent : ltb (found (s .pool) (q .0)) (s .pool .count) ≡ false
-      absent = rw (← here) (le-ltb f _ (omega (arith, counted s q e z c)))
+      absent = rw (← here) (le-ltb f _ (omega (arith, counted-frames s q e z c)))
 
       pub find-absent : nowhere ≡ findCall s q .answer
       unfolding findCall foundAnswer

@@ -68,5 +68,5 @@ unfolding cut bytesFrom
 cut-part x a n = let k : a + n - a ≡ n = omega arith in rw k
 
 -- the part of the one buffer, where the place says so
-pub handed : (fs st : Lent) (p : Place) {b : Bool} → p .in_store ≡ b → let x = lentIf b fs st in _≡_ {A = Shown} (record { part = record { at = (x .at .0, p .start + x .at .1); bytes = take (p .start + p .size - p .start) (drop (p .start) (x .bytes)) }; number = p .refusal }) (handedAt fs st p)
-handed fs st p {b} e = rw (e, cut-part (lentIf b fs st) (p .start) (p .size))
+pub handed-part : (fs st : Lent) (p : Place) {b : Bool} → p .in_store ≡ b → let x = lentIf b fs st in _≡_ {A = Shown} (record { part = record { at = (x .at .0, p .start + x .at .1); bytes = take (p .start + p .size - p .start) (drop (p .start) (x .bytes)) }; number = p .refusal }) (handedAt fs st p)
+handed-part fs st p {b} e = rw (e, cut-part (lentIf b fs st) (p .start) (p .size))

@@ -1,5 +1,5 @@
 -- How the steps of root and fix make up the two calls. Assumes nothing.
-use Prim.Native.Nat.{ℕ, _+_, _/_, _≤_, _<_}
+use Prim.Native.Nat.{ℕ, _+_, _/_, _%_, _≤_, _<_}
 use mathlib.Core.Path.{_≡_, refl, sym, subst, _∙_, ap}
 use mathlib.Core.Logic.{_≢_}
 use mathlib.Core.Bool.{Bool, true, false, not}
@@ -17,7 +17,7 @@ use Rattle.machine.specs.declared.Handle.{Handle}
 use Rattle.machine.specs.declared.Fix.{Fix}
 use Rattle.machine.specs.Tests.{pick, Rule, firstBroken, verdict}
 use Rattle.machine.specs.Laws.TestLaws.{pick-yes, pick-no, or-left, or-skip, kept-then, broken-here, none-broken}
-use Rattle.machine.specs.Machine.{State, state, withPool, recordAt, pageIn, withRecords, withRecord, pinned, loadedRecord}
+use Rattle.machine.specs.Machine.{State, state, withPool, recordAt, pageIn, withRecords, withRecord, withUsage, pinned, loadedRecord}
 use Rattle.machine.specs.Answers.{refused, handle, Out, out}
 use Rattle.machine.specs.Sweep.{Swept, childless, firstEmpty, kind, sweep, withSwept}
 use Rattle.machine.specs.Moves.{vacate, evicted}
@@ -30,12 +30,12 @@ use Rattle.machine.specs.Laws.SweepLaws.{open-childless, sweep-sound, swept-rea
 use Rattle.machine.specs.Laws.MoveLaws.{evicted-sized}
 use Rattle.seen.specs.Seen.{Seen}
 use Rattle.residents.specs.Handed.{Handed}
-use Rattle.naming.specs.ByTable.{loadableBy, loadable-by}
+use Rattle.naming.specs.NamedByTables.{loadableBy, loadable-by}
 use Rattle.scan.specs.declared.Walk.{Walk}
-use Rattle.scan.specs.ByTable.{emptyBy, empty-by}
+use Rattle.scan.specs.FoundByTable.{emptyBy, empty-by}
 use Rattle.scan.specs.Walk.{cooledTo, Sees, Walked, Cools, Few, cools-none, cools-next, same-end, same-sweep}
 use Rattle.moves.specs.InAndOut.{Removable, TakenOut, Fitting, broughtIn, removable, is-evicted, fitting, is-loaded}
-use Rattle.fixing.specs.Steps.{refusedFix, givenFix, fixOut, pinDecided, missDecided, sweptDecided}
+use Rattle.fixing.specs.FixSteps.{refusedFix, givenFix, fixOut, pinDecided, missDecided, sweptDecided}
 
 -- ---- rules
 
@@ -79,8 +79,10 @@ pub record Cooling (p m : Pool) (vs : List ℕ) (n : ℕ) : Type 0 where
 pub cooling-none : (p : Pool) (vs : List ℕ) → Cooling p p vs 0
 cooling-none p vs = record { rest = refl; cools = cools-none (p .records) vs }
 
-pub cooling-next : {p m : Pool} {vs : List ℕ} {n : ℕ} {r : FrameRecord} → Cooling p m vs n → r ≡ cooledTo (recordAt (m .records) n) (getD vs n 0) → Cooling p (withRecord m n r) vs (n + 1)
-cooling-next {m = m} {n = n} {r = r} c e = record { rest = ap (λ (x : Pool). withRecords x (set (m .records) n r)) (c .rest); cools = cools-next (c .cools) e }
+pub cooling-next : {p m : Pool} {vs : List ℕ} {n u : ℕ} → Cooling p m vs n → u ≡ getD vs n 0 % 4 → Cooling p (withRecord m n (withUsage (recordAt (m .records) n) u)) vs (n + 1)
+unfolding cooledTo
+cooling-next {m = m} {n = n} {u = u} c e =
+    record { rest = ap (λ (x : Pool). withRecords x (set (m .records) n (withUsage (recordAt (m .records) n) u))) (c .rest); cools = cools-next (c .cools) (rw e refl) }
 
 -- a walk's end with the records that it leaves
 abbrev sweptAs : Walk → List FrameRecord → Swept

@@ -6,7 +6,7 @@ use machine::Pool;
 use page::FrameIndex;
 use page::PageNumber;
 ghost use mathlib.Core.Path.{_≡_};
-ghost use Rattle.fixing.specs.Steps.{refusedFix, givenFix};
+ghost use Rattle.fixing.specs.FixSteps.{refusedFix, givenFix};
 
 // A refusal's number, with the records as they are.
 pub fn refused(pool: Pool, number: u8) -> Fix

@@ -1,7 +1,6 @@
 // Root and fix: the calls that pin a page. A resident page is pinned where it is, another one is loaded first.
 mod answer;
 mod load;
-mod pin;
 
 use machine::Fix;
 use machine::Handle;
@@ -28,7 +27,7 @@ pub fn root(pool: Pool, frames: &[u8], store: &[u8]) -> Fix
         return answer::refused(pool, 13);
     }
     let page = rec.page;
-    next.records[0] = pin::pinned(rec);
+    next.records[0] = records::pinned(rec);
     answer::given(next, FrameIndex(0), page, 0)
 }
 
@@ -78,6 +77,6 @@ pub fn fix(pool: Pool, frames: &mut [u8], store: &mut [u8], handle: Handle, slot
         return answer::refused(pool, 13);
     }
     let page = child.page;
-    next.records[g] = pin::pinned(child);
+    next.records[g] = records::pinned(child);
     answer::given(next, FrameIndex(g as u8), page, 0)
 }

@@ -12,7 +12,7 @@ ghost use Rattle.page.specs.Figures.{slotCount};
 ghost use Rattle.machine.specs.Machine.{state};
 ghost use Rattle.machine.specs.Laws.Ready.{Kept};
 ghost use Rattle.residents.specs.Handed.{Handed};
-ghost use Rattle.fixing.specs.Steps.{fixOut, missDecided};
+ghost use Rattle.fixing.specs.FixSteps.{fixOut, missDecided};
 
 // Brings in a page that is not resident, for a slot of its parent's frame: rules 14 and 15. One copy of the records is worked on throughout.
 pub fn bring_in(
@@ -58,8 +58,7 @@ pub fn bring_in(
     // The usages that it left go to the records; the page of the frame that it took goes, and the other comes in.
     let mut g: usize = 0;
     while g < most {
-        let rec = next.records[g];
-        next.records[g] = scan::cooled(rec, sights[g]);
+        next.records[g].usage = scan::usage_left(sights[g]);
         g += 1;
     }
     let hand_after = walk.hand;

@@ -15,7 +15,7 @@ use Rattle.io.specs.Digits.{digits, Fewest}
 use Rattle.page.specs.Page.{bytesFrom}
 use Rattle.machine.specs.Laws.TestLaws.{pick-yes, pick-no}
 use Rattle.machine.specs.Machine.{State}
-use Rattle.recording.specs.Listing.{Numbers, numbers, Listed, listed}
+use Rattle.recording.specs.Listing.{Numbers, lineNumbers, Listed, listed}
 use Rattle.listing.specs.Printing.{places, withNumber, withLine, Printed, printed, withListed, recordIn, listedFrom}
 
 -- ---- the digits of a number
@@ -83,7 +83,7 @@ module _ (l t ds : List ℕ) (at : ℕ) where
       ∙ ap (λ (r : List ℕ). r ++ (after ∷ [])) (done ∙ ap (λ (r : List ℕ). take at t ++ r) (d ∙ ap (λ (m : ℕ). digits 10 m n) (places-are n k f b)))
 
 -- a line is four numbers
-pub line-put : (t t1 t2 t3 : List ℕ) {t4 : List ℕ} (c r f p : ℕ) → t1 ≡ withNumber t c 32 → t2 ≡ withNumber t1 r 32 → t3 ≡ withNumber t2 f 32 → t4 ≡ withNumber t3 p 10 → t4 ≡ withLine t (numbers c r f p)
+pub line-put : (t t1 t2 t3 : List ℕ) {t4 : List ℕ} (c r f p : ℕ) → t1 ≡ withNumber t c 32 → t2 ≡ withNumber t1 r 32 → t3 ≡ withNumber t2 f 32 → t4 ≡ withNumber t3 p 10 → t4 ≡ withLine t (lineNumbers c r f p)
 line-put t t1 t2 t3 c r f p e1 e2 e3 e4 =
     e4 ∙ ap (λ (x : List ℕ). withNumber x p 10) (e3 ∙ ap (λ (x : List ℕ). withNumber x f 32) (e2 ∙ ap (λ (x : List ℕ). withNumber x r 32) e1))
 

@@ -3,7 +3,7 @@ use recording::Line;
 ghost use Prim.Native.Nat.{_+_, _≤_};
 ghost use mathlib.Core.Path.{_≡_};
 ghost use lib.ListN.{length, take};
-ghost use Rattle.recording.specs.Listing.{numbers};
+ghost use Rattle.recording.specs.Listing.{lineNumbers};
 ghost use Rattle.listing.specs.Printing.{withNumber, withLine};
 
 // Puts a number in decimal and a byte after it into a text from `at` on, and gives where they end.
@@ -27,7 +27,7 @@ fn put_number(text: &mut [u8], at: usize, n: u16, after: u8) -> usize
 pub fn put_line(text: &mut [u8], at: usize, line: Line) -> usize
     requires { ⌜ at + 24 ≤ length (now text) ⌝ }
     ensures { λ r. ⌜ r ≤ at + 24 ⌝ }
-    ensures { λ r. ⌜ take r (now (text .exit)) ≡ withLine (take at (now (text .entry))) (numbers (line .call) (line .refusal) (line .frame .0) (line .page .0)) ⌝ }
+    ensures { λ r. ⌜ take r (now (text .exit)) ≡ withLine (take at (now (text .entry))) (lineNumbers (line .call) (line .refusal) (line .frame .0) (line .page .0)) ⌝ }
 {
     let mut end = put_number(text, at, line.call as u16, b' ');
     end = put_number(text, end, line.refusal as u16, b' ');

@@ -15,7 +15,7 @@ use Rattle.machine.specs.Sweep.{childless}
 use Rattle.machine.specs.Moves.{vacate, occupy, evicted, loaded}
 use Rattle.machine.specs.Laws.Ready.{Sized, Ready}
 use Rattle.moves.specs.WriteOut.{Writable, WrittenAsIs}
-use Rattle.moves.specs.Steps.{writable}
+use Rattle.moves.specs.MoveSteps.{writable}
 
 -- the page in frame f, whose record is r, can be taken out
 pub record Removable (r : FrameRecord) (fs st : List ℕ) (f : ℕ) : Type 0 where

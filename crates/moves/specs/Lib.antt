@@ -1,3 +1,3 @@
 pub mod WriteOut
-pub mod Steps
+pub mod MoveSteps
 pub mod InAndOut

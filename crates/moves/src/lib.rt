@@ -8,26 +8,11 @@ use page::FrameIndex;
 use page::PageNumber;
 use residents::Residents;
 ghost use mathlib.Core.Path.{_≡_};
-ghost use Rattle.machine.specs.Machine.{state, blank, loadedRecord};
+ghost use Rattle.machine.specs.Machine.{state, loadedRecord};
 ghost use Rattle.machine.specs.Moves.{settled};
 ghost use Rattle.machine.specs.Laws.Ready.{Ready};
 ghost use Rattle.residents.specs.Residents.{Residents};
 ghost use Rattle.moves.specs.InAndOut.{Removable, TakenOut, Fitting, broughtIn};
-
-// An empty frame's record.
-pub fn empty_record() -> FrameRecord
-    ensures { λ r. ⌜ r ≡ blank ⌝ }
-{
-    FrameRecord {
-        used: 0,
-        dirty: 0,
-        usage: 0,
-        slot: 0,
-        parent: FrameIndex(0),
-        pins: 0,
-        page: PageNumber(0),
-    }
-}
 
 // Takes a page without swizzled words, whose record is `rec`, out of its frame: its bytes to the store if dirty, its number to its parent's word.
 pub fn take_out(rec: FrameRecord, frames: &mut [u8], store: &mut [u8], frame: FrameIndex)
@@ -59,15 +44,7 @@ pub fn load_page(
     page::copy::to_frame(frames, frame, store, PageNumber::place(page));
     let word = page::word::renamed(old, FrameIndex::word(frame));
     page::slot::put_in_slot(frames, parent, slot, word);
-    FrameRecord {
-        used: 1,
-        dirty: 0,
-        usage: 1,
-        slot: slot as u8,
-        parent,
-        pins: 1,
-        page,
-    }
+    records::loaded(page, parent, slot as u8)
 }
 
 // Writes the image of each dirty page to the store, and marks it clean. The table gives each frame's page.
@@ -79,10 +56,9 @@ pub fn settle_pages(pool: Pool, residents: &Residents, frames: &[u8], store: &mu
     let count = next.count as usize;
     let mut f = 0;
     while f < count {
-        let mut record = next.records[f];
+        let record = next.records[f];
         out::write_out(record, residents, frames, store, FrameIndex(f as u8));
-        record.dirty = 0;
-        next.records[f] = record;
+        next.records[f] = records::cleaned(record);
         f += 1;
     }
     next

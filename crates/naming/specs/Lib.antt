@@ -1,4 +1,4 @@
 pub mod Stored
 pub mod Named
 pub mod Loadable
-pub mod ByTable
+pub mod NamedByTables

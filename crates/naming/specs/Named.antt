@@ -18,7 +18,7 @@ use Rattle.machine.specs.Moves.{plain}
 use Rattle.machine.specs.Naming.{currentWord, named, namedByResident}
 use Rattle.machine.specs.Laws.Ready.{Kept}
 use Rattle.residents.specs.Residents.{Residents}
-use Rattle.residents.specs.ResidentLaws.{Names, names-of, of-names, table-in, not-in-table}
+use Rattle.residents.specs.ResidentLaws.{ResidentNames, names-of, of-names, table-in, not-in-table}
 use Rattle.naming.specs.Stored.{inStore, Stored, stored-of, of-stored}
 
 module _ (s : State) where
@@ -36,7 +36,7 @@ module _ (s : State) (K : Kept s) (residents : List ℕ) (T : Residents (s .pool
   unfolding named
   make-named p k lp lk e = true-some (s .pool .pages) _ p lp (true-some slotCount _ k lk (eq-eqb _ x e))
 
-  resident-names : Names s x → named s x ≡ true
+  resident-names : ResidentNames s x → named s x ≡ true
   resident-names n =
       let f : ℕ = n .frame in
       let q : ℕ = pageIn (s .pool .records) f in

@@ -10,7 +10,7 @@ ghost use Prim.Native.Nat.{_*_, _≤_, _<_};
 ghost use lib.ListN.{length};
 ghost use Rattle.page.specs.Figures.{pageSize, mostPages};
 ghost use Rattle.seen.specs.Seen.{Table};
-ghost use Rattle.naming.specs.ByTable.{namedBy, loadableBy};
+ghost use Rattle.naming.specs.NamedByTables.{namedBy, loadableBy};
 
 // Is the page named by a word of any page (rule 9), of n pages in the store.
 pub fn is_named(

@@ -5,7 +5,7 @@ use Rattle.machine.specs.declared.Pool.{Pool}
 use Rattle.machine.specs.Machine.{state, frameIndex, pageNumber}
 use Rattle.machine.specs.Answers.{Answer, Out}
 use Rattle.recording.specs.declared.lines.Line.{Line}
-use Rattle.recording.specs.Listing.{callIn, numbers, lineOf, Listed}
+use Rattle.recording.specs.Listing.{callIn, lineNumbers, lineOf, Listed}
 
 -- the line of a record with these numbers after its call
 abbrev pub lineWith : List ℕ → ℕ → ℕ → ℕ → Pool → Line
@@ -17,7 +17,7 @@ lineFor b a x = let l = lineOf b a in record { call = l .call; refusal = l .refu
 
 -- a line with the frames and the store beside it
 abbrev pub lined : Line → List ℕ → List ℕ → Listed
-lined r fs st = record { line = numbers (r .call) (r .refusal) (r .frame .0) (r .page .0); left = state (r .pool) fs st }
+lined r fs st = record { line = lineNumbers (r .call) (r .refusal) (r .frame .0) (r .page .0); left = state (r .pool) fs st }
 
 -- what a record lists by what its call answers and leaves
 abbrev pub listedOut : List ℕ → Out → Listed

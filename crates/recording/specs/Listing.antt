@@ -77,17 +77,17 @@ pub record Numbers : Type 0 where
   pub frame : ℕ
   pub page : ℕ
 
-abbrev pub numbers : ℕ → ℕ → ℕ → ℕ → Numbers
-numbers c n f p = record { call = c; refusal = n; frame = f; page = p }
+abbrev pub lineNumbers : ℕ → ℕ → ℕ → ℕ → Numbers
+lineNumbers c n f p = record { call = c; refusal = n; frame = f; page = p }
 
 abbrev pub lineOf : List ℕ → Answer → Numbers
-lineOf b (refused n) = numbers (callIn b) n 0 0
-lineOf b done = numbers (callIn b) 0 0 0
-lineOf b (handle f p looks) = numbers (callIn b) 0 f p
-lineOf b (payload y a n) = numbers (callIn b) 0 0 0
-lineOf b (number p) = numbers (callIn b) 0 0 0
-lineOf b (frame f) = numbers (callIn b) 0 f (pageInRecord b .0)
-lineOf b nowhere = numbers (callIn b) 0 0 0
+lineOf b (refused n) = lineNumbers (callIn b) n 0 0
+lineOf b done = lineNumbers (callIn b) 0 0 0
+lineOf b (handle f p looks) = lineNumbers (callIn b) 0 f p
+lineOf b (payload y a n) = lineNumbers (callIn b) 0 0 0
+lineOf b (number p) = lineNumbers (callIn b) 0 0 0
+lineOf b (frame f) = lineNumbers (callIn b) 0 f (pageInRecord b .0)
+lineOf b nowhere = lineNumbers (callIn b) 0 0 0
 
 -- a line, and the state that the next record finds
 pub record Listed : Type 0 where

@@ -7,11 +7,11 @@ pub use lines::Line;
 use pool::Pool;
 ghost use mathlib.Core.Path.{_≡_};
 ghost use Rattle.machine.specs.Machine.{state};
-ghost use Rattle.recording.specs.Listing.{numbers, listed};
+ghost use Rattle.recording.specs.Listing.{lineNumbers, listed};
 
 // Runs a record on the pool: rule 17, and the call that it names.
 pub fn list_record(pool: Pool, frames: &mut [u8], store: &mut [u8], entry: &[u8; 16]) -> Line
-    ensures { λ r. ⌜ record { line = numbers (r .call) (r .refusal) (r .frame .0) (r .page .0); left = state (r .pool) (now (frames .exit)) (now (store .exit)) } ≡ listed (state pool (now (frames .entry)) (now (store .entry))) (now (entry .entry)) ⌝ }
+    ensures { λ r. ⌜ record { line = lineNumbers (r .call) (r .refusal) (r .frame .0) (r .page .0); left = state (r .pool) (now (frames .exit)) (now (store .exit)) } ≡ listed (state pool (now (frames .entry)) (now (store .entry))) (now (entry .entry)) ⌝ }
 {
     if !fields::is_call(entry) {
         return lines::bare(pool, entry, 17);

@@ -14,7 +14,7 @@ ghost use Rattle.residency.specs.Opening.{blankPool};
 fn blank_pool(count: u16, pages: u16) -> Pool
     ensures { λ r. ⌜ r ≡ blankPool count pages ⌝ }
 {
-    let blank = moves::empty_record();
+    let blank = records::empty();
     let records = [blank; FrameIndex::MOST];
     Pool {
         records,
@@ -29,7 +29,7 @@ fn opened_pool(count: u16, pages: u16) -> Pool
     ensures { λ r. ⌜ r ≡ openedPool count pages ⌝ }
 {
     let mut pool = blank_pool(count, pages);
-    pool.records[0].used = 1;
+    pool.records[0] = records::root();
     pool
 }
 

@@ -17,7 +17,7 @@ pub fn unfix(pool: Pool, frames: &[u8], store: &[u8], handle: Handle) -> Done
     let mut seen = seen::NONE;
     let mut next = pool;
     let at = guard::record_place(handle);
-    let mut rec = next.records[at];
+    let rec = next.records[at];
     let refusal = guard::handle_refusal(
         pool,
         rec,
@@ -30,8 +30,7 @@ pub fn unfix(pool: Pool, frames: &[u8], store: &[u8], handle: Handle) -> Done
     if refusal != 0 {
         return Done { pool, refusal };
     }
-    rec.pins -= 1;
-    next.records[at] = rec;
+    next.records[at] = records::unpinned(rec);
     Done {
         pool: next,
         refusal: 0,
@@ -60,7 +59,7 @@ pub fn evict(pool: Pool, frames: &mut [u8], store: &mut [u8], page: PageNumber) 
         return Done { pool, refusal: 12 };
     }
     moves::take_out(rec, frames, store, frame);
-    next.records[f] = moves::empty_record();
+    next.records[f] = records::empty();
     Done {
         pool: next,
         refusal: 0,

@@ -37,14 +37,14 @@ blank-page r t =
 -- ---- what a resident page names
 
 module _ (s : State) (x : ℕ) where
-  pub record Names : Type 0 where
+  pub record ResidentNames : Type 0 where
     pub frame : ℕ
     pub slot : ℕ
     pub at : occupied (s .pool) frame ≡ true
     pub inPage : slot < slotCount
     pub word : plain (pageIn (s .pool .records)) (pageWords (s .frames) frame slot) ≡ x
 
-  pub names-of : namedByResident s x ≡ true → Names
+  pub names-of : namedByResident s x ≡ true → ResidentNames
   unfolding namedByResident slot
   names-of t =
       let a = some-true (s .pool .count) _ t in
@@ -52,7 +52,7 @@ module _ (s : State) (x : ℕ) where
       let c = some-true slotCount _ (b .1) in
       record { frame = a .0; slot = c .0; at = b .0; inPage = c .1; word = eqb-true _ x (c .2) }
 
-  pub of-names : Names → namedByResident s x ≡ true
+  pub of-names : ResidentNames → namedByResident s x ≡ true
   unfolding namedByResident slot
   of-names n = true-some (s .pool .count) _ (n .frame) (occupied-lt (s .pool) (n .frame) (n .at)) (both _ _ (n .at) (true-some slotCount _ (n .slot) (n .inPage) (eq-eqb _ x (n .word))))
 
@@ -126,7 +126,7 @@ module _ (s : State) (few : s .pool .count ≤ mostFrames) (A : Agreed (s .pool)
   -- ---- a resident page names each resident page but the root, and the numbers in resident pages' words
 
   module _ (x : ℕ) (positive : 0 < x) (number : Number x) where
-    split : Names s x → (inTable residents x or inFrames residents (s .frames) (s .pool .count) x) ≡ true
+    split : ResidentNames s x → (inTable residents x or inFrames residents (s .frames) (s .pool .count) x) ≡ true
     split n = elim (reading (pageWords (s .frames) (n .frame) (n .slot))) [
       | low l ↦ or-right (inTable residents x) (of-held x (record { frame = n .frame; slot = n .slot; at = n .at; inPage = n .inPage; word = sym (plain-low _ _ l) ∙ n .word }))
       | high g e ↦
@@ -136,7 +136,7 @@ module _ (s : State) (few : s .pool .count ≤ mostFrames) (A : Agreed (s .pool)
           or-left _ (in-table g x (rw i at (b .at)) (sym (plain-high (pageIn (s .pool .records)) g) ∙ ap (plain (pageIn (s .pool .records))) (sym e) ∙ n .word))
     ]
 
-    resident-named : inTable residents x ≡ true → Names s x
+    resident-named : inTable residents x ≡ true → ResidentNames s x
     resident-named t =
         let g = table-in x t in
         let e : pageIn (s .pool .records) (g .0) ≡ x = g .2 in
@@ -149,7 +149,7 @@ module _ (s : State) (few : s .pool .count ≤ mostFrames) (A : Agreed (s .pool)
           word = ap (plain (pageIn (s .pool .records))) (sym (name-row _ _ _) ∙ A .parentWord (g .0) (g .1) n) ∙ plain-high _ (g .0) ∙ e;
         }
 
-    held-named : inFrames residents (s .frames) (s .pool .count) x ≡ true → Names s x
+    held-named : inFrames residents (s .frames) (s .pool .count) x ≡ true → ResidentNames s x
     held-named t =
         let h = held-of x t in
         let e : pageWords (s .frames) (h .frame) (h .slot) ≡ x = h .word in

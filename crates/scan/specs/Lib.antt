@@ -1,2 +1,2 @@
-pub mod ByTable
+pub mod FoundByTable
 pub mod Walk

@@ -16,7 +16,7 @@ use Rattle.machine.specs.declared.Standing.{Standing}
 use Rattle.machine.specs.declared.Pool.{Pool}
 use Rattle.machine.specs.Tests.{pick}
 use Rattle.machine.specs.Laws.TestLaws.{and-yes, and-no, pick-no}
-use Rattle.machine.specs.Machine.{blank, frameIndex, recordAt}
+use Rattle.machine.specs.Machine.{blank, frameIndex, withUsage, recordAt}
 use Rattle.machine.specs.Sweep.{Class, rest, warm, yield, Kind, classOf, kind, standing, Swept, after, lookLeaves, lookTakes, mostLooks, sweepFrom, sweep}
 use Rattle.machine.specs.Laws.SweepLaws.{after-in, Cooler, UsageBlind, looked, looked-cooler, kind-usage-blind, cooled-from}
 use Rattle.scan.specs.declared.Walk.{Walk}
@@ -33,7 +33,7 @@ lookedAt v = pick (ltb v 4) (v - 1) (pick (ltb v 7) (v + 1) v)
 
 -- the record with the usage that a sweep left of it
 unfoldable pub cooledTo : FrameRecord → ℕ → FrameRecord
-cooledTo r v = record { used = r .used; dirty = r .dirty; usage = v % 4; slot = r .slot; parent = r .parent; pins = r .pins; page = r .page }
+cooledTo r v = withUsage r (v % 4)
 
 -- a sweep's end, and what it left of what it saw
 pub record WalkEnd : Type 0 where

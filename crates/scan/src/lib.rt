@@ -9,13 +9,13 @@ use page::PageNumber;
 use residents::Residents;
 ghost use mathlib.Core.Path.{_≡_};
 ghost use mathlib.Core.Logic.{_≢_};
-ghost use Prim.Native.Nat.{_+_, _*_, _≤_, _<_};
+ghost use Prim.Native.Nat.{_+_, _*_, _%_, _≤_, _<_};
 ghost use lib.ListN.{length};
 ghost use Rattle.page.specs.Figures.{pageSize, mostFrames, maxUsage};
 ghost use Rattle.machine.specs.Machine.{frameIndex};
 ghost use Rattle.machine.specs.Sweep.{after, kind};
-ghost use Rattle.scan.specs.ByTable.{foundBy, emptyBy};
-ghost use Rattle.scan.specs.Walk.{sight as classAndUsage, lookedAt, cooledTo, Walked};
+ghost use Rattle.scan.specs.FoundByTable.{foundBy, emptyBy};
+ghost use Rattle.scan.specs.Walk.{sight as classAndUsage, lookedAt, Walked};
 
 // The usages that there are. What a sweep sees of a frame is one number: its usage, and above that its class, 0 for a frame that is open to eviction.
 const USAGES: u8 = 4;
@@ -111,13 +111,11 @@ fn looked_at(sight: u8) -> u8
     sight
 }
 
-// The record of a frame of which a sweep left this.
-pub fn cooled(rec: FrameRecord, sight: u8) -> FrameRecord
-    ensures { λ r. ⌜ r ≡ cooledTo rec sight ⌝ }
+// The usage of a frame of which a sweep left this.
+pub fn usage_left(sight: u8) -> u8
+    ensures { λ r. ⌜ r ≡ sight % 4 ⌝ }
 {
-    let mut next = rec;
-    next.usage = sight % USAGES;
-    next
+    sight % USAGES
 }
 
 // The clock sweep over what it sees of the frames: at most 4 × F looks, until one open to eviction at usage 0 is taken.

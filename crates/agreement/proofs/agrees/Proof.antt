@@ -37,11 +37,19 @@ cast-n c = search needs
 from-u8-requires : tie.Need-from-u8-requires Inv-loop μ-loop Inv-loop2 μ-loop2
 from-u8-requires c κs = search needs
 
+-- the hand isn't below F
 returns : tie.Need-returns Inv-loop μ-loop Inv-loop2 μ-loop2
-returns c = end-hand (c .before .before .before .before .before .before .args .pool) _ (c .before .before .before .before .before .before .pre .0) _ (c .before .before .before .from-u16 .ensures) _ _ _ (c .before .from-u8 .ensures) (c .if1 .taken)
+returns c =
+    let at-hand = c .before in
+    let at-count = at-hand .before .before in
+    let at-entry = at-count .before .before .before in
+    end-hand (at-entry .args .pool) _ (at-entry .pre .0) _ (at-count .from-u16 .ensures) _ _ _ (at-hand .from-u8 .ensures) (c .if1 .taken)
 
 loop-holds : tie.Need-loop-holds Inv-loop μ-loop Inv-loop2 μ-loop2
-loop-holds c = (omega (arith, c .before .before .before .before .before .before .pre .0 .most, c .before .before .before .from-u16 .ensures), before-first _ _ _ _ _ _ _ (omega (arith, c .before .before .before .before .before .before .pre .0 .most, c .before .before .before .from-u16 .ensures)) (c .before .before .before .before .before .before .pre .1))
+loop-holds c =
+    let at-count = c .before .before .before in
+    let at-entry = at-count .before .before .before in
+    (omega (arith, at-entry .pre .0 .most, at-count .from-u16 .ensures), before-first _ _ _ _ _ _ _ (omega (arith, at-entry .pre .0 .most, at-count .from-u16 .ensures)) (at-entry .pre .1))
 
 mul-rec : tie.Need-mul-rec Inv-loop μ-loop Inv-loop2 μ-loop2
 mul-rec c = search needs
@@ -62,21 +70,43 @@ cast-t30 : tie.Need-cast-t30 Inv-loop μ-loop Inv-loop2 μ-loop2
 cast-t30 c = search needs
 
 note-requires : tie.Need-note-requires Inv-loop μ-loop Inv-loop2 μ-loop2
-note-requires c κs = (rw (c .before .before .before .before .before .before .before .before .before .before .from-u16 .ensures) (c .before .before .before .before .before .before .before .before .before .before .before .before .before .pre .0), c .before .before .before .before .before .loop-test .taken, c .before .before .before .before .before .before .loop .inv .1 .passed .tells .table)
+note-requires c κs =
+    let past-frames = c .before .before .before .before .before in
+    let at-frames = past-frames .before in
+    let at-count = at-frames .before .before .before .before in
+    let at-entry = at-count .before .before .before in
+    (rw (at-count .from-u16 .ensures) (at-entry .pre .0), past-frames .loop-test .taken, at-frames .loop .inv .1 .passed .tells .table)
 
+-- a frame's record, the word that names it or a number in it doesn't fit
 returns-2 : tie.Need-returns-2 Inv-loop μ-loop Inv-loop2 μ-loop2
 returns-2 c =
-    end-frames (c .before .before .before .before .before .before .before .before .before .before .before .before .before .before .before .before .args .pool) _ (c .before .before .before .before .before .before .before .before .before .before .before .before .before .before .before .before .pre .0) _ (c .before .before .before .before .before .before .before .before .before .before .before .before .before .from-u16 .ensures) _ _
-    (misfit _ _ _ _ _ _ _ _ _ _ (c .before .before .before .before .before .before .before .before .before .loop .inv .1) (c .before .before .before .before .before .before .before .before .loop-test .taken) (c .before .before .note .last .1 .1 .1 .1 .1 .1 .0) (c .before .before .note .result .over) (c .before .before .note .result .fits) (rw (c .before .before .before .before .before .before .from-u82 .ensures) at (c .before .before .note .ensures)) (not-true _ (c .if2 .taken)))
+    let at-note = c .before .before in
+    let at-above = at-note .before .before .before .before in
+    let past-frames = at-above .before .before in
+    let at-frames = past-frames .before in
+    let at-count = at-frames .before .before .before .before in
+    let at-entry = at-count .before .before .before in
+    end-frames (at-entry .args .pool) _ (at-entry .pre .0) _ (at-count .from-u16 .ensures) _ _
+    (misfit _ _ _ _ _ _ _ _ _ _ (at-frames .loop .inv .1) (past-frames .loop-test .taken) (at-note .note .last .1 .1 .1 .1 .1 .1 .0) (at-note .note .result .over) (at-note .note .result .fits) (rw (at-above .from-u82 .ensures) at (at-note .note .ensures)) (not-true _ (c .if2 .taken)))
 
 add-over : tie.Need-add-over Inv-loop μ-loop Inv-loop2 μ-loop2
-add-over c = omega (arith, before-few _ _ _ _ _ _ _ _ _ _ (c .before .before .before .before .before .before .before .before .before .before .loop .inv .1) .1, c .before .before .before .note .ensures .few)
+add-over c =
+    let at-note = c .before .before .before in
+    let at-record = at-note .before .before .before .before .before in
+    let at-frames = at-record .before .before in
+    omega (arith, before-few _ _ _ _ _ _ _ _ _ _ (at-frames .loop .inv .1) .1, at-note .note .ensures .few)
 
 cast-occupied : tie.Need-cast-occupied Inv-loop μ-loop Inv-loop2 μ-loop2
 cast-occupied c = search needs
 
 add-occupied : tie.Need-add-occupied Inv-loop μ-loop Inv-loop2 μ-loop2
-add-occupied c = omega (arith, before-few _ _ _ _ _ _ _ _ _ _ (c .before .before .before .before .before .before .before .before .before .before .before .loop .inv .1) .0, bool-small (isUsed (recordAt (c .before .before .before .before .before .before .before .before .before .before .before .before .before .before .before .before .before .before .args .pool .records) (c .before .before .before .before .before .before .before .before .before .before .before .loop .f))))
+add-occupied c =
+    let at-note = c .before .before .before .before in
+    let at-record = at-note .before .before .before .before .before in
+    let at-frames = at-record .before .before in
+    let at-count = at-frames .before .before .before .before in
+    let at-entry = at-count .before .before .before in
+    omega (arith, before-few _ _ _ _ _ _ _ _ _ _ (at-frames .loop .inv .1) .0, bool-small (isUsed (recordAt (at-entry .args .pool .records) (at-frames .loop .f))))
 
 array-write-parents : tie.Need-array-write-parents Inv-loop μ-loop Inv-loop2 μ-loop2
 array-write-parents c = search needs
@@ -94,7 +124,13 @@ loop-less : tie.Need-loop-less Inv-loop μ-loop Inv-loop2 μ-loop2
 loop-less c = search needs
 
 loop-again : tie.Need-loop-again Inv-loop μ-loop Inv-loop2 μ-loop2
-loop-again c = (c .before .before .before .before .before .before .before .before .before .before .before .loop .inv .0, before-more _ _ _ _ _ _ _ _ _ _ (c .before .before .before .before .before .before .before .before .before .before .before .loop .inv .1) (c .before .before .before .before .before .before .before .before .before .before .loop-test .taken) _ _ (c .before .before .before .before .note .result .fits) (rw (c .before .before .before .before .before .before .before .before .from-u82 .ensures) at (c .before .before .before .before .note .ensures)) (omega arith) (not-false _ (c .before .before .if2 .left)))
+loop-again c =
+    let past-note = c .before .before in
+    let at-note = past-note .before .before in
+    let at-above = at-note .before .before .before .before in
+    let past-frames = at-above .before .before in
+    let at-frames = past-frames .before in
+    (at-frames .loop .inv .0, before-more _ _ _ _ _ _ _ _ _ _ (at-frames .loop .inv .1) (past-frames .loop-test .taken) _ _ (at-note .note .result .fits) (rw (at-above .from-u82 .ensures) at (at-note .note .ensures)) (omega arith) (not-false _ (past-note .if2 .left)))
 
 loop2-holds : tie.Need-loop2-holds Inv-loop μ-loop Inv-loop2 μ-loop2
 loop2-holds c = (c .loop-test .left, omega (arith, c .before .loop .inv .1 .most), rest-none _ _ _ _ (c .before .loop .inv .1 .most) (record { first = refl; parent = refl; last = refl }))
@@ -160,35 +196,91 @@ loop2-less : tie.Need-loop2-less Inv-loop μ-loop Inv-loop2 μ-loop2
 loop2-less c = search needs
 
 loop2-again : tie.Need-loop2-again Inv-loop μ-loop Inv-loop2 μ-loop2
-loop2-again c = (omega arith, omega arith, rest-more _ _ _ _ _ (c .before .before .before .loop2 .inv .0) (gathers (recordAt (c .before .before .before .before .before .before .before .before .before .before .before .before .args .pool .records) (c .before .before .before .loop2 .f)) _ _ (c .before .first-fields .ensures) (c .last-fields .ensures) _ _ _) (c .before .before .before .loop2 .inv .2))
+loop2-again c =
+    let at-first-fields = c .before in
+    let at-rest = at-first-fields .before .before in
+    let past-hand = at-rest .before .before .before in
+    let at-count = past-hand .before .before .before in
+    let at-entry = at-count .before .before .before in
+    (omega arith, omega arith, rest-more _ _ _ _ _ (at-rest .loop2 .inv .0) (gathers (recordAt (at-entry .args .pool .records) (at-rest .loop2 .f)) _ _ (at-first-fields .first-fields .ensures) (c .last-fields .ensures) _ _ _) (at-rest .loop2 .inv .2))
 
+-- a record from F on has a field before its parent set
 returns-3 : tie.Need-returns-3 Inv-loop μ-loop Inv-loop2 μ-loop2
-returns-3 c = end-rest (c .before .before .before .before .before .before .before .before .before .before .before .args .pool) _ (c .before .before .before .before .before .before .before .before .before .before .before .pre .0) _ (c .before .before .before .before .before .before .before .before .from-u16 .ensures) _ _ (λ r. c .if3 .taken (c .before .before .loop2 .inv .2 .nothing (λ g a b. r g a (omega arith)) .first))
+returns-3 c =
+    let at-rest = c .before .before in
+    let past-hand = at-rest .before .before .before in
+    let at-count = past-hand .before .before .before in
+    let at-entry = at-count .before .before .before in
+    end-rest (at-entry .args .pool) _ (at-entry .pre .0) _ (at-count .from-u16 .ensures) _ _ (λ r. c .if3 .taken (at-rest .loop2 .inv .2 .nothing (λ g a b. r g a (omega arith)) .first))
 
+-- a record from F on has its parent set
 returns-4 : tie.Need-returns-4 Inv-loop μ-loop Inv-loop2 μ-loop2
-returns-4 c = end-rest (c .before .before .before .before .before .before .before .before .before .before .before .before .args .pool) _ (c .before .before .before .before .before .before .before .before .before .before .before .before .pre .0) _ (c .before .before .before .before .before .before .before .before .before .from-u16 .ensures) _ _ (λ r. c .if4 .taken (c .before .before .before .loop2 .inv .2 .nothing (λ g a b. r g a (omega arith)) .parent))
+returns-4 c =
+    let at-rest = c .before .before .before in
+    let past-hand = at-rest .before .before .before in
+    let at-count = past-hand .before .before .before in
+    let at-entry = at-count .before .before .before in
+    end-rest (at-entry .args .pool) _ (at-entry .pre .0) _ (at-count .from-u16 .ensures) _ _ (λ r. c .if4 .taken (at-rest .loop2 .inv .2 .nothing (λ g a b. r g a (omega arith)) .parent))
 
+-- a record from F on has a field after its parent set
 returns-5 : tie.Need-returns-5 Inv-loop μ-loop Inv-loop2 μ-loop2
-returns-5 c = end-rest (c .before .before .before .before .before .before .before .before .before .before .before .before .before .args .pool) _ (c .before .before .before .before .before .before .before .before .before .before .before .before .before .pre .0) _ (c .before .before .before .before .before .before .before .before .before .before .from-u16 .ensures) _ _ (λ r. c .if5 .taken (c .before .before .before .before .loop2 .inv .2 .nothing (λ g a b. r g a (omega arith)) .last))
+returns-5 c =
+    let at-rest = c .before .before .before .before in
+    let past-hand = at-rest .before .before .before in
+    let at-count = past-hand .before .before .before in
+    let at-entry = at-count .before .before .before in
+    end-rest (at-entry .args .pool) _ (at-entry .pre .0) _ (at-count .from-u16 .ensures) _ _ (λ r. c .if5 .taken (at-rest .loop2 .inv .2 .nothing (λ g a b. r g a (omega arith)) .last))
 
 add-if6 : tie.Need-add-if6 Inv-loop μ-loop Inv-loop2 μ-loop2
-add-if6 c = omega (arith, before-few _ _ _ _ _ _ _ _ _ _ (c .before .before .before .before .before .before .loop .inv .1) .1, c .before .before .before .before .before .before .loop .inv .1 .most)
+add-if6 c =
+    let past-frames = c .before .before .before .before .before in
+    let at-frames = past-frames .before in
+    omega (arith, before-few _ _ _ _ _ _ _ _ _ _ (at-frames .loop .inv .1) .1, at-frames .loop .inv .1 .most)
 
+-- a word that isn't below N is no frame's own
 returns-6 : tie.Need-returns-6 Inv-loop μ-loop Inv-loop2 μ-loop2
-returns-6 c = end-frames (c .before .before .before .before .before .before .before .before .before .before .before .before .before .before .args .pool) _ (c .before .before .before .before .before .before .before .before .before .before .before .before .before .before .pre .0) _ (c .before .before .before .before .before .before .before .before .before .before .before .from-u16 .ensures) _ _ (λ k. c .if6 .taken (frames-even _ _ _ _ _ _ _ _ _ _ (c .before .before .before .before .before .before .before .loop .inv .1) (c .before .before .before .before .before .before .loop-test .left) k))
+returns-6 c =
+    let at-rest = c .before .before .before .before .before in
+    let past-frames = at-rest .before in
+    let at-frames = past-frames .before in
+    let at-count = at-frames .before .before .before .before in
+    let at-entry = at-count .before .before .before in
+    end-frames (at-entry .args .pool) _ (at-entry .pre .0) _ (at-count .from-u16 .ensures) _ _ (λ k. c .if6 .taken (frames-even _ _ _ _ _ _ _ _ _ _ (at-frames .loop .inv .1) (past-frames .loop-test .left) k))
 
 lead-to-root-requires : tie.Need-lead-to-root-requires Inv-loop μ-loop Inv-loop2 μ-loop2
 lead-to-root-requires c κs =
-    let z = settle _ _ _ _ _ _ _ _ _ _ (c .before .before .before .before .before .before .before .loop .inv .1) (c .before .before .before .before .before .before .loop-test .left) (c .if6 .left) _ _ (c .before .before .before .before .loop2-test .left) (c .before .before .before .before .before .loop2 .inv .2) (record { first = c .before .before .before .if3 .left; parent = c .before .before .if4 .left; last = c .before .if5 .left }) in (
-      c .before .before .before .before .before .before .before .loop .inv .0,
-      table-below (c .before .before .before .before .before .before .before .before .before .before .before .before .before .before .args .pool) _ (c .before .before .before .before .before .before .before .before .before .before .before .before .before .before .pre .0) _ (c .before .before .before .before .before .before .before .before .before .before .before .from-u16 .ensures) _ _ _ z,
-      table-root (c .before .before .before .before .before .before .before .before .before .before .before .before .before .before .args .pool) _ (c .before .before .before .before .before .before .before .before .before .before .before .before .before .before .pre .0) _ (c .before .before .before .before .before .before .before .before .before .before .before .from-u16 .ensures) _ _ _ z,
+    let past-last = c .before in
+    let past-parent = past-last .before in
+    let past-first = past-parent .before in
+    let past-rest = past-first .before in
+    let at-rest = past-rest .before in
+    let past-frames = at-rest .before in
+    let at-frames = past-frames .before in
+    let at-count = at-frames .before .before .before .before in
+    let at-entry = at-count .before .before .before in
+    let z = settle _ _ _ _ _ _ _ _ _ _ (at-frames .loop .inv .1) (past-frames .loop-test .left) (c .if6 .left) _ _ (past-rest .loop2-test .left) (at-rest .loop2 .inv .2) (record { first = past-first .if3 .left; parent = past-parent .if4 .left; last = past-last .if5 .left }) in (
+      at-frames .loop .inv .0,
+      table-below (at-entry .args .pool) _ (at-entry .pre .0) _ (at-count .from-u16 .ensures) _ _ _ z,
+      table-root (at-entry .args .pool) _ (at-entry .pre .0) _ (at-count .from-u16 .ensures) _ _ _ z,
     )
 
+-- each frame fits, so that its parents decide
 returns-7 : tie.Need-returns-7 Inv-loop μ-loop Inv-loop2 μ-loop2
 returns-7 c =
-    let z = settle _ _ _ _ _ _ _ _ _ _ (c .before .before .before .before .before .before .before .before .loop .inv .1) (c .before .before .before .before .before .before .before .loop-test .left) (c .before .if6 .left) _ _ (c .before .before .before .before .before .loop2-test .left) (c .before .before .before .before .before .before .loop2 .inv .2) (record { first = c .before .before .before .before .if3 .left; parent = c .before .before .before .if4 .left; last = c .before .before .if5 .left }) in
-    end-all (c .before .before .before .before .before .before .before .before .before .before .before .before .before .before .before .args .pool) _ (c .before .before .before .before .before .before .before .before .before .before .before .before .before .before .before .pre .0) _ (c .before .before .before .before .before .before .before .before .before .before .before .before .from-u16 .ensures) _ _ _ z _ (c .before .before .before .before .before .before .before .before .before .before .from-u8 .ensures) (c .before .before .before .before .before .before .before .before .before .if1 .left) (c .lead-to-root .result) (c .lead-to-root .ensures)
+    let past-over = c .before in
+    let past-last = past-over .before in
+    let past-parent = past-last .before in
+    let past-first = past-parent .before in
+    let past-rest = past-first .before in
+    let at-rest = past-rest .before in
+    let past-frames = at-rest .before in
+    let at-frames = past-frames .before in
+    let past-hand = at-frames .before in
+    let at-hand = past-hand .before in
+    let at-count = at-hand .before .before in
+    let at-entry = at-count .before .before .before in
+    let z = settle _ _ _ _ _ _ _ _ _ _ (at-frames .loop .inv .1) (past-frames .loop-test .left) (past-over .if6 .left) _ _ (past-rest .loop2-test .left) (at-rest .loop2 .inv .2) (record { first = past-first .if3 .left; parent = past-parent .if4 .left; last = past-last .if5 .left }) in
+    end-all (at-entry .args .pool) _ (at-entry .pre .0) _ (at-count .from-u16 .ensures) _ _ _ z _ (at-hand .from-u8 .ensures) (past-hand .if1 .left) (c .lead-to-root .result) (c .lead-to-root .ensures)
 
 pub agrees-spec : {M : Type 1} → statement M
 agrees-spec =

@@ -5,7 +5,7 @@ use lib.ListN.{length}
 use Rattle.machine.specs.Machine.{State, state, recordAt}
 use Rattle.machine.specs.Calls.{writeCall}
 use Rattle.machine.specs.Laws.RuleLaws.{done-no}
-use Rattle.changes.specs.Changed.{Writable, writable, put-back, write-nothing, write-bytes}
+use Rattle.changes.specs.Changed.{WriteKept, write-kept, put-back, write-nothing, write-bytes}
 use borrow.Author.Needs.{needs}
 use Rattle.changes.proofs.write.Statement.{statement}
 use Rattle.changes.proofs.write.Tie as tie
@@ -14,8 +14,8 @@ abbrev given : tie.Start → State
 given c = let a = c .args in state (a .pool) (a .frames .now) (a .store .now)
 
 -- past the refusals
-ok : (c : tie.Else1) → let a = c .before .before .before .before .before .before .before .before .before .before .args in Writable (given (c .before .before .before .before .before .before .before .before .before .before)) (a .handle) (a .offset) (length (a .bytes .now))
-ok c = let a = c .before .before .before .before .before .before .before .before .before .before .args in writable (given (c .before .before .before .before .before .before .before .before .before .before)) (a .handle) (a .offset) (length (a .bytes .now)) (c .before .write-refusal .ensures) (c .if1 .left)
+ok : (c : tie.Else1) → let a = c .before .before .before .before .before .before .before .before .before .before .args in WriteKept (given (c .before .before .before .before .before .before .before .before .before .before)) (a .handle) (a .offset) (length (a .bytes .now))
+ok c = let a = c .before .before .before .before .before .before .before .before .before .before .args in write-kept (given (c .before .before .before .before .before .before .before .before .before .before)) (a .handle) (a .offset) (length (a .bytes .now)) (c .before .write-refusal .ensures) (c .if1 .left)
 
 record-place-requires : tie.Need-record-place-requires
 record-place-requires c κs = search needs

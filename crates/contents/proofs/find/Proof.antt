@@ -3,7 +3,7 @@ use mathlib.Core.Path.{refl}
 use native.Mathlib.Omega.{arith}
 use Rattle.machine.specs.Calls.{findCall}
 use Rattle.machine.specs.Laws.RuleLaws.{answer-no}
-use Rattle.scan.specs.ByTable.{few}
+use Rattle.scan.specs.FoundByTable.{few-frames}
 use Rattle.contents.specs.Lookup.{find-at, find-absent}
 use borrow.Author.Needs.{needs}
 use Rattle.contents.proofs.find.Statement.{statement}
@@ -17,10 +17,10 @@ unfolding findCall
 returns c = answer-no _ _ _ (c .before .page-refusal .ensures .0) (c .if1 .taken)
 
 find-frame-requires : tie.Need-find-frame-requires
-find-frame-requires c κs = few _ _ (c .before .before .page-refusal .ensures) (c .before .if1 .left) refl
+find-frame-requires c κs = few-frames _ _ (c .before .before .page-refusal .ensures) (c .before .if1 .left) refl
 
 cast-t17 : tie.Need-cast-t17
-cast-t17 c = let h = few _ _ (c .before .before .before .before .page-refusal .ensures) (c .before .before .before .if1 .left) refl in omega (arith, h)
+cast-t17 c = let h = few-frames _ _ (c .before .before .before .before .page-refusal .ensures) (c .before .before .before .if1 .left) refl in omega (arith, h)
 
 returns-2 : tie.Need-returns-2
 returns-2 c = find-at _ _ (c .before .before .before .before .page-refusal .ensures) (c .before .before .before .if1 .left) refl (c .before .find-frame .ensures) (c .if2 .taken)

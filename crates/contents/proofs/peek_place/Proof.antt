@@ -4,7 +4,7 @@ use native.Mathlib.Omega.{arith}
 use Rattle.machine.specs.Answers.{placeOf}
 use Rattle.machine.specs.Calls.{peekCall}
 use Rattle.machine.specs.Laws.RuleLaws.{answer-no}
-use Rattle.scan.specs.ByTable.{few}
+use Rattle.scan.specs.FoundByTable.{few-frames}
 use Rattle.contents.specs.Lookup.{peek-in-frame, peek-in-store}
 use borrow.Author.Needs.{needs}
 use Rattle.contents.proofs.peek_place.Statement.{statement}
@@ -21,10 +21,10 @@ unfolding peekCall
 returns c = c .refused .ensures ∙ ap placeOf (answer-no _ _ _ (c .before .before .page-refusal .ensures .0) (c .before .if1 .taken))
 
 find-frame-requires : tie.Need-find-frame-requires
-find-frame-requires c κs = few _ _ (c .before .before .page-refusal .ensures) (c .before .if1 .left) refl
+find-frame-requires c κs = few-frames _ _ (c .before .before .page-refusal .ensures) (c .before .if1 .left) refl
 
 cast-t17 : tie.Need-cast-t17
-cast-t17 c = let h = few _ _ (c .before .before .before .before .page-refusal .ensures) (c .before .before .before .if1 .left) refl in omega (arith, h)
+cast-t17 c = let h = few-frames _ _ (c .before .before .before .before .page-refusal .ensures) (c .before .before .before .if1 .left) refl in omega (arith, h)
 
 in-frame-requires : tie.Need-in-frame-requires
 in-frame-requires c κs = search needs

@@ -5,7 +5,7 @@ use native.Mathlib.Omega.{arith}
 use Rattle.page.specs.Figures.{mostFrames}
 use Rattle.machine.specs.Machine.{state, recordAt}
 use Rattle.machine.specs.Laws.RuleLaws.{SlotKept, slot-kept}
-use Rattle.fixing.specs.Steps.{pinDecided}
+use Rattle.fixing.specs.FixSteps.{pinDecided}
 use Rattle.fixing.specs.StepLaws.{pin-denied, pin-given, fix-denied, fix-nothing, fix-missed, fix-pinned, number-below, frame-below}
 use borrow.Author.Needs.{needs}
 use Rattle.fixing.proofs.fix.Statement.{statement}
@@ -17,11 +17,21 @@ ok c = slot-kept _ _ _ (sym (c .before .slot-refusal .ensures .0) ∙ c .if1 .le
 
 -- the number is below N
 number : (c : tie.Then3) → c .before .before .before .slot-name .result < c .before .before .before .before .before .before .before .before .before .before .before .before .before .before .before .before .args .pool .pages
-number c = number-below _ _ _ (ok (c .before .before .before .before .before .before)) (c .before .before .before .slot-name .ensures) (sym (c .before .is-number .ensures) ∙ c .if3 .taken) (c .before .before .if2 .left)
+number c =
+    let at-reading = c .before in
+    let past-name = at-reading .before in
+    let at-name = past-name .before in
+    let past-refusal = at-name .before .before .before in
+    number-below _ _ _ (ok past-refusal) (at-name .slot-name .ensures) (sym (at-reading .is-number .ensures) ∙ c .if3 .taken) (past-name .if2 .left)
 
 -- the frame is below 64
 frame : (c : tie.After-frame-in) → c .frame-in .result < mostFrames
-frame c = let b = frame-below _ _ _ (ok (c .before .before .before .before .before .before .before)) (c .before .before .before .before .slot-name .ensures) (sym (c .before .before .is-number .ensures) ∙ c .before .if3 .left) in let e = c .frame-in .ensures in omega arith
+frame c =
+    let past-reading = c .before in
+    let at-reading = past-reading .before in
+    let at-name = at-reading .before .before in
+    let past-refusal = at-name .before .before .before in
+    let b = frame-below _ _ _ (ok past-refusal) (at-name .slot-name .ensures) (sym (at-reading .is-number .ensures) ∙ past-reading .if3 .left) in let e = c .frame-in .ensures in omega arith
 
 record-place-requires : tie.Need-record-place-requires
 record-place-requires c κs = search needs
@@ -33,7 +43,10 @@ element-copy-out-held : tie.Need-element-copy-out-held
 element-copy-out-held c = search needs
 
 slot-refusal-requires : tie.Need-slot-refusal-requires
-slot-refusal-requires c κs = (ap (recordAt (c .before .before .before .before .before .before .before .before .args .pool .records)) (c .before .before .before .before .before .record-place .ensures), record { noPage = refl; noneSeen = refl })
+slot-refusal-requires c κs =
+    let at-place = c .before .before .before .before .before in
+    let at-entry = at-place .before .before .before in
+    (ap (recordAt (at-entry .args .pool .records)) (at-place .record-place .ensures), record { noPage = refl; noneSeen = refl })
 
 refused-requires : tie.Need-refused-requires
 refused-requires c κs = search needs
@@ -44,6 +57,7 @@ same-length c = search needs
 same-length-2 : tie.Need-same-length-2
 same-length-2 c = search needs
 
+-- rules 1 to 4 refuse
 returns : tie.Need-returns
 returns c = fix-denied _ _ _ (c .before .before .slot-refusal .ensures .0) (c .before .if1 .taken) (c .refused .ensures)
 
@@ -59,17 +73,31 @@ same-length-3 c = search needs
 same-length-4 : tie.Need-same-length-4
 same-length-4 c = search needs
 
+-- 7: the slot names nothing
 returns-2 : tie.Need-returns-2
-returns-2 c = fix-nothing _ _ _ (c .before .before .before .before .before .before .slot-refusal .ensures .0) (c .before .before .before .before .before .if1 .left) (c .before .before .slot-name .ensures) (c .before .if2 .taken) (c .refused2 .ensures)
+returns-2 c =
+    let past-name = c .before in
+    let at-name = past-name .before in
+    let past-refusal = at-name .before .before .before in
+    let at-refusal = past-refusal .before in
+    fix-nothing _ _ _ (at-refusal .slot-refusal .ensures .0) (past-refusal .if1 .left) (at-name .slot-name .ensures) (past-name .if2 .taken) (c .refused2 .ensures)
 
 is-number-requires : tie.Need-is-number-requires
 is-number-requires c κs = search needs
 
 cast-t34 : tie.Need-cast-t34
-cast-t34 c = let l = number c in let h = ok (c .before .before .before .before .before .before) in omega arith
+cast-t34 c =
+    let at-name = c .before .before .before in
+    let past-refusal = at-name .before .before .before in
+    let l = number c in let h = ok past-refusal in omega arith
 
 bring-in-requires : tie.Need-bring-in-requires
-bring-in-requires c κs = let h = ok (c .before .before .before .before .before .before .before .before .before .before) in (h .kept, c .before .before .before .before .before .before .before .before .before .before .before .slot-refusal .ensures .1 (c .before .before .before .before .before .before .before .before .before .before .if1 .left), h .held .below, h .slot, number (c .before .before .before .before))
+bring-in-requires c κs =
+    let past-reading = c .before .before .before .before in
+    let at-name = past-reading .before .before .before in
+    let past-refusal = at-name .before .before .before in
+    let at-refusal = past-refusal .before in
+    let h = ok past-refusal in (h .kept, at-refusal .slot-refusal .ensures .1 (past-refusal .if1 .left), h .held .below, h .slot, number past-reading)
 
 same-length-5 : tie.Need-same-length-5
 same-length-5 c = search needs
@@ -77,8 +105,17 @@ same-length-5 c = search needs
 same-length-6 : tie.Need-same-length-6
 same-length-6 c = search needs
 
+-- the page that it names isn't resident, and comes in
 returns-3 : tie.Need-returns-3
-returns-3 c = fix-missed _ _ _ (c .before .before .before .before .before .before .before .before .before .before .before .before .before .before .before .before .slot-refusal .ensures .0) (c .before .before .before .before .before .before .before .before .before .before .before .before .before .before .before .if1 .left) (c .before .before .before .before .before .before .before .before .before .before .before .before .slot-name .ensures) (c .before .before .before .before .before .before .before .before .before .before .before .if2 .left) (sym (c .before .before .before .before .before .before .before .before .before .before .is-number .ensures) ∙ c .before .before .before .before .before .before .before .before .before .if3 .taken) (c .before .before .before .before .bring-in .ensures)
+returns-3 c =
+    let at-load = c .before .before .before .before in
+    let past-reading = at-load .before .before .before .before .before in
+    let at-reading = past-reading .before in
+    let past-name = at-reading .before in
+    let at-name = past-name .before in
+    let past-refusal = at-name .before .before .before in
+    let at-refusal = past-refusal .before in
+    fix-missed _ _ _ (at-refusal .slot-refusal .ensures .0) (past-refusal .if1 .left) (at-name .slot-name .ensures) (past-name .if2 .left) (sym (at-reading .is-number .ensures) ∙ past-reading .if3 .taken) (at-load .bring-in .ensures)
 
 frame-in-requires : tie.Need-frame-in-requires
 frame-in-requires c κs = search needs
@@ -98,8 +135,18 @@ same-length-7 c = search needs
 same-length-8 : tie.Need-same-length-8
 same-length-8 c = search needs
 
+-- 13: it is resident, and has no pin left to give
 returns-4 : tie.Need-returns-4
-returns-4 c = fix-pinned _ _ _ (c .before .before .before .before .before .before .before .before .before .before .before .before .slot-refusal .ensures .0) (c .before .before .before .before .before .before .before .before .before .before .before .if1 .left) (c .before .before .before .before .before .before .before .before .slot-name .ensures) (c .before .before .before .before .before .before .before .if2 .left) (sym (c .before .before .before .before .before .before .is-number .ensures) ∙ c .before .before .before .before .before .if3 .left) (pin-denied _ _ (c .before .if4 .taken) (c .refused3 .ensures) ∙ ap (pinDecided _) (c .before .before .before .before .frame-in .ensures))
+returns-4 c =
+    let past-pins = c .before in
+    let at-frame = past-pins .before .before .before in
+    let past-reading = at-frame .before in
+    let at-reading = past-reading .before in
+    let past-name = at-reading .before in
+    let at-name = past-name .before in
+    let past-refusal = at-name .before .before .before in
+    let at-refusal = past-refusal .before in
+    fix-pinned _ _ _ (at-refusal .slot-refusal .ensures .0) (past-refusal .if1 .left) (at-name .slot-name .ensures) (past-name .if2 .left) (sym (at-reading .is-number .ensures) ∙ past-reading .if3 .left) (pin-denied _ _ (past-pins .if4 .taken) (c .refused3 .ensures) ∙ ap (pinDecided _) (at-frame .frame-in .ensures))
 
 pinned-requires : tie.Need-pinned-requires
 pinned-requires c κs = search needs
@@ -108,10 +155,14 @@ mul-t20 : tie.Need-mul-t20
 mul-t20 c = search needs
 
 element-set-from-next : tie.Need-element-set-from-next
-element-set-from-next c = frame (c .before .before .before .before .before)
+element-set-from-next c =
+    let at-frame = c .before .before .before .before .before in
+    frame at-frame
 
 cast-t46 : tie.Need-cast-t46
-cast-t46 c = let l = frame (c .before .before .before .before .before) in omega arith
+cast-t46 c =
+    let at-frame = c .before .before .before .before .before in
+    let l = frame at-frame in omega arith
 
 given-requires : tie.Need-given-requires
 given-requires c κs = search needs
@@ -122,8 +173,19 @@ same-length-9 c = search needs
 same-length-10 : tie.Need-same-length-10
 same-length-10 c = search needs
 
+-- it is resident, and gains a pin
 returns-5 : tie.Need-returns-5
-returns-5 c = fix-pinned _ _ _ (c .before .before .before .before .before .before .before .before .before .before .before .before .before .before .slot-refusal .ensures .0) (c .before .before .before .before .before .before .before .before .before .before .before .before .before .if1 .left) (c .before .before .before .before .before .before .before .before .before .before .slot-name .ensures) (c .before .before .before .before .before .before .before .before .before .if2 .left) (sym (c .before .before .before .before .before .before .before .before .is-number .ensures) ∙ c .before .before .before .before .before .before .before .if3 .left) (pin-given _ _ (c .before .before .before .if4 .left) (c .before .pinned .ensures) (c .given .ensures) ∙ ap (pinDecided _) (c .before .before .before .before .before .before .frame-in .ensures))
+returns-5 c =
+    let at-pinned = c .before in
+    let past-pins = at-pinned .before .before in
+    let at-frame = past-pins .before .before .before in
+    let past-reading = at-frame .before in
+    let at-reading = past-reading .before in
+    let past-name = at-reading .before in
+    let at-name = past-name .before in
+    let past-refusal = at-name .before .before .before in
+    let at-refusal = past-refusal .before in
+    fix-pinned _ _ _ (at-refusal .slot-refusal .ensures .0) (past-refusal .if1 .left) (at-name .slot-name .ensures) (past-name .if2 .left) (sym (at-reading .is-number .ensures) ∙ past-reading .if3 .left) (pin-given _ _ (past-pins .if4 .left) (at-pinned .pinned .ensures) (c .given .ensures) ∙ ap (pinDecided _) (at-frame .frame-in .ensures))
 
 pub fix-spec : {M : Type 1} → statement M
 fix-spec =

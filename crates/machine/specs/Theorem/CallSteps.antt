@@ -1,4 +1,4 @@
--- A call that is granted or denied keeps the invariant: fix, open and those that change nothing; and the points after root and fix. Assumes nothing.
+-- A call that is granted or denied keeps the invariant: fix, open and those that change nothing; and the points after root, fix and unfix. Assumes nothing.
 use Prim.Native.Nat.{ℕ, _/_}
 use mathlib.Core.Path.{_≡_, refl}
 use mathlib.Core.Bool.{true}
@@ -15,14 +15,14 @@ use Rattle.machine.specs.Soundness.{sound}
 use Rattle.machine.specs.Sweep.{firstEmpty}
 use Rattle.machine.specs.Answers.{Answer, refused, done, payload, inFrames, inStore, frame, nowhere, Out, out}
 use Rattle.machine.specs.Calls.{opened, showCall, fixCall, payloadPlace, foundAnswer}
-use Rattle.machine.specs.History.{root, fix, show, peek, find, Row, row, Point, continued, reopened, next}
+use Rattle.machine.specs.History.{root, fix, unfix, show, peek, find, Row, row, Point, continued, reopened, next}
 use Rattle.machine.specs.Theorem.View.{first-root}
 use Rattle.machine.specs.Theorem.Invariant.{Invariant}
-use Rattle.machine.specs.Theorem.Keeps.{pin-keeps, load-keeps, open-keeps}
+use Rattle.machine.specs.Theorem.Keeps.{pin-keeps, unpin-keeps, load-keeps, open-keeps}
 use Rattle.machine.specs.Theorem.SweepStep.{swept-keeps}
 use Rattle.machine.specs.Theorem.Outcomes.{Cases, granted, denied}
 use Rattle.machine.specs.Theorem.InvariantReads.{lengths-fit-open}
-use Rattle.machine.specs.Theorem.CallCases.{root-case, handle-case}
+use Rattle.machine.specs.Theorem.CallCases.{root-case, unfix-case, handle-case}
 use Rattle.machine.specs.Theorem.FixCases.{pins, fills, sweeps, refuses, fix-case}
 
 module _ (x : Point) (I : Invariant x) where
@@ -66,7 +66,7 @@ module _ (x : Point) (I : Invariant x) where
   open-step o (granted k e) = rw e (open-keeps (x .now .frames) (x .now .store) (I .frameOctets) (I .storeOctets) (lengths-fit-open x I) k)
   open-step o (denied n u e) = rw e I
 
-  -- ---- the points after root and fix
+  -- ---- the points after root, fix and unfix
   pub root-next : Invariant (next root x)
   unfolding next pick
   root-next = call-keeps (row root) _ _ _ (root-case x I) (λ few. pin-keeps x I 0 (first-root _ (I .shape)) few)
@@ -74,3 +74,7 @@ module _ (x : Point) (I : Invariant x) where
   pub fix-next : (h : Handle) (k : ℕ) → Invariant (next (fix h k) x)
   unfolding next pick
   fix-next h k = fix-keeps h k
+
+  pub unfix-next : (h : Handle) → Invariant (next (unfix h) x)
+  unfolding next pick
+  unfix-next h = call-keeps (row (unfix h)) _ _ _ (unfix-case x I h) (λ H. rw (H .page) at (unpin-keeps x I (h .frame .0) (H .at) (H .pinned)))

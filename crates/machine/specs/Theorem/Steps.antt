@@ -8,9 +8,9 @@ use Rattle.machine.specs.Machine.{found}
 use Rattle.machine.specs.History.{Call, reopen, root, fix, unfix, show, peek, word, write, link, unlink, evict, settle, find, row, Point, next}
 use Rattle.machine.specs.Theorem.View.{past-first}
 use Rattle.machine.specs.Theorem.Invariant.{Invariant}
-use Rattle.machine.specs.Theorem.Keeps.{unpin-keeps, write-keeps, relink-keeps, evict-keeps, settle-keeps}
-use Rattle.machine.specs.Theorem.CallCases.{open-case, unfix-case, word-case, write-case, peek-case, find-case, link-case, unlink-case, evict-case, settle-case}
-use Rattle.machine.specs.Theorem.CallSteps.{call-keeps, show-keeps, peek-keeps, find-keeps, open-step, root-next, fix-next}
+use Rattle.machine.specs.Theorem.Keeps.{write-keeps, relink-keeps, evict-keeps, settle-keeps}
+use Rattle.machine.specs.Theorem.CallCases.{open-case, word-case, write-case, peek-case, find-case, link-case, unlink-case, evict-case, settle-case}
+use Rattle.machine.specs.Theorem.CallSteps.{call-keeps, show-keeps, peek-keeps, find-keeps, open-step, root-next, fix-next, unfix-next}
 
 module _ (x : Point) (I : Invariant x) where
   pub step-keeps : (c : Call) → Octets (row c .bytes) → Invariant (next c x)
@@ -18,7 +18,7 @@ module _ (x : Point) (I : Invariant x) where
   step-keeps reopen b = open-step x I _ (open-case x I)
   step-keeps root b = root-next x I
   step-keeps (fix h k) b = fix-next x I h k
-  step-keeps (unfix h) b = call-keeps x I (row (unfix h)) _ _ _ (unfix-case x I h) (λ H. rw (H .page) at (unpin-keeps x I (h .frame .0) (H .at) (H .pinned)))
+  step-keeps (unfix h) b = unfix-next x I h
   step-keeps (show h) b = show-keeps x I h
   step-keeps (peek q) b = call-keeps x I (row (peek q)) _ _ _ (peek-case x I q) (λ l. peek-keeps x I q)
   step-keeps (word h k) b = call-keeps x I (row (word h k)) _ _ _ (word-case x I h k) (λ A. I)

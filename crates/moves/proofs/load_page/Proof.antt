@@ -1,6 +1,6 @@
 -- `load_page` meets its contract: the parent's old word is read before the page is copied. Assumes nothing.
 use mathlib.Core.Path.{refl}
-use Rattle.moves.specs.Steps.{renamed-put}
+use Rattle.moves.specs.MoveSteps.{renamed-put}
 use Rattle.moves.specs.InAndOut.{broughtIn}
 use borrow.Author.Needs.{needs}
 use Rattle.moves.proofs.load_page.Statement.{statement}
@@ -24,8 +24,11 @@ renamed-requires c κs = search needs
 put-in-slot-requires : tie.Need-put-in-slot-requires
 put-in-slot-requires c κs = search needs
 
-cast-t18 : tie.Need-cast-t18
-cast-t18 c = search needs
+cast-loaded : tie.Need-cast-loaded
+cast-loaded c = search needs
+
+loaded-requires : tie.Need-loaded-requires
+loaded-requires c κs = search needs
 
 same-length : tie.Need-same-length
 same-length c = search needs
@@ -33,12 +36,12 @@ same-length c = search needs
 returns : tie.Need-returns
 unfolding broughtIn
 returns c =
-    let put = c .before .before in
+    let put = c .before .before .before in
     let word = put .before .before in
     let copied = word .before .before .before .before in
     let read = copied .before .before .before in
     let whole = rw (copied .before .place .ensures) at (copied .to-frame .ensures .0) in
-    (refl, renamed-put _ _ _ _ _ _ _ _ _ _ _ whole refl (read .slot-word .ensures) (word .before .word .ensures) (word .renamed .ensures) (put .put-in-slot .ensures))
+    (c .loaded .ensures, renamed-put _ _ _ _ _ _ _ _ _ _ _ whole refl (read .slot-word .ensures) (word .before .word .ensures) (word .renamed .ensures) (put .put-in-slot .ensures))
 
 pub load-page-spec : {M : Type 1} → statement M
 load-page-spec =
@@ -50,6 +53,7 @@ load-page-spec =
     word-requires
     renamed-requires
     put-in-slot-requires
-    cast-t18
+    cast-loaded
+    loaded-requires
     same-length
     returns)

@@ -4,7 +4,7 @@ use Prim.Native.Nat.{_≤_, _-_}
 use mathlib.Core.Path.{_≡_, refl}
 use native.Mathlib.Omega.{arith}
 use lib.ListN.{length}
-use Rattle.moves.specs.Steps.{Settling, settling-none, settling-writable, settling-more, is-settled}
+use Rattle.moves.specs.MoveSteps.{Settling, settling-none, settling-writable, settling-more, is-settled}
 use Rattle.moves.proofs.settle_pages.Statement.{statement}
 use Rattle.moves.proofs.settle_pages.Tie as tie
 
@@ -32,11 +32,14 @@ cast-t18 c = search needs
 write-out-requires : tie.Need-write-out-requires Inv-loop μ-loop
 write-out-requires c κs = let l = c .before .before .before .loop in settling-writable (l .inv .2) (c .before .before .before .before .before .before .pre .0) (c .before .before .loop-test .taken) (l .inv .1)
 
-mul-record-2 : tie.Need-mul-record-2 Inv-loop μ-loop
-mul-record-2 c = search needs
+cleaned-requires : tie.Need-cleaned-requires Inv-loop μ-loop
+cleaned-requires c κs = search needs
 
-element-set-from-record : tie.Need-element-set-from-record Inv-loop μ-loop
-element-set-from-record c = search needs
+mul-t11 : tie.Need-mul-t11 Inv-loop μ-loop
+mul-t11 c = search needs
+
+element-set-from-next : tie.Need-element-set-from-next Inv-loop μ-loop
+element-set-from-next c = search needs
 
 add-f : tie.Need-add-f Inv-loop μ-loop
 add-f c = search needs
@@ -45,7 +48,11 @@ loop-less : tie.Need-loop-less Inv-loop μ-loop
 loop-less c = search needs
 
 loop-again : tie.Need-loop-again Inv-loop μ-loop
-loop-again c = let a = c .before .before .before .before .before .before .before .before .before in (omega arith, omega arith, settling-more (c .before .before .before .before .before .before .loop .inv .2) (a .pre .0) (c .before .before .before .before .before .loop-test .taken) (a .pre .1) (c .before .before .write-out .ensures))
+loop-again c =
+    let written = c .before .before .before in
+    let asked = written .before .before .before in
+    let entry = asked .before .before .before .before in
+    (omega arith, omega arith, settling-more (asked .before .loop .inv .2) (entry .pre .0) (asked .loop-test .taken) (entry .pre .1) (written .write-out .ensures) (c .cleaned .ensures))
 
 same-length : tie.Need-same-length Inv-loop μ-loop
 same-length c = c .before .loop .inv .1
@@ -65,8 +72,9 @@ settle-pages-spec =
     element-copy-out-record
     cast-t18
     write-out-requires
-    mul-record-2
-    element-set-from-record
+    cleaned-requires
+    mul-t11
+    element-set-from-next
     add-f
     loop-less
     loop-again

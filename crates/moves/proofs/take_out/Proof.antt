@@ -1,6 +1,6 @@
 -- `take_out` meets its contract: the page is written out from the frames as they were, before its number is put. Assumes nothing.
 use mathlib.Core.Path.{refl}
-use Rattle.moves.specs.Steps.{renamed-put}
+use Rattle.moves.specs.MoveSteps.{renamed-put}
 use borrow.Author.Needs.{needs}
 use Rattle.moves.proofs.take_out.Statement.{statement}
 use Rattle.moves.proofs.take_out.Tie as tie

@@ -3,7 +3,7 @@ use borrow.Author.Needs.{needs}
 use mathlib.Core.Path.{sym, _∙_, ap}
 use Rattle.machine.specs.Laws.TestLaws.{or-left, or-skip}
 use Rattle.naming.specs.Stored.{inStore}
-use Rattle.naming.specs.ByTable.{namedBy}
+use Rattle.naming.specs.NamedByTables.{namedBy}
 use Rattle.naming.proofs.is_named.Statement.{statement}
 use Rattle.naming.proofs.is_named.Tie as tie
 

@@ -8,7 +8,7 @@ use borrow.Author.Needs.{needs}
 use borrow.Author.Tests.{eq-eqb, ne-eqb}
 use Rattle.machine.specs.Laws.TestLaws.{pick-yes, pick-no}
 use Rattle.residents.specs.Residents.{pageBy}
-use Rattle.scan.specs.ByTable.{foundBy}
+use Rattle.scan.specs.FoundByTable.{foundBy}
 use Rattle.scan.proofs.find_frame.Statement.{statement}
 use Rattle.scan.proofs.find_frame.Tie as tie
 

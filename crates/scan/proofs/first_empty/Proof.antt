@@ -11,7 +11,7 @@ use Rattle.machine.specs.Laws.TestLaws.{call-no, call-yes, pick-yes, pick-no}
 use Rattle.machine.specs.Machine.{frameIndex}
 use Rattle.machine.specs.Sweep.{after}
 use Rattle.residents.specs.Residents.{holdsPage}
-use Rattle.scan.specs.ByTable.{emptyBy}
+use Rattle.scan.specs.FoundByTable.{emptyBy}
 use Rattle.scan.proofs.first_empty.Statement.{statement}
 use Rattle.scan.proofs.first_empty.Tie as tie
 

@@ -2,8 +2,8 @@
 use borrow.Author.Needs.{needs}
 use borrow.Author.Tests.{eq-eqb, ne-eqb, not-true, not-false}
 use native.Mathlib.Omega.{arith}
-use Rattle.agreement.specs.Deciding.{holds, fails, decide-by}
-use Rattle.agreement.specs.Fit.{Resident}
+use Rattle.agreement.specs.Deciding.{decided, fails, decide-by}
+use Rattle.agreement.specs.Fit.{ResidentFits}
 use Rattle.agreement.specs.FitLaws.{fits-root, fits-linked, fits-empty}
 use Rattle.agreement.proofs.frame.is_fitting.Statement.{statement}
 use Rattle.agreement.proofs.frame.is_fitting.Tie as tie
@@ -22,13 +22,13 @@ returns-2 c = λ k. fails (c .before .resident-fits .result) _ (c .before .resid
 
 is-linked-requires : tie.Need-is-linked-requires
 is-linked-requires c κs =
-    let r : Resident (c .before .before .before .before .before .before .before .args .count) (c .before .before .before .before .before .before .before .args .pages) (c .before .before .before .before .before .before .before .args .rec) = holds (c .before .resident-fits .result) _ (c .before .resident-fits .ensures) (not-false _ (c .if3 .left)) in
+    let r : ResidentFits (c .before .before .before .before .before .before .before .args .count) (c .before .before .before .before .before .before .before .args .pages) (c .before .before .before .before .before .before .before .args .rec) = decided (c .before .resident-fits .result) _ (c .before .resident-fits .ensures) (not-false _ (c .if3 .left)) in
     let S = c .before .before .before .before .before .before .before .pre .0 in
     omega (arith, r .parent, r .slot, S .most, S .size, c .before .before .before .before .before .before .before .pre .1)
 
 returns-3 : tie.Need-returns-3
 returns-3 c =
-    let r : Resident (c .before .before .before .before .before .before .before .before .args .count) (c .before .before .before .before .before .before .before .before .args .pages) (c .before .before .before .before .before .before .before .before .args .rec) = holds (c .before .before .resident-fits .result) _ (c .before .before .resident-fits .ensures) (not-false _ (c .before .if3 .left)) in
+    let r : ResidentFits (c .before .before .before .before .before .before .before .before .args .count) (c .before .before .before .before .before .before .before .before .args .pages) (c .before .before .before .before .before .before .before .before .args .rec) = decided (c .before .before .resident-fits .result) _ (c .before .before .resident-fits .ensures) (not-false _ (c .before .if3 .left)) in
     decide-by (c .is-linked .result) _ _ (λ k. fits-linked _ _ _ _ _ _ (c .before .before .before .before .before .if1 .left) (eq-eqb _ 1 (c .before .before .before .if2 .taken)) r k) (λ k. k .linked (c .before .before .before .before .before .if1 .left) (eq-eqb _ 1 (c .before .before .before .if2 .taken))) (c .is-linked .ensures)
 
 is-blank-requires : tie.Need-is-blank-requires

@@ -6,7 +6,7 @@ use mathlib.Core.Path.{_≡_, ap}
 use mathlib.Core.Logic.{⊎-elim}
 use Rattle.agreement.specs.Deciding.{Decides}
 use Rattle.agreement.specs.Fit.{entry}
-use Rattle.agreement.specs.Steps.{AtRoot, Jumped, jumped-none, jumped-more, jumps-of, at-root-more}
+use Rattle.agreement.specs.ParentSteps.{AtRoot, Jumped, jumped-none, jumped-more, jumps-of, at-root-more}
 use Rattle.agreement.proofs.steps.jump.Statement.{statement}
 use Rattle.agreement.proofs.steps.jump.Tie as tie
 

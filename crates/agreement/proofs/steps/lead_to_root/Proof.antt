@@ -3,9 +3,9 @@ use borrow.Author.Needs.{needs}
 use Prim.Native.Nat.{ℕ, _≤_, _+_, _*_, _-_}
 use native.Mathlib.Omega.{arith}
 use mathlib.Core.Path.{_≡_, refl}
-use Rattle.agreement.specs.Deciding.{holds, fails}
+use Rattle.agreement.specs.Deciding.{decided, fails}
 use Rattle.agreement.specs.Fit.{entry}
-use Rattle.agreement.specs.Steps.{Below, AtRoot, Steps, steps-one, lead-of, at-root}
+use Rattle.agreement.specs.ParentSteps.{Below, AtRoot, Steps, steps-one, lead-of, at-root}
 use Rattle.agreement.proofs.steps.lead_to_root.Statement.{statement}
 use Rattle.agreement.proofs.steps.lead_to_root.Tie as tie
 
@@ -28,7 +28,7 @@ jump-requires c κs = (c .before .before .before .pre .0, c .before .before .loo
 returns : tie.Need-returns Inv-loop μ-loop
 returns c =
     let s = c .before .jump .ensures .jumps _ _ (c .before .before .before .before .before .pre .1 .lt) (c .before .before .before .before .loop .inv .2) in
-    lead-of _ _ _ _ s (holds _ _ (c .before .jump .ensures .root) (c .if1 .taken))
+    lead-of _ _ _ _ s (decided _ _ (c .before .jump .ensures .root) (c .if1 .taken))
 
 mul-steps : tie.Need-mul-steps Inv-loop μ-loop
 mul-steps c = search needs

@@ -17,7 +17,7 @@ use Rattle.machine.specs.Calls.{linkRules}
 use Rattle.machine.specs.Laws.RuleLaws.{SlotKept, slot-kept, slot-stops, slot-passes}
 use Rattle.seen.specs.Seen.{Seen}
 use Rattle.residents.specs.Handed.{Handed}
-use Rattle.naming.specs.ByTable.{namedBy, named-by}
+use Rattle.naming.specs.NamedByTables.{namedBy, named-by-tables}
 use borrow.Author.Needs.{needs}
 use Rattle.changes.proofs.refusals.link_refusal.Statement.{statement}
 use Rattle.changes.proofs.refusals.link_refusal.Tie as tie
@@ -62,7 +62,7 @@ told : (c : tie.Else3) {residents : List ℕ} {seen : Seen} → let a = c .befor
 told c {residents} {seen} h =
     let a = c .before .before .before .before .before .before .before .before .before .before .args in
     let z = c .before .before .if2 .left in
-    ap (λ (n : ℕ). namedBy residents seen (a .store .now) n (a .page .0)) (stored (c .before .before .before .before)) ∙ named-by (given (c .before .before .before .before .before .before .before .before .before .before)) (kept (c .before .before .before .before) .kept) h (a .page .0) (omega arith) (below c)
+    ap (λ (n : ℕ). namedBy residents seen (a .store .now) n (a .page .0)) (stored (c .before .before .before .before)) ∙ named-by-tables (given (c .before .before .before .before .before .before .before .before .before .before)) (kept (c .before .before .before .before) .kept) h (a .page .0) (omega arith) (below c)
 
 slot-refusal-requires : tie.Need-slot-refusal-requires
 slot-refusal-requires c κs = search needs

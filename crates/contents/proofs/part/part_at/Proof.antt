@@ -2,7 +2,7 @@
 use native.Mathlib.Omega.{arith}
 use Rattle.machine.specs.Laws.TestLaws.{case, on, off}
 use Rattle.machine.specs.Answers.{lent}
-use Rattle.contents.specs.Places.{handed}
+use Rattle.contents.specs.Places.{handed-part}
 use borrow.Author.Needs.{needs}
 use Rattle.contents.proofs.part.part_at.Statement.{statement}
 use Rattle.contents.proofs.part.part_at.Tie as tie
@@ -23,7 +23,7 @@ part-result-end : tie.Need-part-result-end
 part-result-end c = c .before .before .pre .store (c .if1 .taken)
 
 returns : tie.Need-returns
-returns c = let a = c .before .before .before .args in handed (lent (a .frames)) (lent (a .store)) (a .place) (c .before .if1 .taken)
+returns c = let a = c .before .before .before .args in handed-part (lent (a .frames)) (lent (a .store)) (a .place) (c .before .if1 .taken)
 
 sub-result-2 : tie.Need-sub-result-2
 sub-result-2 c = search needs
@@ -35,7 +35,7 @@ part-result-end-2 : tie.Need-part-result-end-2
 part-result-end-2 c = c .before .before .pre .frames (c .if1 .left)
 
 returns-2 : tie.Need-returns-2
-returns-2 c = let a = c .before .before .before .args in handed (lent (a .frames)) (lent (a .store)) (a .place) (c .before .if1 .left)
+returns-2 c = let a = c .before .before .before .args in handed-part (lent (a .frames)) (lent (a .store)) (a .place) (c .before .if1 .left)
 
 pub part-at-spec : {M : Type 1} → statement M
 part-at-spec =

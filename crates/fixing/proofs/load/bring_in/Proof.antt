@@ -9,7 +9,7 @@ use Rattle.machine.specs.Sweep.{kind}
 use Rattle.machine.specs.Answers.{Out}
 use Rattle.machine.specs.Laws.Ready.{ready}
 use Rattle.scan.specs.Walk.{Sees, sees-none, sees-next}
-use Rattle.fixing.specs.Steps.{missDecided, sweptDecided}
+use Rattle.fixing.specs.FixSteps.{missDecided, sweptDecided}
 use Rattle.fixing.specs.StepLaws.{Cooling, Took, cooling-none, cooling-next, took, loadable-told, empty-told, load-given, victim-below, victim-removable, victim-fitting, swept-given, swept-denied, miss-denied, miss-empty, miss-full}
 use borrow.Author.Needs.{needs}
 use Rattle.fixing.proofs.load.bring_in.Statement.{statement}
@@ -29,19 +29,31 @@ abbrev μ-loop2 : tie.MeasureT-loop2
 
 -- rule 14 is kept, and no frame is empty
 full : (c : tie.Else2 Inv-loop μ-loop Inv-loop2 μ-loop2) → let a = c .before .before .before .before .before .before .before .before .before .args in (x : Out) → let s = state (a .pool) (a .frames .now) (a .store .now) in x ≡ sweptDecided s (a .parent .0) (a .slot) (a .page .0) → x ≡ missDecided s (a .parent .0) (a .slot) (a .page .0)
-full c x = let h = c .before .before .before .before .before .before .before .before .before .pre in miss-full _ _ _ _ (call-yes (loadable-told _ (h .0) (h .1) _ (c .before .before .before .before .is-loadable .ensures)) (c .before .before .before .if1 .left)) (empty-told _ (h .0) (h .1) (c .before .first-empty .ensures)) (c .if2 .left)
+full c x =
+    let at-empty = c .before in
+    let past-loadable = at-empty .before .before in
+    let at-loadable = past-loadable .before in
+    let at-entry = at-loadable .before .before .before .before .before in
+    let h = at-entry .pre in miss-full _ _ _ _ (call-yes (loadable-told _ (h .0) (h .1) _ (at-loadable .is-loadable .ensures)) (past-loadable .if1 .left)) (empty-told _ (h .0) (h .1) (at-empty .first-empty .ensures)) (c .if2 .left)
 
 -- the sweep sees every frame
 seen-all : (c : tie.After-loop Inv-loop μ-loop Inv-loop2 μ-loop2) → let a = c .before .before .before .before .before .before .before .before .before .before .before .args in Sees (kind (a .frames .now)) (a .pool .records) (c .before .loop .sights) (a .pool .count)
 seen-all c =
-    let e : c .before .loop .f ≡ c .before .before .before .before .before .before .before .before .before .before .before .args .pool .count = omega arith in
-    rw e at (c .before .loop .inv .1)
+    let at-sights = c .before in
+    let at-entry = at-sights .before .before .before .before .before .before .before .before .before .before in
+    let e : at-sights .loop .f ≡ at-entry .args .pool .count = omega arith in
+    rw e at (at-sights .loop .inv .1)
 
 -- a frame was taken, and the records are as the sweep leaves them
 taken : (c : tie.After-loop2 Inv-loop μ-loop Inv-loop2 μ-loop2) → let a = c .before .before .before .before .before .before .before .before .before .before .before .before .before .before .before .before .args in Took (state (a .pool) (a .frames .now) (a .store .now)) (c .before .before .before .sweep .result) (c .before .loop2 .next)
 taken c =
-    let e : c .before .loop2 .g ≡ c .before .before .before .before .before .before .before .before .before .before .before .before .before .before .before .before .args .pool .count = omega arith in
-    took _ (ready _ (c .before .before .before .before .before .before .before .before .before .before .before .before .before .before .before .before .pre .0)) (seen-all (c .before .before .before .before .before)) (c .before .before .before .sweep .ensures) (not-false _ (c .before .before .if3 .left)) (rw e at (c .before .loop2 .inv .1))
+    let at-cooling = c .before in
+    let past-sweep = at-cooling .before in
+    let at-sweep = past-sweep .before in
+    let past-sights = at-sweep .before .before in
+    let at-entry = past-sights .before .before .before .before .before .before .before .before .before .before .before in
+    let e : at-cooling .loop2 .g ≡ at-entry .args .pool .count = omega arith in
+    took _ (ready _ (at-entry .pre .0)) (seen-all past-sights) (at-sweep .sweep .ensures) (not-false _ (past-sweep .if3 .left)) (rw e at (at-cooling .loop2 .inv .1))
 
 is-loadable-requires : tie.Need-is-loadable-requires Inv-loop μ-loop Inv-loop2 μ-loop2
 is-loadable-requires c κs = search needs
@@ -52,8 +64,13 @@ refused-requires c κs = search needs
 same-length : tie.Need-same-length Inv-loop μ-loop Inv-loop2 μ-loop2
 same-length c = search needs
 
+-- 14
 returns : tie.Need-returns Inv-loop μ-loop Inv-loop2 μ-loop2
-returns c = let h = c .before .before .before .before .before .before .before .pre in miss-denied _ _ _ _ (call-no (loadable-told _ (h .0) (h .1) _ (c .before .before .is-loadable .ensures)) (c .before .if1 .taken)) (c .refused .ensures)
+returns c =
+    let past-loadable = c .before in
+    let at-loadable = past-loadable .before in
+    let at-entry = at-loadable .before .before .before .before .before in
+    let h = at-entry .pre in miss-denied _ _ _ _ (call-no (loadable-told _ (h .0) (h .1) _ (at-loadable .is-loadable .ensures)) (past-loadable .if1 .taken)) (c .refused .ensures)
 
 cast-most : tie.Need-cast-most Inv-loop μ-loop Inv-loop2 μ-loop2
 cast-most c = search needs
@@ -61,14 +78,14 @@ cast-most c = search needs
 first-empty-requires : tie.Need-first-empty-requires Inv-loop μ-loop Inv-loop2 μ-loop2
 first-empty-requires c κs = search needs
 
-cast-t33 : tie.Need-cast-t33 Inv-loop μ-loop Inv-loop2 μ-loop2
-cast-t33 c = search needs
+cast-t32 : tie.Need-cast-t32 Inv-loop μ-loop Inv-loop2 μ-loop2
+cast-t32 c = search needs
 
 load-page-requires : tie.Need-load-page-requires Inv-loop μ-loop Inv-loop2 μ-loop2
 load-page-requires c κs = search needs
 
-mul-t39 : tie.Need-mul-t39 Inv-loop μ-loop Inv-loop2 μ-loop2
-mul-t39 c = search needs
+mul-t38 : tie.Need-mul-t38 Inv-loop μ-loop Inv-loop2 μ-loop2
+mul-t38 c = search needs
 
 element-set-from-next : tie.Need-element-set-from-next Inv-loop μ-loop Inv-loop2 μ-loop2
 element-set-from-next c = search needs
@@ -82,8 +99,16 @@ same-length-2 c = search needs
 same-length-3 : tie.Need-same-length-3 Inv-loop μ-loop Inv-loop2 μ-loop2
 same-length-3 c = search needs
 
+-- into an empty frame
 returns-2 : tie.Need-returns-2 Inv-loop μ-loop Inv-loop2 μ-loop2
-returns-2 c = let h = c .before .before .before .before .before .before .before .before .before .before .before .before .before .before .before .pre in miss-empty _ _ _ _ (call-yes (loadable-told _ (h .0) (h .1) _ (c .before .before .before .before .before .before .before .before .before .before .is-loadable .ensures)) (c .before .before .before .before .before .before .before .before .before .if1 .left)) (empty-told _ (h .0) (h .1) (c .before .before .before .before .before .before .before .first-empty .ensures)) (c .before .before .before .before .before .before .if2 .taken) (load-given _ _ _ _ _ _ (c .before .before .before .load-page .ensures .0) (c .before .before .before .load-page .ensures .1) (c .given .ensures))
+returns-2 c =
+    let at-load = c .before .before .before in
+    let past-empty = at-load .before .before .before in
+    let at-empty = past-empty .before in
+    let past-loadable = at-empty .before .before in
+    let at-loadable = past-loadable .before in
+    let at-entry = at-loadable .before .before .before .before .before in
+    let h = at-entry .pre in miss-empty _ _ _ _ (call-yes (loadable-told _ (h .0) (h .1) _ (at-loadable .is-loadable .ensures)) (past-loadable .if1 .left)) (empty-told _ (h .0) (h .1) (at-empty .first-empty .ensures)) (past-empty .if2 .taken) (load-given _ _ _ _ _ _ (at-load .load-page .ensures .0) (at-load .load-page .ensures .1) (c .given .ensures))
 
 loop-holds : tie.Need-loop-holds Inv-loop μ-loop Inv-loop2 μ-loop2
 loop-holds c = (omega arith, sees-none _ _ _ refl)
@@ -94,11 +119,15 @@ mul-rec c = search needs
 element-copy-out-rec : tie.Need-element-copy-out-rec Inv-loop μ-loop Inv-loop2 μ-loop2
 element-copy-out-rec c = search needs
 
-cast-t51 : tie.Need-cast-t51 Inv-loop μ-loop Inv-loop2 μ-loop2
-cast-t51 c = search needs
+cast-t50 : tie.Need-cast-t50 Inv-loop μ-loop Inv-loop2 μ-loop2
+cast-t50 c = search needs
 
 sight-requires : tie.Need-sight-requires Inv-loop μ-loop Inv-loop2 μ-loop2
-sight-requires c κs = let K = c .before .before .before .before .before .before .before .before .before .before .before .before .before .pre .0 in (omega (arith, K .sized), K .agreed .inRange (c .before .before .before .loop .f) (omega (arith, K .sized .most)) .usage)
+sight-requires c κs =
+    let at-sights = c .before .before .before in
+    let at-loadable = at-sights .before .before .before .before .before in
+    let at-entry = at-loadable .before .before .before .before .before in
+    let K = at-entry .pre .0 in (omega (arith, K .sized), K .agreed .inRange (at-sights .loop .f) (omega (arith, K .sized .most)) .usage)
 
 array-write-sights : tie.Need-array-write-sights Inv-loop μ-loop Inv-loop2 μ-loop2
 array-write-sights c = search needs
@@ -110,7 +139,11 @@ loop-less : tie.Need-loop-less Inv-loop μ-loop Inv-loop2 μ-loop2
 loop-less c = search needs
 
 loop-again : tie.Need-loop-again Inv-loop μ-loop Inv-loop2 μ-loop2
-loop-again c = let z = c .before .before .before .before .before .before .before .before .before .before .before .before .before .before .pre .0 .sized in (omega arith, sees-next (c .before .before .before .before .loop .inv .1) (omega arith) (c .sight .ensures))
+loop-again c =
+    let at-sights = c .before .before .before .before in
+    let at-loadable = at-sights .before .before .before .before .before in
+    let at-entry = at-loadable .before .before .before .before .before in
+    let z = at-entry .pre .0 .sized in (omega arith, sees-next (at-sights .loop .inv .1) (omega arith) (c .sight .ensures))
 
 sweep-requires : tie.Need-sweep-requires Inv-loop μ-loop Inv-loop2 μ-loop2
 sweep-requires c κs = search needs
@@ -121,29 +154,41 @@ refused-requires-2 c κs = search needs
 same-length-4 : tie.Need-same-length-4 Inv-loop μ-loop Inv-loop2 μ-loop2
 same-length-4 c = search needs
 
+-- 15
 returns-3 : tie.Need-returns-3 Inv-loop μ-loop Inv-loop2 μ-loop2
-returns-3 c = full (c .before .before .before .before .before .before) _ (swept-denied _ (ready _ (c .before .before .before .before .before .before .before .before .before .before .before .before .before .before .before .pre .0)) (seen-all (c .before .before .before .before)) (c .before .before .sweep .ensures) _ _ _ (not-true _ (c .before .if3 .taken)) (c .refused2 .ensures))
+returns-3 c =
+    let past-sweep = c .before in
+    let at-sweep = past-sweep .before in
+    let past-sights = at-sweep .before .before in
+    let past-empty = past-sights .before .before in
+    let at-loadable = past-empty .before .before .before .before in
+    let at-entry = at-loadable .before .before .before .before .before in
+    full past-empty _ (swept-denied _ (ready _ (at-entry .pre .0)) (seen-all past-sights) (at-sweep .sweep .ensures) _ _ _ (not-true _ (past-sweep .if3 .taken)) (c .refused2 .ensures))
 
 loop2-holds : tie.Need-loop2-holds Inv-loop μ-loop Inv-loop2 μ-loop2
 loop2-holds c = (omega arith, cooling-none _ _)
 
-mul-rec-2 : tie.Need-mul-rec-2 Inv-loop μ-loop Inv-loop2 μ-loop2
-mul-rec-2 c = search needs
+array-read-usage-left : tie.Need-array-read-usage-left Inv-loop μ-loop Inv-loop2 μ-loop2
+array-read-usage-left c = search needs
 
-element-copy-out-rec-2 : tie.Need-element-copy-out-rec-2 Inv-loop μ-loop Inv-loop2 μ-loop2
-element-copy-out-rec-2 c = search needs
+usage-left-requires : tie.Need-usage-left-requires Inv-loop μ-loop Inv-loop2 μ-loop2
+usage-left-requires c κs = search needs
 
-array-read-cooled : tie.Need-array-read-cooled Inv-loop μ-loop Inv-loop2 μ-loop2
-array-read-cooled c = search needs
+mul-next : tie.Need-mul-next Inv-loop μ-loop Inv-loop2 μ-loop2
+mul-next c =
+    let at-sweep = c .before .before .before .before in
+    let at-empty = at-sweep .before .before .before .before .before in
+    let at-loadable = at-empty .before .before .before in
+    let at-entry = at-loadable .before .before .before .before .before in
+    let z = at-entry .pre .0 .sized .most in search needs
 
-cooled-requires : tie.Need-cooled-requires Inv-loop μ-loop Inv-loop2 μ-loop2
-cooled-requires c κs = search needs
-
-mul-t57 : tie.Need-mul-t57 Inv-loop μ-loop Inv-loop2 μ-loop2
-mul-t57 c = let z = c .before .before .before .before .before .before .before .before .before .before .before .before .before .before .before .before .before .before .pre .0 .sized .most in search needs
-
-element-set-from-next-2 : tie.Need-element-set-from-next-2 Inv-loop μ-loop Inv-loop2 μ-loop2
-element-set-from-next-2 c = let z = c .before .before .before .before .before .before .before .before .before .before .before .before .before .before .before .before .before .before .pre .0 .sized .most in omega arith
+way-write-given-next : tie.Need-way-write-given-next Inv-loop μ-loop Inv-loop2 μ-loop2
+way-write-given-next c =
+    let at-sweep = c .before .before .before .before in
+    let at-empty = at-sweep .before .before .before .before .before in
+    let at-loadable = at-empty .before .before .before in
+    let at-entry = at-loadable .before .before .before .before .before in
+    let z = at-entry .pre .0 .sized .most in (omega arith, tt)
 
 add-g : tie.Need-add-g Inv-loop μ-loop Inv-loop2 μ-loop2
 add-g c = search needs
@@ -152,7 +197,10 @@ loop2-less : tie.Need-loop2-less Inv-loop μ-loop Inv-loop2 μ-loop2
 loop2-less c = search needs
 
 loop2-again : tie.Need-loop2-again Inv-loop μ-loop Inv-loop2 μ-loop2
-loop2-again c = (omega arith, cooling-next (c .before .before .before .loop2 .inv .1) (c .cooled .ensures))
+loop2-again c =
+    let at-usage = c .before in
+    let at-cooling = at-usage .before .before in
+    (omega arith, cooling-next (at-cooling .loop2 .inv .1) (at-usage .usage-left .ensures))
 
 cast-v : tie.Need-cast-v Inv-loop μ-loop Inv-loop2 μ-loop2
 cast-v c = search needs
@@ -161,19 +209,34 @@ mul-evicted : tie.Need-mul-evicted Inv-loop μ-loop Inv-loop2 μ-loop2
 mul-evicted c = search needs
 
 element-copy-out-evicted : tie.Need-element-copy-out-evicted Inv-loop μ-loop Inv-loop2 μ-loop2
-element-copy-out-evicted c = victim-below _ (taken (c .before .before .before))
+element-copy-out-evicted c =
+    let past-cooling = c .before .before .before in
+    victim-below _ (taken past-cooling)
 
 take-out-requires : tie.Need-take-out-requires Inv-loop μ-loop Inv-loop2 μ-loop2
-take-out-requires c κs = victim-removable _ (taken (c .before .before .before .before .before .before))
+take-out-requires c κs =
+    let past-cooling = c .before .before .before .before .before .before in
+    victim-removable _ (taken past-cooling)
 
 load-page-requires-2 : tie.Need-load-page-requires-2 Inv-loop μ-loop Inv-loop2 μ-loop2
-load-page-requires-2 c κs = let h = c .before .before .before .before .before .before .before .before .before .before .before .before .before .before .before .before .before .before .before .before .before .before .before .before .before .before .before .before .before .pre in victim-fitting _ (taken (c .before .before .before .before .before .before .before .before .before .before .before .before .before)) (c .before .before .before .before .before .before .take-out .ensures) (h .2) (h .3) (h .4)
+load-page-requires-2 c κs =
+    let at-take-out = c .before .before .before .before .before .before in
+    let past-cooling = at-take-out .before .before .before .before .before .before .before in
+    let past-sights = past-cooling .before .before .before .before .before in
+    let past-loadable = past-sights .before .before .before .before .before in
+    let at-loadable = past-loadable .before in
+    let at-entry = at-loadable .before .before .before .before .before in
+    let h = at-entry .pre in victim-fitting _ (taken past-cooling) (at-take-out .take-out .ensures) (h .2) (h .3) (h .4)
 
-mul-t27 : tie.Need-mul-t27 Inv-loop μ-loop Inv-loop2 μ-loop2
-mul-t27 c = search needs
+mul-t26 : tie.Need-mul-t26 Inv-loop μ-loop Inv-loop2 μ-loop2
+mul-t26 c = search needs
 
-element-set-from-next-3 : tie.Need-element-set-from-next-3 Inv-loop μ-loop Inv-loop2 μ-loop2
-element-set-from-next-3 c = victim-below _ (taken (c .before .before .before .before .before .before .before .before .before .before .before .before .before .before .before .before))
+element-set-from-next-2 : tie.Need-element-set-from-next-2 Inv-loop μ-loop Inv-loop2 μ-loop2
+element-set-from-next-2 c =
+    let at-load = c .before .before in
+    let at-take-out = at-load .before .before .before .before .before .before .before in
+    let past-cooling = at-take-out .before .before .before .before .before .before .before in
+    victim-below _ (taken past-cooling)
 
 given-requires-2 : tie.Need-given-requires-2 Inv-loop μ-loop Inv-loop2 μ-loop2
 given-requires-2 c κs = search needs
@@ -184,8 +247,15 @@ same-length-5 c = search needs
 same-length-6 : tie.Need-same-length-6 Inv-loop μ-loop Inv-loop2 μ-loop2
 same-length-6 c = search needs
 
+-- into the frame that the sweep took
 returns-4 : tie.Need-returns-4 Inv-loop μ-loop Inv-loop2 μ-loop2
-returns-4 c = full (c .before .before .before .before .before .before .before .before .before .before .before .before .before .before .before .before .before .before .before .before .before .before .before .before) _ (swept-given _ (taken (c .before .before .before .before .before .before .before .before .before .before .before .before .before .before .before .before .before)) (c .before .before .before .before .before .before .before .before .before .before .take-out .ensures) _ _ _ (c .before .before .before .load-page2 .ensures .0) (c .before .before .before .load-page2 .ensures .1) (c .given2 .ensures))
+returns-4 c =
+    let at-load = c .before .before .before in
+    let at-take-out = at-load .before .before .before .before .before .before .before in
+    let past-cooling = at-take-out .before .before .before .before .before .before .before in
+    let past-sights = past-cooling .before .before .before .before .before in
+    let past-empty = past-sights .before .before in
+    full past-empty _ (swept-given _ (taken past-cooling) (at-take-out .take-out .ensures) _ _ _ (at-load .load-page2 .ensures .0) (at-load .load-page2 .ensures .1) (c .given2 .ensures))
 
 pub bring-in-spec : {M : Type 1} → statement M
 bring-in-spec =
@@ -201,9 +271,9 @@ bring-in-spec =
     returns
     cast-most
     first-empty-requires
-    cast-t33
+    cast-t32
     load-page-requires
-    mul-t39
+    mul-t38
     element-set-from-next
     given-requires
     same-length-2
@@ -212,7 +282,7 @@ bring-in-spec =
     loop-holds
     mul-rec
     element-copy-out-rec
-    cast-t51
+    cast-t50
     sight-requires
     array-write-sights
     add-f
@@ -223,12 +293,10 @@ bring-in-spec =
     same-length-4
     returns-3
     loop2-holds
-    mul-rec-2
-    element-copy-out-rec-2
-    array-read-cooled
-    cooled-requires
-    mul-t57
-    element-set-from-next-2
+    array-read-usage-left
+    usage-left-requires
+    mul-next
+    way-write-given-next
     add-g
     loop2-less
     loop2-again
@@ -237,8 +305,8 @@ bring-in-spec =
     element-copy-out-evicted
     take-out-requires
     load-page-requires-2
-    mul-t27
-    element-set-from-next-3
+    mul-t26
+    element-set-from-next-2
     given-requires-2
     same-length-5
     same-length-6

@@ -1,7 +1,7 @@
 -- `store_bytes` meets its contract: what was copied is the page, its own image. Assumes nothing.
 use mathlib.Core.Path.{sym, ap, _∙_}
 use Rattle.page.specs.Page.{putPage}
-use Rattle.moves.specs.Steps.{own-image}
+use Rattle.moves.specs.MoveSteps.{own-image}
 use borrow.Author.Needs.{needs}
 use Rattle.moves.proofs.out.store_bytes.Statement.{statement}
 use Rattle.moves.proofs.out.store_bytes.Tie as tie

@@ -2,7 +2,7 @@
 use Prim.Native.Nat.{ℕ, _*_}
 use mathlib.Core.Path.{sym, ap, _∙_}
 use Rattle.page.specs.Figures.{pageSize}
-use Rattle.moves.specs.Steps.{part-named, image-back}
+use Rattle.moves.specs.MoveSteps.{part-named, image-back}
 use borrow.Author.Needs.{needs}
 use Rattle.moves.proofs.out.store_image.Statement.{statement}
 use Rattle.moves.proofs.out.store_image.Tie as tie

@@ -1,7 +1,7 @@
 -- `write_out` meets its contract: the test on dirty is the definition's own. Assumes nothing.
 use borrow.Author.Needs.{needs}
 use borrow.Author.Tests.{eq-eqb, ne-eqb}
-use Rattle.moves.specs.Steps.{written-clean, written-dirty}
+use Rattle.moves.specs.MoveSteps.{written-clean, written-dirty}
 use Rattle.moves.proofs.out.write_out.Statement.{statement}
 use Rattle.moves.proofs.out.write_out.Tie as tie
 

@@ -3,11 +3,11 @@ use borrow.Author.Needs.{needs}
 use Rattle.residency.proofs.opening.blank_pool.Statement.{statement}
 use Rattle.residency.proofs.opening.blank_pool.Tie as tie
 
-empty-record-requires : tie.Need-empty-record-requires
-empty-record-requires c κs = search needs
+empty-requires : tie.Need-empty-requires
+empty-requires c κs = search needs
 
 returns : tie.Need-returns
-returns c = rw (c .empty-record .ensures)
+returns c = rw (c .empty .ensures)
 
 pub blank-pool-spec : {M : Type 1} → statement M
-blank-pool-spec = tie.close (tie.spec empty-record-requires returns)
+blank-pool-spec = tie.close (tie.spec empty-requires returns)

@@ -4,7 +4,7 @@ use native.Mathlib.Omega.{arith}
 use Rattle.machine.specs.Laws.TestLaws.{call-no, call-yes}
 use Rattle.machine.specs.Calls.{evictCall}
 use Rattle.machine.specs.Laws.RuleLaws.{page-stops, done-no}
-use Rattle.scan.specs.ByTable.{few}
+use Rattle.scan.specs.FoundByTable.{few-frames}
 use Rattle.residency.specs.CallLaws.{evict-absent, evict-shut, evict-removable, evict-done}
 use borrow.Author.Needs.{needs}
 use Rattle.residency.proofs.releasing.evict.Statement.{statement}
@@ -24,7 +24,7 @@ unfolding evictCall
 returns c = done-no _ _ _ (page-stops _ _ _ (c .before .page-refusal .ensures .0) (c .if1 .taken)) (c .if1 .taken)
 
 find-frame-requires : tie.Need-find-frame-requires
-find-frame-requires c κs = few _ _ (c .before .before .page-refusal .ensures) (c .before .if1 .left) refl
+find-frame-requires c κs = few-frames _ _ (c .before .before .page-refusal .ensures) (c .before .if1 .left) refl
 
 same-length-3 : tie.Need-same-length-3
 same-length-3 c = search needs
@@ -39,10 +39,10 @@ mul-rec : tie.Need-mul-rec
 mul-rec c = search needs
 
 element-copy-out-rec : tie.Need-element-copy-out-rec
-element-copy-out-rec c = let h = few _ _ (c .before .before .before .before .page-refusal .ensures) (c .before .before .before .if1 .left) refl in omega (arith, h)
+element-copy-out-rec c = let h = few-frames _ _ (c .before .before .before .before .page-refusal .ensures) (c .before .before .before .if1 .left) refl in omega (arith, h)
 
 cast-t27 : tie.Need-cast-t27
-cast-t27 c = let h = few _ _ (c .before .before .before .before .before .page-refusal .ensures) (c .before .before .before .before .if1 .left) refl in omega (arith, h)
+cast-t27 c = let h = few-frames _ _ (c .before .before .before .before .before .page-refusal .ensures) (c .before .before .before .before .if1 .left) refl in omega (arith, h)
 
 is-open-requires : tie.Need-is-open-requires
 is-open-requires c κs = search needs
@@ -59,14 +59,14 @@ returns-3 c = evict-shut _ _ (c .before .before .before .before .before .before 
 take-out-requires : tie.Need-take-out-requires
 take-out-requires c κs = evict-removable _ _ (c .before .before .before .before .before .before .before .before .before .before .page-refusal .ensures) (c .before .before .before .before .before .before .before .before .before .if1 .left) refl (c .before .before .before .before .before .before .before .find-frame .ensures) (c .before .before .before .before .before .before .if2 .left) (call-yes (c .before .before .before .is-open .ensures) (c .before .before .if3 .left))
 
-empty-record-requires : tie.Need-empty-record-requires
-empty-record-requires c κs = search needs
+empty-requires : tie.Need-empty-requires
+empty-requires c κs = search needs
 
 mul-t22 : tie.Need-mul-t22
-mul-t22 c = let h = few _ _ (c .before .before .before .before .before .before .before .before .before .before .before .before .before .before .before .before .page-refusal .ensures) (c .before .before .before .before .before .before .before .before .before .before .before .before .before .before .before .if1 .left) refl in omega (arith, h)
+mul-t22 c = let h = few-frames _ _ (c .before .before .before .before .before .before .before .before .before .before .before .before .before .before .before .before .page-refusal .ensures) (c .before .before .before .before .before .before .before .before .before .before .before .before .before .before .before .if1 .left) refl in omega (arith, h)
 
 element-set-from-next : tie.Need-element-set-from-next
-element-set-from-next c = let h = few _ _ (c .before .before .before .before .before .before .before .before .before .before .before .before .before .before .before .before .page-refusal .ensures) (c .before .before .before .before .before .before .before .before .before .before .before .before .before .before .before .if1 .left) refl in omega (arith, h)
+element-set-from-next c = let h = few-frames _ _ (c .before .before .before .before .before .before .before .before .before .before .before .before .before .before .before .before .page-refusal .ensures) (c .before .before .before .before .before .before .before .before .before .before .before .before .before .before .before .if1 .left) refl in omega (arith, h)
 
 same-length-7 : tie.Need-same-length-7
 same-length-7 c = search needs
@@ -75,7 +75,7 @@ same-length-8 : tie.Need-same-length-8
 same-length-8 c = search needs
 
 returns-4 : tie.Need-returns-4
-returns-4 c = evict-done _ _ (c .before .before .before .before .before .before .before .before .before .before .before .before .before .before .before .before .page-refusal .ensures) (c .before .before .before .before .before .before .before .before .before .before .before .before .before .before .before .if1 .left) refl (c .before .before .before .before .before .before .before .before .before .before .before .before .before .find-frame .ensures) (c .before .before .before .before .before .before .before .before .before .before .before .before .if2 .left) (call-yes (c .before .before .before .before .before .before .before .before .before .is-open .ensures) (c .before .before .before .before .before .before .before .before .if3 .left)) (c .empty-record .ensures) (c .before .before .before .before .before .take-out .ensures)
+returns-4 c = evict-done _ _ (c .before .before .before .before .before .before .before .before .before .before .before .before .before .before .before .before .page-refusal .ensures) (c .before .before .before .before .before .before .before .before .before .before .before .before .before .before .before .if1 .left) refl (c .before .before .before .before .before .before .before .before .before .before .before .before .before .find-frame .ensures) (c .before .before .before .before .before .before .before .before .before .before .before .before .if2 .left) (call-yes (c .before .before .before .before .before .before .before .before .before .is-open .ensures) (c .before .before .before .before .before .before .before .before .if3 .left)) (c .empty .ensures) (c .before .before .before .before .before .take-out .ensures)
 
 pub evict-spec : {M : Type 1} → statement M
 evict-spec =
@@ -97,7 +97,7 @@ evict-spec =
     same-length-6
     returns-3
     take-out-requires
-    empty-record-requires
+    empty-requires
     mul-t22
     element-set-from-next
     same-length-7

@@ -24,17 +24,21 @@ returns : tie.Need-returns
 unfolding unfixCall
 returns c = done-no _ _ _ (c .before .handle-refusal .ensures .0) (c .if1 .taken)
 
-sub-rec : tie.Need-sub-rec
-sub-rec c = unfix-pinned _ _ (c .before .before .handle-refusal .ensures .0) (c .before .if1 .left) (c .before .before .before .before .before .before .record-place .ensures)
+unpinned-requires : tie.Need-unpinned-requires
+unpinned-requires c κs =
+    let tested = c .before in
+    unfix-pinned _ _ (tested .handle-refusal .ensures .0) (c .if1 .left) (tested .before .before .before .before .record-place .ensures)
 
-mul-rec-2 : tie.Need-mul-rec-2
-mul-rec-2 c = search needs
+mul-t13 : tie.Need-mul-t13
+mul-t13 c = search needs
 
-element-set-from-rec : tie.Need-element-set-from-rec
-element-set-from-rec c = search needs
+element-set-from-next : tie.Need-element-set-from-next
+element-set-from-next c = search needs
 
 returns-2 : tie.Need-returns-2
-returns-2 c = unfix-done _ _ (c .before .before .handle-refusal .ensures .0) (c .before .if1 .left) (c .before .before .before .before .before .before .record-place .ensures)
+returns-2 c =
+    let tested = c .before .before in
+    unfix-done _ _ (tested .handle-refusal .ensures .0) (c .before .if1 .left) (tested .before .before .before .before .record-place .ensures) (c .unpinned .ensures)
 
 pub unfix-spec : {M : Type 1} → statement M
 unfix-spec =
@@ -45,7 +49,7 @@ unfix-spec =
     element-copy-out-rec
     handle-refusal-requires
     returns
-    sub-rec
-    mul-rec-2
-    element-set-from-rec
+    unpinned-requires
+    mul-t13
+    element-set-from-next
     returns-2)

@@ -89,12 +89,12 @@ module _ {p n : Pool} {fs st ss : List ℕ} {f : ℕ} (S : Settling p n fs st ss
       let w = writable (state p fs st) f h l in
       rw same-record (record { placed = record { frame = w .placed .frame; bytes = w .placed .bytes; place = rw k (w .placed .place) }; words = w .words })
 
-  pub settling-more : {t ts : List ℕ} → Ready (state p fs st) → f < p .count → Residents (p .records) t → ts ≡ writtenOutBy (pageBy t) (recordAt (n .records) f) fs ss f
-      → Settling p (withRecord n f (cleaned (recordAt (n .records) f))) fs st ts (f + 1)
-  settling-more {t} {ts} h l residents e =
+  pub settling-more : {t ts : List ℕ} {r : FrameRecord} → Ready (state p fs st) → f < p .count → Residents (p .records) t → ts ≡ writtenOutBy (pageBy t) (recordAt (n .records) f) fs ss f
+      → r ≡ cleaned (recordAt (n .records) f) → Settling p (withRecord n f r) fs st ts (f + 1)
+  settling-more {t} {ts} h l residents e d =
       let by = written-by-table (p .records) t (recordAt (p .records) f) fs ss f residents (writable (state p fs st) f h l .words) in
       record {
-        clean = rw (S .clean, add-one f, cleanedTo-suc (p .records) f);
+        clean = rw (d, S .clean, add-one f, cleanedTo-suc (p .records) f);
         written = rw (e, same-record, by, S .written, add-one f, writtenOutTo-suc (p .records) fs st f);
       }
 

@@ -94,11 +94,11 @@ module _ (s : State) (q : PageNumber) {residents : List ℕ} {seen : Seen} {n F 
   pub kept : Kept s
   kept = page-kept s q (sym (e .0) ∙ z) .kept
 
-  pub counted : F ≡ s .pool .count
-  counted = let k = kept .sized in omega arith
+  pub counted-frames : F ≡ s .pool .count
+  counted-frames = let k = kept .sized in omega arith
 
-  pub few : F ≤ mostFrames
-  few = let k = kept .sized in omega (arith, counted)
+  pub few-frames : F ≤ mostFrames
+  few-frames = let k = kept .sized in omega (arith, counted-frames)
 
   pub at-found : {f : ℕ} → f ≡ foundBy residents (q .0) F 0 → f ≡ found (s .pool) (q .0)
-  at-found i = i ∙ ap (λ (m : ℕ). foundBy residents (q .0) m 0) counted ∙ found-by s kept (e .1 z) (q .0)
+  at-found i = i ∙ ap (λ (m : ℕ). foundBy residents (q .0) m 0) counted-frames ∙ found-by s kept (e .1 z) (q .0)

@@ -9,7 +9,7 @@ use native.Mathlib.Decide.{ℕ-discrete}
 use lib.ListN.{length, set, length-set}
 use lib.Seq.{getD-set-same, getD-set-other}
 use Rattle.machine.specs.Laws.Parents.{climb, climb-add, climb-below, climb-more, climb-few}
-use Rattle.agreement.specs.Deciding.{Decides, holds, decide-flag}
+use Rattle.agreement.specs.Deciding.{Decides, decided, decide-flag}
 use Rattle.agreement.specs.Fit.{entry, AllLead}
 
 -- the entry of f is where at least s steps lead from f
@@ -100,7 +100,7 @@ at-root-more F t f x l h r r' d a b = elim (ℕ-discrete x 0) [
   | yes z ↦ rw (b z) (decide-flag r _
       (λ e g m. elim (ℕ-discrete g f) [
         | yes y ↦ rw (y, getD-set-same t f x 0 (omega arith)) z
-        | no y ↦ getD-set-other t f g x 0 y ∙ holds r _ d e g (omega arith)
+        | no y ↦ getD-set-other t f g x 0 y ∙ decided r _ d e g (omega arith)
       ])
       (λ q. kept r d (λ g m. sym (getD-set-other t f g x 0 (λ y. omega arith)) ∙ q g (omega arith))))
 ]

@@ -1,7 +1,7 @@
--- `fixing::pin::pinned` meets its contract. Assumes nothing.
+-- `records::pinned` meets its contract. Assumes nothing.
 use borrow.Author.Needs.{needs}
-use Rattle.fixing.proofs.pin.pinned.Statement.{statement}
-use Rattle.fixing.proofs.pin.pinned.Tie as tie
+use Rattle.records.proofs.pinned.Statement.{statement}
+use Rattle.records.proofs.pinned.Tie as tie
 
 add-next : tie.Need-add-next
 add-next c = search needs

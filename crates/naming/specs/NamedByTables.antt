@@ -41,9 +41,9 @@ module _ (s : State) (K : Kept s) {residents : List ℕ} {seen : Seen} (H : Hand
   noted-named : (x : ℕ) → 0 < x → x < s .pool .pages → noted seen x ≡ namedByResident s x
   noted-named x p l = H .named .right x p (omega (arith, K .sized .pages)) ∙ storeless s x
 
-  pub named-by : (x : ℕ) → 0 < x → x < s .pool .pages → namedBy residents seen (s .store) (s .pool .pages) x ≡ named s x
+  pub named-by-tables : (x : ℕ) → 0 < x → x < s .pool .pages → namedBy residents seen (s .store) (s .pool .pages) x ≡ named s x
   unfolding namedBy
-  named-by x p l = ap (λ (b : Bool). b or inStore residents (s .store) (s .pool .pages) x) (noted-named x p l) ∙ sym (named-parts s K residents (H .held) x)
+  named-by-tables x p l = ap (λ (b : Bool). b or inStore residents (s .store) (s .pool .pages) x) (noted-named x p l) ∙ sym (named-parts s K residents (H .held) x)
 
   pub loadable-by : (q : ℕ) → loadableBy seen (s .store) (s .pool .pages) q ≡ loadable s q
   unfolding loadableBy
