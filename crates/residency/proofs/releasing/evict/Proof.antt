@@ -19,6 +19,7 @@ same-length c = search needs
 same-length-2 : tie.Need-same-length-2
 same-length-2 c = search needs
 
+-- rules 1, 2 and 6 refuse
 returns : tie.Need-returns
 unfolding evictCall
 returns c = done-no _ _ _ (page-stops _ _ _ (c .before .page-refusal .ensures .0) (c .if1 .taken)) (c .if1 .taken)
@@ -32,17 +33,28 @@ same-length-3 c = search needs
 same-length-4 : tie.Need-same-length-4
 same-length-4 c = search needs
 
+-- 11: the page isn't resident
 returns-2 : tie.Need-returns-2
-returns-2 c = evict-absent _ _ (c .before .before .before .before .page-refusal .ensures) (c .before .before .before .if1 .left) refl (c .before .find-frame .ensures) (c .if2 .taken)
+returns-2 c =
+    let at-found = c .before in
+    let past-refusal = at-found .before .before in
+    let at-refusal = past-refusal .before in
+    evict-absent _ _ (at-refusal .page-refusal .ensures) (past-refusal .if1 .left) refl (at-found .find-frame .ensures) (c .if2 .taken)
 
 mul-rec : tie.Need-mul-rec
 mul-rec c = search needs
 
 element-copy-out-rec : tie.Need-element-copy-out-rec
-element-copy-out-rec c = let h = few-frames _ _ (c .before .before .before .before .page-refusal .ensures) (c .before .before .before .if1 .left) refl in omega (arith, h)
+element-copy-out-rec c =
+    let past-refusal = c .before .before .before in
+    let at-refusal = past-refusal .before in
+    let h = few-frames _ _ (at-refusal .page-refusal .ensures) (past-refusal .if1 .left) refl in omega (arith, h)
 
 cast-t27 : tie.Need-cast-t27
-cast-t27 c = let h = few-frames _ _ (c .before .before .before .before .before .page-refusal .ensures) (c .before .before .before .before .if1 .left) refl in omega (arith, h)
+cast-t27 c =
+    let past-refusal = c .before .before .before .before in
+    let at-refusal = past-refusal .before in
+    let h = few-frames _ _ (at-refusal .page-refusal .ensures) (past-refusal .if1 .left) refl in omega (arith, h)
 
 is-open-requires : tie.Need-is-open-requires
 is-open-requires c κs = search needs
@@ -53,20 +65,46 @@ same-length-5 c = search needs
 same-length-6 : tie.Need-same-length-6
 same-length-6 c = search needs
 
+-- 12: it is the root, pinned, or has a swizzled word
 returns-3 : tie.Need-returns-3
-returns-3 c = evict-shut _ _ (c .before .before .before .before .before .before .before .before .page-refusal .ensures) (c .before .before .before .before .before .before .before .if1 .left) refl (c .before .before .before .before .before .find-frame .ensures) (c .before .before .before .before .if2 .left) (call-no (c .before .is-open .ensures) (c .if3 .taken))
+returns-3 c =
+    let at-open = c .before in
+    let past-absent = at-open .before .before .before in
+    let at-found = past-absent .before in
+    let past-refusal = at-found .before .before in
+    let at-refusal = past-refusal .before in
+    evict-shut _ _ (at-refusal .page-refusal .ensures) (past-refusal .if1 .left) refl (at-found .find-frame .ensures) (past-absent .if2 .left) (call-no (at-open .is-open .ensures) (c .if3 .taken))
 
 take-out-requires : tie.Need-take-out-requires
-take-out-requires c κs = evict-removable _ _ (c .before .before .before .before .before .before .before .before .before .before .page-refusal .ensures) (c .before .before .before .before .before .before .before .before .before .if1 .left) refl (c .before .before .before .before .before .before .before .find-frame .ensures) (c .before .before .before .before .before .before .if2 .left) (call-yes (c .before .before .before .is-open .ensures) (c .before .before .if3 .left))
+take-out-requires c κs =
+    let past-shut = c .before .before in
+    let at-open = past-shut .before in
+    let past-absent = at-open .before .before .before in
+    let at-found = past-absent .before in
+    let past-refusal = at-found .before .before in
+    let at-refusal = past-refusal .before in
+    evict-removable _ _ (at-refusal .page-refusal .ensures) (past-refusal .if1 .left) refl (at-found .find-frame .ensures) (past-absent .if2 .left) (call-yes (at-open .is-open .ensures) (past-shut .if3 .left))
 
 empty-requires : tie.Need-empty-requires
 empty-requires c κs = search needs
 
 mul-t22 : tie.Need-mul-t22
-mul-t22 c = let h = few-frames _ _ (c .before .before .before .before .before .before .before .before .before .before .before .before .before .before .before .before .page-refusal .ensures) (c .before .before .before .before .before .before .before .before .before .before .before .before .before .before .before .if1 .left) refl in omega (arith, h)
+mul-t22 c =
+    let at-take-out = c .before .before .before .before .before in
+    let at-open = at-take-out .before .before .before .before in
+    let at-found = at-open .before .before .before .before in
+    let past-refusal = at-found .before .before in
+    let at-refusal = past-refusal .before in
+    let h = few-frames _ _ (at-refusal .page-refusal .ensures) (past-refusal .if1 .left) refl in omega (arith, h)
 
 element-set-from-next : tie.Need-element-set-from-next
-element-set-from-next c = let h = few-frames _ _ (c .before .before .before .before .before .before .before .before .before .before .before .before .before .before .before .before .page-refusal .ensures) (c .before .before .before .before .before .before .before .before .before .before .before .before .before .before .before .if1 .left) refl in omega (arith, h)
+element-set-from-next c =
+    let at-take-out = c .before .before .before .before .before in
+    let at-open = at-take-out .before .before .before .before in
+    let at-found = at-open .before .before .before .before in
+    let past-refusal = at-found .before .before in
+    let at-refusal = past-refusal .before in
+    let h = few-frames _ _ (at-refusal .page-refusal .ensures) (past-refusal .if1 .left) refl in omega (arith, h)
 
 same-length-7 : tie.Need-same-length-7
 same-length-7 c = search needs
@@ -74,8 +112,17 @@ same-length-7 c = search needs
 same-length-8 : tie.Need-same-length-8
 same-length-8 c = search needs
 
+-- it goes, and its frame is empty
 returns-4 : tie.Need-returns-4
-returns-4 c = evict-done _ _ (c .before .before .before .before .before .before .before .before .before .before .before .before .before .before .before .before .page-refusal .ensures) (c .before .before .before .before .before .before .before .before .before .before .before .before .before .before .before .if1 .left) refl (c .before .before .before .before .before .before .before .before .before .before .before .before .before .find-frame .ensures) (c .before .before .before .before .before .before .before .before .before .before .before .before .if2 .left) (call-yes (c .before .before .before .before .before .before .before .before .before .is-open .ensures) (c .before .before .before .before .before .before .before .before .if3 .left)) (c .empty .ensures) (c .before .before .before .before .before .take-out .ensures)
+returns-4 c =
+    let at-take-out = c .before .before .before .before .before in
+    let past-shut = at-take-out .before .before .before in
+    let at-open = past-shut .before in
+    let past-absent = at-open .before .before .before in
+    let at-found = past-absent .before in
+    let past-refusal = at-found .before .before in
+    let at-refusal = past-refusal .before in
+    evict-done _ _ (at-refusal .page-refusal .ensures) (past-refusal .if1 .left) refl (at-found .find-frame .ensures) (past-absent .if2 .left) (call-yes (at-open .is-open .ensures) (past-shut .if3 .left)) (c .empty .ensures) (at-take-out .take-out .ensures)
 
 pub evict-spec : {M : Type 1} → statement M
 evict-spec =
