@@ -193,13 +193,12 @@ pub record HasNumbers (fs : List ℕ) (N f : ℕ) (r : FrameRecord) (row : ℕ �
   pub words : isUsed r ≡ true → HasWords fs N (pageSize * f) row (i + 1)
   pub empty : isUsed r ≡ false → (j : ℕ) → j < perFrame → row (i + j) ≡ 0
 
--- what is told of frame f
-pub record FrameNoted (fs : List ℕ) (F N f : ℕ) (r : FrameRecord) (above : Bool) (seen seen' : Seen) (over : ℕ) (ok : Bool) : Type 0 where
+-- what is told of the numbers of frame f
+pub record FrameNoted (fs : List ℕ) (N f : ℕ) (r : FrameRecord) (seen seen' : Seen) (over : ℕ) (fresh : Bool) : Type 0 where
   pub few : over ≤ slotCount
-  pub fits : ok ≡ true → Fits fs F N f r above
-  pub counts : ok ≡ true → isUsed r ≡ true → over ≡ countIf slotCount (overFrom fs N (pageSize * f))
-  pub nothing : ok ≡ true → isUsed r ≡ false → over ≡ 0
-  pub notes : (row : ℕ → ℕ) (i : ℕ) → HasNumbers fs N f r row i → PassedRow row i seen → Fits fs F N f r above → Progress row (i + perFrame) seen' ok
+  pub counts : fresh ≡ true → isUsed r ≡ true → over ≡ countIf slotCount (overFrom fs N (pageSize * f))
+  pub nothing : isUsed r ≡ false → over ≡ 0
+  pub notes : (row : ℕ → ℕ) (i : ℕ) → HasNumbers fs N f r row i → PassedRow row i seen → Progress row (i + perFrame) seen' fresh
 
 -- ---- the parents
 

@@ -20,7 +20,7 @@ use Rattle.page.specs.Word.{nameAt}
 use Rattle.page.specs.Page.{slot, name, name-row}
 use Rattle.machine.specs.declared.FrameRecord.{FrameRecord}
 use Rattle.machine.specs.Tests.{_and_}
-use Rattle.machine.specs.Laws.TestLaws.{pick-yes, pick-no, both, and-true, and-yes, and-no, clash}
+use Rattle.machine.specs.Laws.TestLaws.{case, on, off, pick-yes, pick-no, both, and-true, and-yes, and-no, clash}
 use Rattle.machine.specs.Machine.{isUsed, recordAt, pageIn}
 use Rattle.machine.specs.Agreement.{isBlank}
 use Rattle.seen.specs.Fold.{fold}
@@ -85,10 +85,6 @@ module _ (r : FrameRecord) (x y : ℕ) (first : x ≡ firstFields (r .used) (r .
         let m = blank-fields b in
         record { first = nothing-or a _ (n .first) (m .first); parent = nothing-or p _ (n .parent) (m .parent); last = nothing-or z _ (n .last) (m .last) };
   }
-
-pub bool-small : (b : Bool) → boolByte b ≤ 1
-bool-small true = omega arith
-bool-small false = omega arith
 
 -- ---- a table filled place by place
 
@@ -216,10 +212,19 @@ module _ (fs : List ℕ) (F N f : ℕ) (r : FrameRecord) (above : Bool) where
   pub fits-empty : f ≢ 0 → Blank r → Fits fs F N f r above
   fits-empty n b = record { root = λ z. absurd (n z); resident = λ m v. absurd (clash (sym v ∙ blank-unused r b)); linked = λ m v. absurd (clash (sym v ∙ blank-unused r b)); empty = λ v. b }
 
-  pub page-below : 1 ≤ N → Fits fs F N f r above → isUsed r ≡ true → r .page .0 < N
-  page-below o k u = elim (ℕ-discrete f 0) [
-    | yes z ↦ omega (arith, k .root z .page)
-    | no z ↦ k .resident z u .page
+  pub page-below : 1 ≤ N → Fits fs F N f r above → r .page .0 < N
+  page-below o k = elim (case (isUsed r)) [
+    | on u ↦ elim (ℕ-discrete f 0) [
+      | yes z ↦ omega (arith, k .root z .page)
+      | no z ↦ k .resident z u .page
+    ]
+    | off u ↦ omega (arith, k .empty u .page)
+  ]
+
+  pub used-bit : Fits fs F N f r above → r .used ≡ boolByte (isUsed r)
+  used-bit k = elim (case (isUsed r)) [
+    | on u ↦ eqb-true (r .used) 1 u ∙ sym (ap boolByte u)
+    | off u ↦ k .empty u .used ∙ sym (ap boolByte u)
   ]
 
 -- ---- the sum of words

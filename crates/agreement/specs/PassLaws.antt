@@ -19,7 +19,7 @@ use Rattle.residents.specs.Handed.{Clear}
 use Rattle.agreement.specs.Counting.{countIf, count-zero, count-more, count-le}
 use Rattle.agreement.specs.Twice.{Progress, pass-none, not-twice}
 use Rattle.agreement.specs.Fit.{Blank, Gathers, Fits, perFrame, numbersInFrames, isOver, usedIn, aboveUsed, RestBlank, FramesFit, FrameNoted, entry, parentAt, Before, Settled}
-use Rattle.agreement.specs.FitLaws.{entries-more, has-numbers, over-used, over-empty}
+use Rattle.agreement.specs.FitLaws.{entries-more, has-numbers, over-used, over-empty, used-bit}
 
 -- an entry of a table of zeros
 clear-at : (m x : ℕ) → entry (replicate m 0) x ≡ 0
@@ -47,39 +47,38 @@ module _ (rs : List FrameRecord) (fs : List ℕ) (F N : ℕ) where
   before-few f seen t residents occupied over B = (rw (B .counted) (count-le f (usedIn rs)), rw (B .named) (count-le (slotCount * f) (isOver rs fs N)))
 
   module _ (f : ℕ) (seen : Seen) (t residents : List ℕ) (occupied over : ℕ) (B : Before rs fs F N f seen t residents occupied over) (l : f < F)
-      (seen' : Seen) (more : ℕ) (ok : Bool) (D : FrameNoted fs F N f (recordAt rs f) (aboveUsed rs (recordAt rs f)) seen seen' more ok) where
+      (seen' : Seen) (more : ℕ) (fresh : Bool) (D : FrameNoted fs N f (recordAt rs f) seen seen' more fresh) where
     -- the frame's numbers in the row
-    progress : Fits fs F N f (recordAt rs f) (aboveUsed rs (recordAt rs f)) → Progress (numbersInFrames rs fs N) (perFrame * (f + 1)) seen' ok
-    progress fit =
+    progress : Progress (numbersInFrames rs fs N) (perFrame * (f + 1)) seen' fresh
+    progress =
         let q : perFrame * (f + 1) ≡ perFrame * f + perFrame = omega arith in
-        rw q (D .notes (numbersInFrames rs fs N) (perFrame * f) (has-numbers rs fs N f) (B .passed) fit)
+        rw q (D .notes (numbersInFrames rs fs N) (perFrame * f) (has-numbers rs fs N f) (B .passed))
 
-    -- the frame doesn't fit
-    pub misfit : ok ≡ false → FramesFit rs fs F N → ⊥
-    misfit z fit =
-        not-twice (numbersInFrames rs fs N) (perFrame * (f + 1)) (perFrame * F) (omega arith) (fit .once) (rw z at (progress (fit .fits f l)))
+    -- a number of the frame stands in the frames twice
+    pub not-fresh : fresh ≡ false → FramesFit rs fs F N → ⊥
+    not-fresh z fit = not-twice (numbersInFrames rs fs N) (perFrame * (f + 1)) (perFrame * F) (omega arith) (fit .once) (rw z at progress)
 
-    over-more : ok ≡ true → over + more ≡ countIf (slotCount * (f + 1)) (isOver rs fs N)
+    over-more : fresh ≡ true → over + more ≡ countIf (slotCount * (f + 1)) (isOver rs fs N)
     over-more z = elim (case (isUsed (recordAt rs f))) [
       | on u ↦ sum (B .named) (D .counts z u) ∙ sym (over-used rs fs N f u)
-      | off u ↦ sum (B .named) (D .nothing z u) ∙ add-zero _ ∙ sym (over-empty rs fs N f u)
+      | off u ↦ sum (B .named) (D .nothing u) ∙ add-zero _ ∙ sym (over-empty rs fs N f u)
     ]
       where
         sum : {x y : ℕ} → over ≡ x → more ≡ y → over + more ≡ x + y
         sum a b = rw (a, b)
 
-    -- the frame fits
-    pub before-more : f < mostFrames → ok ≡ true → Before rs fs F N (f + 1) seen' (set t f (parentAt rs f)) (set residents f (pageIn rs f)) (occupied + boolByte (isUsed (recordAt rs f))) (over + more)
-    before-more m z = record {
+    -- the frame fits, and its numbers are new
+    pub before-more : f < mostFrames → Fits fs F N f (recordAt rs f) (aboveUsed rs (recordAt rs f)) → fresh ≡ true → Before rs fs F N (f + 1) seen' (set t f (parentAt rs f)) (set residents f (pageIn rs f)) (occupied + recordAt rs f .used) (over + more)
+    before-more m fit z = record {
       most = omega arith;
-      fits = λ g m. elim (ℕ-discrete g f) [ yes e ↦ rw e (D .fits z) | no e ↦ B .fits g (omega arith) ];
-      passed = rw z at (progress (D .fits z));
+      fits = λ g m. elim (ℕ-discrete g f) [ yes e ↦ rw e fit | no e ↦ B .fits g (omega arith) ];
+      passed = rw z at progress;
       room = rw (length-set t f (parentAt rs f)) (B .room);
       parents = entries-more (parentAt rs) t f _ (omega (arith, B .room)) refl (B .parents);
       size = length-set residents f (pageIn rs f) ∙ B .size;
       held = entries-more (pageIn rs) residents f _ (omega (arith, B .size)) refl (B .held);
       clear = λ g a. getD-set-other residents f g (pageIn rs f) 0 (λ e. omega arith) ∙ B .clear g (omega arith);
-      counted = ap (λ (n : ℕ). n + boolByte (isUsed (recordAt rs f))) (B .counted) ∙ sym (count-more f (usedIn rs));
+      counted = rw (B .counted, used-bit fs F N f (recordAt rs f) (aboveUsed rs (recordAt rs f)) fit) (sym (count-more f (usedIn rs)));
       named = over-more z;
     }
 

@@ -6,7 +6,7 @@ use page::PageNumber;
 use seen::Seen;
 ghost use Prim.Native.Nat.{_+_, _*_, _<_, _≤_};
 ghost use lib.ListN.{length};
-ghost use Rattle.page.specs.Figures.{pageSize, slotCount, mostFrames};
+ghost use Rattle.page.specs.Figures.{pageSize, slotCount, mostFrames, mostPages};
 ghost use Rattle.seen.specs.Seen.{Table};
 ghost use Rattle.agreement.specs.Sizes.{Sizes};
 ghost use Rattle.agreement.specs.Deciding.{Decides};
@@ -26,7 +26,7 @@ fn is_linked(frames: &[u8], frame: FrameIndex, rec: FrameRecord, above: bool) ->
 }
 
 // Does the frame's record fit, and the word that names it.
-fn is_fitting(
+pub fn is_fitting(
     frames: &[u8],
     frame: FrameIndex,
     rec: FrameRecord,
@@ -49,25 +49,17 @@ fn is_fitting(
     crate::record::is_blank(rec)
 }
 
-// Tests a frame, and notes the numbers in it where it is occupied.
+// Notes the numbers in a frame where it is occupied.
 pub fn note(
     frames: &[u8],
     frame: FrameIndex,
     rec: FrameRecord,
-    above: bool,
-    count: usize,
     pages: u32,
     seen: &mut Seen,
 ) -> Noted
-    requires { ⌜ Sizes count pages (now frames) × (frame .0 < count) × Table (now seen) ⌝ }
-    ensures { λ r. ⌜ FrameNoted (now (frames .entry)) count pages (frame .0) rec above (now (seen .entry)) (now (seen .exit)) (r .over) (r .fits) ⌝ }
+    requires { ⌜ (rec .page .0 < pages) × (pages ≤ mostPages) × (pageSize * frame .0 + pageSize ≤ length (now frames)) × Table (now seen) ⌝ }
+    ensures { λ r. ⌜ FrameNoted (now (frames .entry)) pages (frame .0) rec (now (seen .entry)) (now (seen .exit)) (r .over) (r .fits) ⌝ }
 {
-    if !is_fitting(frames, frame, rec, above, count, pages) {
-        return Noted {
-            over: 0,
-            fits: false,
-        };
-    }
     if rec.used == 1 {
         let start = FrameIndex::start(frame);
         return crate::words::note_numbers(frames, start, rec.page, pages, seen);

@@ -34,14 +34,17 @@ pub fn agrees(pool: Pool, frames: &[u8], residents: &mut Residents, seen: &mut S
         let rec = records[f];
         let above = records[page::wide::from_u8(rec.parent.0) % FrameIndex::MOST];
         let frame = FrameIndex(f as u8);
-        let noted = frame::note(frames, frame, rec, above.used == 1, count, n, seen);
+        if !frame::is_fitting(frames, frame, rec, above.used == 1, count, n) {
+            return false;
+        }
+        parents[f] = rec.parent.0;
+        residents[f] = rec.page.0;
+        let noted = frame::note(frames, frame, rec, n, seen);
         if !noted.fits {
             return false;
         }
         over += noted.over;
-        occupied += (rec.used == 1) as u32;
-        parents[f] = rec.parent.0;
-        residents[f] = rec.page.0;
+        occupied += rec.used as u32;
         f += 1;
     }
     // The fields of the records from F on, or-ed together. They are read where they lie: from a copy of the record the compiler would not read neighbours at once.

@@ -15,7 +15,7 @@ use Rattle.machine.specs.declared.Handle.{Handle}
 use Rattle.machine.specs.declared.Pool.{Pool}
 use Rattle.machine.specs.Tests.{Rule, firstBroken}
 use Rattle.machine.specs.Laws.TestLaws.{kept-then, broken-here, none-broken}
-use Rattle.machine.specs.Machine.{State, state, withPool, blank, unpinned, recordAt, withRecord, zeroPool, openedPool, found}
+use Rattle.machine.specs.Machine.{State, state, withPool, blank, rootRecord, unpinned, recordAt, withRecord, zeroPool, openedPool, found}
 use Rattle.machine.specs.Soundness.{sound}
 use Rattle.machine.specs.Sweep.{isOpen}
 use Rattle.machine.specs.Laws.SweepLaws.{open-childless}
@@ -30,23 +30,23 @@ use Rattle.residents.specs.Handed.{Handed}
 use Rattle.guard.specs.Held.{recordPlace}
 use Rattle.scan.specs.FoundByTable.{foundBy, kept, counted-frames, at-found}
 use Rattle.moves.specs.InAndOut.{Removable, TakenOut, removable, is-evicted}
-use Rattle.residency.specs.Opening.{blankPool}
+use Rattle.residency.specs.Opening.{poolWith}
 
 -- ---- open
 
 module _ (fs st : List ℕ) {p : Pool} where
-  pub open-unfit : lengthsFit (length fs / pageSize) (length st / pageSize) fs st ≡ false → p ≡ blankPool 0 0 → out (doneAnswer 1) (state p fs st) ≡ openCall fs st
+  pub open-unfit : lengthsFit (length fs / pageSize) (length st / pageSize) fs st ≡ false → p ≡ poolWith blank 0 0 → out (doneAnswer 1) (state p fs st) ≡ openCall fs st
   unfolding openCall zeroPool
   open-unfit h e = rw e (done-no _ _ _ (sym (broken-here 1 _ h)) (λ z. omega arith))
 
   module _ (fit : lengthsFit (length fs / pageSize) (length st / pageSize) fs st ≡ true) where
-    pub open-unsound : sound st (length st / pageSize) ≡ false → p ≡ blankPool 0 0 → out (doneAnswer 16) (state p fs st) ≡ openCall fs st
+    pub open-unsound : sound st (length st / pageSize) ≡ false → p ≡ poolWith blank 0 0 → out (doneAnswer 16) (state p fs st) ≡ openCall fs st
     unfolding openCall zeroPool
     open-unsound h e = rw e (done-no _ _ _ (sym (kept-then 1 _ fit ∙ broken-here 16 _ h)) (λ z. omega arith))
 
-    pub open-done : {gs : List ℕ} → sound st (length st / pageSize) ≡ true → p ≡ openedPool (length fs / pageSize) (length st / pageSize) → gs ≡ putPage fs 0 (pageOf st 0)
+    pub open-done : {gs : List ℕ} → sound st (length st / pageSize) ≡ true → p ≡ poolWith rootRecord (length fs / pageSize) (length st / pageSize) → gs ≡ putPage fs 0 (pageOf st 0)
         → out (doneAnswer 0) (state p gs st) ≡ openCall fs st
-    unfolding openCall
+    unfolding openCall openedPool
     open-done h e g = done-yes _ _ (sym (kept-then 1 _ fit ∙ kept-then 16 _ h ∙ none-broken)) refl (rw (e, g))
 
 -- ---- unfix, where n is the refusal by rules 1 to 3, and a the place of the handle's record

@@ -1,36 +1,29 @@
 // Open: the records of a pool, and page 0 in its frame.
 use machine::Done;
+use machine::FrameRecord;
 use machine::Pool;
 use page::FrameIndex;
 use page::PageNumber;
 use page::StorePlace;
 ghost use mathlib.Core.Path.{_≡_};
-ghost use Rattle.machine.specs.Machine.{state, openedPool};
+ghost use Rattle.machine.specs.Machine.{state};
 ghost use Rattle.machine.specs.Answers.{out, doneAnswer};
 ghost use Rattle.machine.specs.Calls.{openCall};
-ghost use Rattle.residency.specs.Opening.{blankPool};
+ghost use Rattle.residency.specs.Opening.{poolWith};
 
-// F, N and the hand at 0 with every record blank; all zero where F and N are.
-fn blank_pool(count: u16, pages: u16) -> Pool
-    ensures { λ r. ⌜ r ≡ blankPool count pages ⌝ }
+// F, N and the hand at 0; every record blank but frame 0's.
+fn pool_with(root: FrameRecord, count: u16, pages: u16) -> Pool
+    ensures { λ r. ⌜ r ≡ poolWith root count pages ⌝ }
 {
     let blank = records::empty();
-    let records = [blank; FrameIndex::MOST];
+    let mut records = [blank; FrameIndex::MOST];
+    records[0] = root;
     Pool {
         records,
         count,
         pages,
         hand: FrameIndex(0),
     }
-}
-
-// The records of a pool just opened: page 0 in frame 0, clean and not pinned.
-fn opened_pool(count: u16, pages: u16) -> Pool
-    ensures { λ r. ⌜ r ≡ openedPool count pages ⌝ }
-{
-    let mut pool = blank_pool(count, pages);
-    pool.records[0] = records::root();
-    pool
 }
 
 // Brings page 0 into frame 0, every other frame empty, and gives the pool's records; refused, all-zero ones.
@@ -41,19 +34,19 @@ pub fn open(frames: &mut [u8], store: &[u8]) -> Done
     let pages = store.len() / PageNumber::SIZE;
     if !guard::lengths_fit(count, pages, frames, store) {
         return Done {
-            pool: blank_pool(0, 0),
+            pool: pool_with(records::empty(), 0, 0),
             refusal: 1,
         };
     }
-    if !soundness::is_sound(store, pages) {
+    if !soundness::is_sound(store, pages as u16) {
         return Done {
-            pool: blank_pool(0, 0),
+            pool: pool_with(records::empty(), 0, 0),
             refusal: 16,
         };
     }
     page::copy::to_frame(frames, FrameIndex(0), store, StorePlace(0));
     Done {
-        pool: opened_pool(count as u16, pages as u16),
+        pool: pool_with(records::root(), count as u16, pages as u16),
         refusal: 0,
     }
 }

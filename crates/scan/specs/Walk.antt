@@ -27,9 +27,13 @@ sight yield u = u
 sight warm u = 4 + u
 sight rest u = 8 + u
 
+-- from here on a look leaves what it was: the usage of a frame that it warms is the largest, or the frame is left alone
+abbrev pub warmest : ℕ
+warmest = 7
+
 -- what a look leaves of it: one usage less, one more to 3 at most, or what it was
 unfoldable pub lookedAt : ℕ → ℕ
-lookedAt v = pick (ltb v 4) (v - 1) (pick (ltb v 7) (v + 1) v)
+lookedAt v = pick (ltb v 4) (v - 1) (pick (ltb v warmest) (v + 1) v)
 
 -- the record with the usage that a sweep left of it
 unfoldable pub cooledTo : FrameRecord → ℕ → FrameRecord
@@ -123,6 +127,13 @@ module _ (F m n : ℕ) (us : List ℕ) (h : ℕ) where
   pub walk-goes : getD us h 0 ≢ 0 → walkFrom F (suc m) n us h ≡ walkFrom F m (n + 1) (set us h (lookedAt (getD us h 0))) (after F h)
   unfolding walkFrom
   walk-goes z = sym (pick-no _ (ne-eqb _ 0 z) refl)
+
+  pub walk-passes : warmest ≤ getD us h 0 → walkFrom F (suc m) n us h ≡ walkFrom F m (n + 1) us (after F h)
+  unfolding lookedAt
+  walk-passes k =
+      let v : lookedAt (getD us h 0) ≡ getD us h 0 = sym (pick-no _ (le-ltb (getD us h 0) 4 (omega arith)) (pick-no _ (le-ltb _ warmest k) refl)) in
+      let s : set us h (getD us h 0) ≡ us = set-getD us h 0 in
+      walk-goes (λ e. omega arith) ∙ rw (v, s)
 
 -- ---- a look at the number is the look at the record
 

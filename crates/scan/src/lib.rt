@@ -15,7 +15,7 @@ ghost use Rattle.page.specs.Figures.{pageSize, mostFrames, maxUsage};
 ghost use Rattle.machine.specs.Machine.{frameIndex};
 ghost use Rattle.machine.specs.Sweep.{after, kind};
 ghost use Rattle.scan.specs.FoundByTable.{foundBy, emptyBy};
-ghost use Rattle.scan.specs.Walk.{sight as classAndUsage, lookedAt, Walked};
+ghost use Rattle.scan.specs.Walk.{sight as classAndUsage, warmest, lookedAt, Walked};
 
 // The usages that there are. What a sweep sees of a frame is one number: its usage, and above that its class, 0 for a frame that is open to eviction.
 const USAGES: u8 = 4;
@@ -97,18 +97,15 @@ pub fn sight(rec: FrameRecord, frames: &[u8], frame: FrameIndex) -> u8
     }
 }
 
-// What a look that takes nothing leaves of what it saw.
+// What a look that takes nothing leaves of what it saw, where that changes.
 fn looked_at(sight: u8) -> u8
-    requires { ⌜ sight ≢ 0 ⌝ }
+    requires { ⌜ (sight ≢ 0) × (sight < warmest) ⌝ }
     ensures { λ r. ⌜ r ≡ lookedAt sight ⌝ }
 {
     if sight < WARM {
         return sight - 1;
     }
-    if sight < WARMEST {
-        return sight + 1;
-    }
-    sight
+    sight + 1
 }
 
 // The usage of a frame of which a sweep left this.
@@ -140,7 +137,9 @@ pub fn sweep(sights: &mut [u8; FrameIndex::MOST], count: u16, start: FrameIndex)
                 hand,
             };
         }
-        sights[at] = looked_at(sight);
+        if sight < WARMEST {
+            sights[at] = looked_at(sight);
+        }
     }
     Walk {
         taken: false,

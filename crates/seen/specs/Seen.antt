@@ -5,7 +5,7 @@ use mathlib.Core.Logic.{_≢_}
 use mathlib.Core.Bool.{Bool, true, false, not}
 use mathlib.Core.List.{List}
 use lib.Dec.{eqb, ltb}
-use lib.ListN.{length, getD, replicate}
+use lib.ListN.{length, getD, set, replicate}
 use Rattle.page.specs.Figures.{slotCount, mostPages}
 use Rattle.machine.specs.Tests.{_and_, _or_, every}
 use Rattle.seen.specs.Among.{among}
@@ -30,6 +30,11 @@ pub record Table (seen : Seen) : Type 0 where
 pub record Tells (seen : Seen) (test : ℕ → Bool) : Type 0 where
   pub table : Table seen
   pub right : (x : ℕ) → 0 < x → x < mostPages → noted seen x ≡ test x
+
+-- the entry of x was marked; `new` tells whether it wasn't before
+pub record Marks (x : ℕ) (before after : Seen) (new : Bool) : Type 0 where
+  pub answer : new ≡ not (noted before x)
+  pub stored : after ≡ set before x true
 
 -- x was noted, 0 excepted; `new` tells whether it wasn't before
 pub record Notes (x : ℕ) (before after : Seen) (new : Bool) : Type 0 where

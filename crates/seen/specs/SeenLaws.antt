@@ -15,9 +15,9 @@ use Rattle.machine.specs.Tests.{_and_, _or_, every}
 use Rattle.machine.specs.Laws.TestLaws.{clash, case, on, off, same, is-off, both, and-true, and-no, or-left, or-right, or-second, or-none, or-off, every-zero, every-true, true-every, every-false}
 use Rattle.seen.specs.Fold.{or-same}
 use Rattle.seen.specs.Among.{among, among-zero, among-hit, among-none}
-use Rattle.seen.specs.Seen.{Seen, none, noted, Table, Tells, Notes, fresh, Marked}
+use Rattle.seen.specs.Seen.{Seen, none, noted, Table, Tells, Marks, Notes, fresh, Marked}
 
--- ---- the table's form: nothing noted, and a number noted by two stores
+-- ---- the table's form: nothing noted, and a number noted by its mark, that of 0 taken back
 
 pub none-noted : Tells none (λ x. false)
 unfolding noted
@@ -26,17 +26,39 @@ none-noted = record {
   right = λ x p l. getD-replicate mostPages x false false l;
 }
 
-pub two-stores : (x : ℕ) (seen : Seen) → x < mostPages → Notes x seen (set (set seen x true) 0 false) (not (noted seen x))
-unfolding noted
-two-stores x seen l = record {
-  answer = refl;
-  table = λ t. record {
-    size = length-set (set seen x true) 0 false ∙ length-set seen x true ∙ t .size;
-    zero = getD-set-same (set seen x true) 0 false false (let e : length (set seen x true) ≡ length seen = length-set seen x true in omega (arith, t .size));
-  };
-  here = λ t n. getD-set-other (set seen x true) 0 x false false n ∙ getD-set-same seen x true false (omega (arith, t .size));
-  others = λ y z n. getD-set-other (set seen x true) 0 y false false z ∙ getD-set-other seen x y true false (λ e. n (sym e));
-}
+module _ (x : ℕ) (before : Seen) {marked : Seen} {new : Bool} (l : x < mostPages) (m : Marks x before marked new) where
+  size-marked : length marked ≡ length before
+  size-marked = ap length (m .stored) ∙ length-set before x true
+
+  marked-here : Table before → noted marked x ≡ true
+  unfolding noted
+  marked-here t = rw (m .stored) (getD-set-same before x true false (omega (arith, t .size)))
+
+  marked-other : (y : ℕ) → x ≢ y → noted marked y ≡ noted before y
+  unfolding noted
+  marked-other y n = rw (m .stored) (getD-set-other before x y true false (λ e. n (sym e)))
+
+  -- a number other than 0
+  pub mark-notes : x ≢ 0 → Notes x before marked new
+  mark-notes n = record {
+    answer = m .answer;
+    table = λ t. record { size = size-marked ∙ t .size; zero = marked-other 0 n ∙ t .zero };
+    here = λ t z. marked-here t;
+    others = λ y z k. marked-other y k;
+  }
+
+  -- any number, the mark of 0 taken back
+  pub unmarked-notes : Notes x before (set marked 0 false) new
+  unfolding noted
+  unmarked-notes = record {
+    answer = m .answer;
+    table = λ t. record {
+      size = length-set marked 0 false ∙ size-marked ∙ t .size;
+      zero = getD-set-same marked 0 false false (omega (arith, size-marked, t .size));
+    };
+    here = λ t n. getD-set-other marked 0 x false false n ∙ marked-here t;
+    others = λ y z k. getD-set-other marked 0 y false false z ∙ marked-other y k;
+  }
 
 -- 0 is passed over
 pub notes-zero : (seen : Seen) → Table seen → Notes 0 seen seen true

@@ -8,7 +8,7 @@ ghost use Prim.Native.Nat.{_+_, _≤_, _<_};
 ghost use lib.ListN.{length};
 ghost use Rattle.page.specs.Figures.{payloadStart, slotCount, mostPages};
 ghost use Rattle.page.specs.Page.{wordsFrom};
-ghost use Rattle.seen.specs.Seen.{noted, Table, Notes, rowOf, PageNumbers, Marked};
+ghost use Rattle.seen.specs.Seen.{noted, Table, Marks, Notes, rowOf, PageNumbers, Marked};
 
 pub type Seen = [bool; PageNumber::MOST];
 
@@ -23,13 +23,22 @@ pub fn is_noted(seen: &Seen, x: usize) -> bool
     seen[x]
 }
 
+// Marks the entry of a number: was it not marked.
+fn mark(seen: &mut Seen, x: usize) -> bool
+    requires { ⌜ x < mostPages ⌝ }
+    ensures { λ r. ⌜ Marks x (now (seen .entry)) (now (seen .exit)) r ⌝ }
+{
+    let new = !seen[x];
+    seen[x] = true;
+    new
+}
+
 // Notes a number: was it new. 0 stands for no number, and its mark is taken back.
 pub fn note(seen: &mut Seen, x: usize) -> bool
     requires { ⌜ x < mostPages ⌝ }
     ensures { λ r. ⌜ Notes x (now (seen .entry)) (now (seen .exit)) r ⌝ }
 {
-    let new = !seen[x];
-    seen[x] = true;
+    let new = mark(seen, x);
     seen[0] = false;
     new
 }
@@ -46,7 +55,7 @@ pub fn mark_page(buffer: &[u8], at: usize, limit: usize, seen: &mut Seen) -> boo
             if limit <= w {
                 return false;
             }
-            if !note(seen, w) {
+            if !mark(seen, w) {
                 return false;
             }
         }

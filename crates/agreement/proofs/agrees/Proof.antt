@@ -5,10 +5,11 @@ use Prim.Native.Nat.{_≤_, _-_}
 use native.Mathlib.Omega.{arith}
 use mathlib.Core.Path.{refl}
 use Rattle.page.specs.Figures.{mostFrames}
-use Rattle.machine.specs.Machine.{isUsed, recordAt}
+use Rattle.machine.specs.Machine.{recordAt}
 use Rattle.agreement.specs.Fit.{NoField, Before}
-use Rattle.agreement.specs.FitLaws.{bool-small, gathers}
-use Rattle.agreement.specs.PassLaws.{before-first, before-few, misfit, before-more, frames-even, settle, RestTo, rest-none, rest-more}
+use Rattle.agreement.specs.Deciding.{decided, fails}
+use Rattle.agreement.specs.FitLaws.{page-below, gathers}
+use Rattle.agreement.specs.PassLaws.{before-first, before-few, not-fresh, before-more, frames-even, settle, RestTo, rest-none, rest-more}
 use Rattle.agreement.specs.Same.{end-hand, end-rest, end-frames, table-below, table-root}
 use Rattle.agreement.specs.Hands.{end-all}
 use Rattle.agreement.proofs.agrees.Statement.{statement}
@@ -69,44 +70,23 @@ array-copy-out-above c = search needs
 cast-t30 : tie.Need-cast-t30 Inv-loop μ-loop Inv-loop2 μ-loop2
 cast-t30 c = search needs
 
-note-requires : tie.Need-note-requires Inv-loop μ-loop Inv-loop2 μ-loop2
-note-requires c κs =
-    let past-frames = c .before .before .before .before .before in
-    let at-frames = past-frames .before in
-    let at-count = at-frames .before .before .before .before in
+is-fitting-requires : tie.Need-is-fitting-requires Inv-loop μ-loop Inv-loop2 μ-loop2
+is-fitting-requires c κs =
+    let past-frames = c .before .before .before .before in
+    let at-count = past-frames .before .before .before .before .before in
     let at-entry = at-count .before .before .before in
-    (rw (at-count .from-u16 .ensures) (at-entry .pre .0), past-frames .loop-test .taken, at-frames .loop .inv .1 .passed .tells .table)
+    (rw (at-count .from-u16 .ensures) (at-entry .pre .0), past-frames .loop-test .taken)
 
--- a frame's record, the word that names it or a number in it doesn't fit
+-- a frame's record or the word that names it doesn't fit
 returns-2 : tie.Need-returns-2 Inv-loop μ-loop Inv-loop2 μ-loop2
 returns-2 c =
-    let at-note = c .before .before in
-    let at-above = at-note .before .before .before .before in
+    let at-fitting = c .before in
+    let at-above = at-fitting .before .before .before in
     let past-frames = at-above .before .before in
-    let at-frames = past-frames .before in
-    let at-count = at-frames .before .before .before .before in
+    let at-count = past-frames .before .before .before .before .before in
     let at-entry = at-count .before .before .before in
     end-frames (at-entry .args .pool) _ (at-entry .pre .0) _ (at-count .from-u16 .ensures) _ _
-    (misfit _ _ _ _ _ _ _ _ _ _ (at-frames .loop .inv .1) (past-frames .loop-test .taken) (at-note .note .last .1 .1 .1 .1 .1 .1 .0) (at-note .note .result .over) (at-note .note .result .fits) (rw (at-above .from-u82 .ensures) at (at-note .note .ensures)) (not-true _ (c .if2 .taken)))
-
-add-over : tie.Need-add-over Inv-loop μ-loop Inv-loop2 μ-loop2
-add-over c =
-    let at-note = c .before .before .before in
-    let at-record = at-note .before .before .before .before .before in
-    let at-frames = at-record .before .before in
-    omega (arith, before-few _ _ _ _ _ _ _ _ _ _ (at-frames .loop .inv .1) .1, at-note .note .ensures .few)
-
-cast-occupied : tie.Need-cast-occupied Inv-loop μ-loop Inv-loop2 μ-loop2
-cast-occupied c = search needs
-
-add-occupied : tie.Need-add-occupied Inv-loop μ-loop Inv-loop2 μ-loop2
-add-occupied c =
-    let at-note = c .before .before .before .before in
-    let at-record = at-note .before .before .before .before .before in
-    let at-frames = at-record .before .before in
-    let at-count = at-frames .before .before .before .before in
-    let at-entry = at-count .before .before .before in
-    omega (arith, before-few _ _ _ _ _ _ _ _ _ _ (at-frames .loop .inv .1) .0, bool-small (isUsed (recordAt (at-entry .args .pool .records) (at-frames .loop .f))))
+    (λ k. fails (at-fitting .is-fitting .result) _ (rw (at-above .from-u82 .ensures) at (at-fitting .is-fitting .ensures)) (not-true _ (c .if2 .taken)) (k .fits _ (past-frames .loop-test .taken)))
 
 array-write-parents : tie.Need-array-write-parents Inv-loop μ-loop Inv-loop2 μ-loop2
 array-write-parents c = search needs
@@ -116,6 +96,46 @@ mul-residents c = search needs
 
 element-write-residents : tie.Need-element-write-residents Inv-loop μ-loop Inv-loop2 μ-loop2
 element-write-residents c = search needs
+
+note-requires : tie.Need-note-requires Inv-loop μ-loop Inv-loop2 μ-loop2
+note-requires c κs =
+    let past-fitting = c .before in
+    let at-fitting = past-fitting .before in
+    let past-frames = at-fitting .before .before .before .before .before in
+    let at-frames = past-frames .before in
+    let at-count = at-frames .before .before .before .before in
+    let at-entry = at-count .before .before .before in
+    let S = at-entry .pre .0 in
+    let fit = decided (at-fitting .is-fitting .result) _ (at-fitting .is-fitting .ensures) (not-false _ (past-fitting .if2 .left)) in
+    (page-below _ _ _ _ _ _ (S .some) fit, S .pages, omega (arith, S .size, at-count .from-u16 .ensures, past-frames .loop-test .taken), at-frames .loop .inv .1 .passed .tells .table)
+
+-- a number in a frame stands twice
+returns-3 : tie.Need-returns-3 Inv-loop μ-loop Inv-loop2 μ-loop2
+returns-3 c =
+    let at-note = c .before .before in
+    let at-fitting = at-note .before .before .before in
+    let past-frames = at-fitting .before .before .before .before .before in
+    let at-frames = past-frames .before in
+    let at-count = at-frames .before .before .before .before in
+    let at-entry = at-count .before .before .before in
+    end-frames (at-entry .args .pool) _ (at-entry .pre .0) _ (at-count .from-u16 .ensures) _ _
+    (not-fresh _ _ _ _ _ _ _ _ _ _ (at-frames .loop .inv .1) (past-frames .loop-test .taken) _ _ (at-note .note .result .fits) (at-note .note .ensures) (not-true _ (c .if3 .taken)))
+
+add-over : tie.Need-add-over Inv-loop μ-loop Inv-loop2 μ-loop2
+add-over c =
+    let at-note = c .before .before .before in
+    let past-frames = at-note .before .before .before .before .before .before .before .before in
+    let at-frames = past-frames .before in
+    omega (arith, before-few _ _ _ _ _ _ _ _ _ _ (at-frames .loop .inv .1) .1, at-note .note .ensures .few)
+
+cast-occupied : tie.Need-cast-occupied Inv-loop μ-loop Inv-loop2 μ-loop2
+cast-occupied c = search needs
+
+add-occupied : tie.Need-add-occupied Inv-loop μ-loop Inv-loop2 μ-loop2
+add-occupied c =
+    let at-note = c .before .before .before .before in
+    let past-frames = at-note .before .before .before .before .before .before .before .before in
+    omega (arith, before-few _ _ _ _ _ _ _ _ _ _ (past-frames .before .loop .inv .1) .0)
 
 add-f : tie.Need-add-f Inv-loop μ-loop Inv-loop2 μ-loop2
 add-f c = search needs
@@ -127,10 +147,13 @@ loop-again : tie.Need-loop-again Inv-loop μ-loop Inv-loop2 μ-loop2
 loop-again c =
     let past-note = c .before .before in
     let at-note = past-note .before .before in
-    let at-above = at-note .before .before .before .before in
+    let past-fitting = at-note .before .before in
+    let at-fitting = past-fitting .before in
+    let at-above = at-fitting .before .before .before in
     let past-frames = at-above .before .before in
     let at-frames = past-frames .before in
-    (at-frames .loop .inv .0, before-more _ _ _ _ _ _ _ _ _ _ (at-frames .loop .inv .1) (past-frames .loop-test .taken) _ _ (at-note .note .result .fits) (rw (at-above .from-u82 .ensures) at (at-note .note .ensures)) (omega arith) (not-false _ (past-note .if2 .left)))
+    let fit = decided (at-fitting .is-fitting .result) _ (rw (at-above .from-u82 .ensures) at (at-fitting .is-fitting .ensures)) (not-false _ (past-fitting .if2 .left)) in
+    (at-frames .loop .inv .0, before-more _ _ _ _ _ _ _ _ _ _ (at-frames .loop .inv .1) (past-frames .loop-test .taken) _ _ (at-note .note .result .fits) (at-note .note .ensures) (omega arith) fit (not-false _ (past-note .if3 .left)))
 
 loop2-holds : tie.Need-loop2-holds Inv-loop μ-loop Inv-loop2 μ-loop2
 loop2-holds c = (c .loop-test .left, omega (arith, c .before .loop .inv .1 .most), rest-none _ _ _ _ (c .before .loop .inv .1 .most) (record { first = refl; parent = refl; last = refl }))
@@ -205,47 +228,47 @@ loop2-again c =
     (omega arith, omega arith, rest-more _ _ _ _ _ (at-rest .loop2 .inv .0) (gathers (recordAt (at-entry .args .pool .records) (at-rest .loop2 .f)) _ _ (at-first-fields .first-fields .ensures) (c .last-fields .ensures) _ _ _) (at-rest .loop2 .inv .2))
 
 -- a record from F on has a field before its parent set
-returns-3 : tie.Need-returns-3 Inv-loop μ-loop Inv-loop2 μ-loop2
-returns-3 c =
+returns-4 : tie.Need-returns-4 Inv-loop μ-loop Inv-loop2 μ-loop2
+returns-4 c =
     let at-rest = c .before .before in
     let past-hand = at-rest .before .before .before in
     let at-count = past-hand .before .before .before in
     let at-entry = at-count .before .before .before in
-    end-rest (at-entry .args .pool) _ (at-entry .pre .0) _ (at-count .from-u16 .ensures) _ _ (λ r. c .if3 .taken (at-rest .loop2 .inv .2 .nothing (λ g a b. r g a (omega arith)) .first))
+    end-rest (at-entry .args .pool) _ (at-entry .pre .0) _ (at-count .from-u16 .ensures) _ _ (λ r. c .if4 .taken (at-rest .loop2 .inv .2 .nothing (λ g a b. r g a (omega arith)) .first))
 
 -- a record from F on has its parent set
-returns-4 : tie.Need-returns-4 Inv-loop μ-loop Inv-loop2 μ-loop2
-returns-4 c =
+returns-5 : tie.Need-returns-5 Inv-loop μ-loop Inv-loop2 μ-loop2
+returns-5 c =
     let at-rest = c .before .before .before in
     let past-hand = at-rest .before .before .before in
     let at-count = past-hand .before .before .before in
     let at-entry = at-count .before .before .before in
-    end-rest (at-entry .args .pool) _ (at-entry .pre .0) _ (at-count .from-u16 .ensures) _ _ (λ r. c .if4 .taken (at-rest .loop2 .inv .2 .nothing (λ g a b. r g a (omega arith)) .parent))
+    end-rest (at-entry .args .pool) _ (at-entry .pre .0) _ (at-count .from-u16 .ensures) _ _ (λ r. c .if5 .taken (at-rest .loop2 .inv .2 .nothing (λ g a b. r g a (omega arith)) .parent))
 
 -- a record from F on has a field after its parent set
-returns-5 : tie.Need-returns-5 Inv-loop μ-loop Inv-loop2 μ-loop2
-returns-5 c =
+returns-6 : tie.Need-returns-6 Inv-loop μ-loop Inv-loop2 μ-loop2
+returns-6 c =
     let at-rest = c .before .before .before .before in
     let past-hand = at-rest .before .before .before in
     let at-count = past-hand .before .before .before in
     let at-entry = at-count .before .before .before in
-    end-rest (at-entry .args .pool) _ (at-entry .pre .0) _ (at-count .from-u16 .ensures) _ _ (λ r. c .if5 .taken (at-rest .loop2 .inv .2 .nothing (λ g a b. r g a (omega arith)) .last))
+    end-rest (at-entry .args .pool) _ (at-entry .pre .0) _ (at-count .from-u16 .ensures) _ _ (λ r. c .if6 .taken (at-rest .loop2 .inv .2 .nothing (λ g a b. r g a (omega arith)) .last))
 
-add-if6 : tie.Need-add-if6 Inv-loop μ-loop Inv-loop2 μ-loop2
-add-if6 c =
+add-if7 : tie.Need-add-if7 Inv-loop μ-loop Inv-loop2 μ-loop2
+add-if7 c =
     let past-frames = c .before .before .before .before .before in
     let at-frames = past-frames .before in
     omega (arith, before-few _ _ _ _ _ _ _ _ _ _ (at-frames .loop .inv .1) .1, at-frames .loop .inv .1 .most)
 
 -- a word that isn't below N is no frame's own
-returns-6 : tie.Need-returns-6 Inv-loop μ-loop Inv-loop2 μ-loop2
-returns-6 c =
+returns-7 : tie.Need-returns-7 Inv-loop μ-loop Inv-loop2 μ-loop2
+returns-7 c =
     let at-rest = c .before .before .before .before .before in
     let past-frames = at-rest .before in
     let at-frames = past-frames .before in
     let at-count = at-frames .before .before .before .before in
     let at-entry = at-count .before .before .before in
-    end-frames (at-entry .args .pool) _ (at-entry .pre .0) _ (at-count .from-u16 .ensures) _ _ (λ k. c .if6 .taken (frames-even _ _ _ _ _ _ _ _ _ _ (at-frames .loop .inv .1) (past-frames .loop-test .left) k))
+    end-frames (at-entry .args .pool) _ (at-entry .pre .0) _ (at-count .from-u16 .ensures) _ _ (λ k. c .if7 .taken (frames-even _ _ _ _ _ _ _ _ _ _ (at-frames .loop .inv .1) (past-frames .loop-test .left) k))
 
 lead-to-root-requires : tie.Need-lead-to-root-requires Inv-loop μ-loop Inv-loop2 μ-loop2
 lead-to-root-requires c κs =
@@ -258,15 +281,15 @@ lead-to-root-requires c κs =
     let at-frames = past-frames .before in
     let at-count = at-frames .before .before .before .before in
     let at-entry = at-count .before .before .before in
-    let z = settle _ _ _ _ _ _ _ _ _ _ (at-frames .loop .inv .1) (past-frames .loop-test .left) (c .if6 .left) _ _ (past-rest .loop2-test .left) (at-rest .loop2 .inv .2) (record { first = past-first .if3 .left; parent = past-parent .if4 .left; last = past-last .if5 .left }) in (
+    let z = settle _ _ _ _ _ _ _ _ _ _ (at-frames .loop .inv .1) (past-frames .loop-test .left) (c .if7 .left) _ _ (past-rest .loop2-test .left) (at-rest .loop2 .inv .2) (record { first = past-first .if4 .left; parent = past-parent .if5 .left; last = past-last .if6 .left }) in (
       at-frames .loop .inv .0,
       table-below (at-entry .args .pool) _ (at-entry .pre .0) _ (at-count .from-u16 .ensures) _ _ _ z,
       table-root (at-entry .args .pool) _ (at-entry .pre .0) _ (at-count .from-u16 .ensures) _ _ _ z,
     )
 
 -- each frame fits, so that its parents decide
-returns-7 : tie.Need-returns-7 Inv-loop μ-loop Inv-loop2 μ-loop2
-returns-7 c =
+returns-8 : tie.Need-returns-8 Inv-loop μ-loop Inv-loop2 μ-loop2
+returns-8 c =
     let past-over = c .before in
     let past-last = past-over .before in
     let past-parent = past-last .before in
@@ -279,7 +302,7 @@ returns-7 c =
     let at-hand = past-hand .before in
     let at-count = at-hand .before .before in
     let at-entry = at-count .before .before .before in
-    let z = settle _ _ _ _ _ _ _ _ _ _ (at-frames .loop .inv .1) (past-frames .loop-test .left) (past-over .if6 .left) _ _ (past-rest .loop2-test .left) (at-rest .loop2 .inv .2) (record { first = past-first .if3 .left; parent = past-parent .if4 .left; last = past-last .if5 .left }) in
+    let z = settle _ _ _ _ _ _ _ _ _ _ (at-frames .loop .inv .1) (past-frames .loop-test .left) (past-over .if7 .left) _ _ (past-rest .loop2-test .left) (at-rest .loop2 .inv .2) (record { first = past-first .if4 .left; parent = past-parent .if5 .left; last = past-last .if6 .left }) in
     end-all (at-entry .args .pool) _ (at-entry .pre .0) _ (at-count .from-u16 .ensures) _ _ _ z _ (at-hand .from-u8 .ensures) (past-hand .if1 .left) (c .lead-to-root .result) (c .lead-to-root .ensures)
 
 pub agrees-spec : {M : Type 1} → statement M
@@ -301,14 +324,16 @@ agrees-spec =
     mul-above
     array-copy-out-above
     cast-t30
-    note-requires
+    is-fitting-requires
     returns-2
-    add-over
-    cast-occupied
-    add-occupied
     array-write-parents
     mul-residents
     element-write-residents
+    note-requires
+    returns-3
+    add-over
+    cast-occupied
+    add-occupied
     add-f
     loop-less
     loop-again
@@ -332,10 +357,10 @@ agrees-spec =
     add-f-2
     loop2-less
     loop2-again
-    returns-3
     returns-4
     returns-5
-    add-if6
     returns-6
+    add-if7
+    returns-7
     lead-to-root-requires
-    returns-7)
+    returns-8)

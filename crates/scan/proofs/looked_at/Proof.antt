@@ -19,11 +19,7 @@ add-result c = search needs
 
 returns-2 : tie.Need-returns-2
 unfolding lookedAt
-returns-2 c = pick-no _ (le-ltb _ _ (c .before .if1 .left)) (pick-yes _ (lt-ltb _ _ (c .if2 .taken)) refl)
-
-returns-3 : tie.Need-returns-3
-unfolding lookedAt
-returns-3 c = pick-no _ (le-ltb _ _ (c .before .if1 .left)) (pick-no _ (le-ltb _ _ (c .if2 .left)) refl)
+returns-2 c = pick-no _ (le-ltb _ _ (c .if1 .left)) (pick-yes _ (lt-ltb _ _ (c .before .pre .1)) refl)
 
 pub looked-at-spec : {M : Type 1} → statement M
-looked-at-spec = tie.close (tie.spec sub-result returns add-result returns-2 returns-3)
+looked-at-spec = tie.close (tie.spec sub-result returns add-result returns-2)

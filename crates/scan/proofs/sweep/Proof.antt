@@ -11,7 +11,7 @@ use lib.ListN.{getD, set}
 use Rattle.page.specs.declared.FrameIndex.{FrameIndex}
 use Rattle.machine.specs.Machine.{frameIndex}
 use Rattle.machine.specs.Sweep.{after, mostLooks}
-use Rattle.scan.specs.Walk.{lookedAt, WalkEnd, walkFrom, Walked, walk-takes, walk-goes}
+use Rattle.scan.specs.Walk.{warmest, lookedAt, WalkEnd, walkFrom, Walked, walk-takes, walk-goes, walk-passes}
 use Rattle.scan.proofs.sweep.Statement.{statement}
 use Rattle.scan.proofs.sweep.Tie as tie
 
@@ -31,6 +31,9 @@ module _ (F k n : ℕ) (us : List ℕ) (h : ℕ) {g : FrameIndex} (x : n < k) (h
 
   goes : {v : ℕ} → getD us h 0 ≢ 0 → v ≡ lookedAt (getD us h 0) → walkFrom F (k - n) n us h ≡ walkFrom F (k - (n + 1)) (n + 1) (set us h v) (g .0)
   goes z e = rw (left, hg, e) (walk-goes F _ n us h z)
+
+  passes : warmest ≤ getD us h 0 → walkFrom F (k - n) n us h ≡ walkFrom F (k - (n + 1)) (n + 1) us (g .0)
+  passes e = rw (left, hg) (walk-passes F _ n us h e)
 
 over : (F k n : ℕ) (us : List ℕ) (h : ℕ) → k ≤ n → walkFrom F (k - n) n us h ≡ record { walk = record { taken = false; frame = frameIndex 0; looks = n; hand = frameIndex h }; left = us }
 unfolding walkFrom
@@ -57,11 +60,15 @@ next-frame-requires c κs = search needs
 add-looks : tie.Need-add-looks Inv-loop μ-loop
 add-looks c = search needs
 
+-- a frame at usage 0 that is open to eviction
 returns : tie.Need-returns Inv-loop μ-loop
-returns c = walked (c .before .before .before .before .before .loop .inv .2 ∙ takes _ _ _ _ _ (c .before .before .before .before .loop-test .taken) (c .before .next-frame .ensures .0) (c .if1 .taken))
+returns c =
+    let at-next = c .before in
+    let past-test = at-next .before .before .before in
+    walked (past-test .before .loop .inv .2 ∙ takes _ _ _ _ _ (past-test .loop-test .taken) (at-next .next-frame .ensures .0) (c .if1 .taken))
 
 looked-at-requires : tie.Need-looked-at-requires Inv-loop μ-loop
-looked-at-requires c κs = c .if1 .left
+looked-at-requires c κs = (c .before .if1 .left, c .if2 .taken)
 
 element-write-sights : tie.Need-element-write-sights Inv-loop μ-loop
 element-write-sights c = search needs
@@ -69,13 +76,31 @@ element-write-sights c = search needs
 loop-less : tie.Need-loop-less Inv-loop μ-loop
 loop-less c = search needs
 
+-- a frame that the look cools or warms
 loop-again : tie.Need-loop-again Inv-loop μ-loop
-loop-again c = (
-  c .before .before .next-frame .ensures .1,
-  omega arith,
-  c .before .before .before .before .before .before .loop .inv .2 ∙ goes _ _ _ _ _ (c .before .before .before .before .before .loop-test .taken) (c .before .before .next-frame .ensures .0) (c .before .if1 .left) (c .looked-at .ensures),
-)
+loop-again c =
+    let past-take = c .before .before in
+    let at-next = past-take .before in
+    let past-test = at-next .before .before .before in (
+      at-next .next-frame .ensures .1,
+      omega arith,
+      past-test .before .loop .inv .2 ∙ goes _ _ _ _ _ (past-test .loop-test .taken) (at-next .next-frame .ensures .0) (past-take .if1 .left) (c .looked-at .ensures),
+    )
 
+loop-less-2 : tie.Need-loop-less-2 Inv-loop μ-loop
+loop-less-2 c = search needs
+
+-- a frame that the look leaves as it is
+loop-again-2 : tie.Need-loop-again-2 Inv-loop μ-loop
+loop-again-2 c =
+    let at-next = c .before .before in
+    let past-test = at-next .before .before .before in (
+      at-next .next-frame .ensures .1,
+      omega arith,
+      past-test .before .loop .inv .2 ∙ passes _ _ _ _ _ (past-test .loop-test .taken) (at-next .next-frame .ensures .0) (c .if2 .left),
+    )
+
+-- the looks are over
 returns-2 : tie.Need-returns-2 Inv-loop μ-loop
 returns-2 c = walked (c .before .loop .inv .2 ∙ over _ _ _ _ _ (c .loop-test .left))
 
@@ -96,4 +121,6 @@ sweep-spec =
     element-write-sights
     loop-less
     loop-again
+    loop-less-2
+    loop-again-2
     returns-2)

@@ -10,7 +10,7 @@ use Rattle.page.specs.Figures.{slotCount}
 use Rattle.page.specs.Page.{wordsFrom}
 use Rattle.machine.specs.Laws.TestLaws.{and-yes}
 use Rattle.seen.specs.Seen.{Marked}
-use Rattle.seen.specs.SeenLaws.{notes-zero, marked-none, marked-more, marked-large, marked-false}
+use Rattle.seen.specs.SeenLaws.{mark-notes, notes-zero, marked-none, marked-more, marked-large, marked-false}
 use Rattle.seen.proofs.mark_page.Statement.{statement}
 use Rattle.seen.proofs.mark_page.Tie as tie
 
@@ -41,15 +41,18 @@ returns c =
     marked-false _ _ _ _ _ (omega arith) (c .before .before .before .before .loop .seen) _
     (marked-large _ _ _ (c .before .before .before .before .loop .k) _ (sym (c .before .before .name-at .ensures)) (c .before .if1 .taken) (c .if2 .taken) _)
 
-note-requires : tie.Need-note-requires Inv-loop μ-loop
-note-requires c κs = search needs
+mark-requires : tie.Need-mark-requires Inv-loop μ-loop
+mark-requires c κs = search needs
 
 -- a number that was noted before
 returns-2 : tie.Need-returns-2 Inv-loop μ-loop
 returns-2 c =
-    let l = c .before .before .before .before .before .before .before .loop in
+    let at-mark = c .before in
+    let past-zero = at-mark .before .before .before in
+    let at-name = past-zero .before in
+    let l = at-name .before .before .loop in
     marked-false _ _ _ _ _ (omega arith) _ _
-    (marked-more _ _ _ _ (omega arith) _ _ (sym (c .before .before .before .before .before .name-at .ensures)) (λ n. omega arith) _ _ (c .before .note .ensures) _ _ (and-yes refl (sym (not-true _ (c .if3 .taken)))) (l .inv .1))
+    (marked-more _ _ _ _ (omega arith) _ _ (sym (at-name .name-at .ensures)) (λ n. omega arith) _ _ (mark-notes _ _ (omega arith) (at-mark .mark .ensures) (past-zero .if1 .taken)) _ _ (and-yes refl (sym (not-true _ (c .if3 .taken)))) (l .inv .1))
 
 add-k : tie.Need-add-k Inv-loop μ-loop
 add-k c = search needs
@@ -63,7 +66,7 @@ loop-again c =
     let e = c .before .name-at .ensures in (
       omega arith,
       ⊎-elim
-          (λ a. rw (a .5) (marked-more _ _ _ _ (omega arith) _ _ (sym e) (λ n. omega (arith, a .1 .left)) _ _ (a .3 .ensures) _ _ (and-yes refl (sym (not-false _ (a .4 .left)))) (l .inv .1)))
+          (λ a. rw (a .5) (marked-more _ _ _ _ (omega arith) _ _ (sym e) (λ n. omega (arith, a .1 .left)) _ _ (mark-notes _ _ (omega (arith, a .1 .left)) (a .3 .ensures) (a .0 .taken)) _ _ (and-yes refl (sym (not-false _ (a .4 .left)))) (l .inv .1)))
           (λ a. rw (a .1) (marked-more _ _ _ _ (omega arith) _ _ (sym e ∙ a .0 .left) (λ n. absurd (n refl)) _ _ (notes-zero _ (l .inv .1 .tells refl .table)) _ _ (and-yes refl refl) (l .inv .1)))
           (c .if1 .came),
     )
@@ -83,7 +86,7 @@ mark-page-spec =
     name-at-requires
     cast-w
     returns
-    note-requires
+    mark-requires
     returns-2
     add-k
     loop-less

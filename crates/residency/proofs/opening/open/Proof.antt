@@ -17,61 +17,93 @@ fits c = lengths-of _ _ _ _ (call-yes (c .before .lengths-fit .ensures) (c .if1 
 lengths-fit-requires : tie.Need-lengths-fit-requires
 lengths-fit-requires c κs = search needs
 
-blank-pool-requires : tie.Need-blank-pool-requires
-blank-pool-requires c κs = search needs
+empty-requires : tie.Need-empty-requires
+empty-requires c κs = search needs
+
+pool-with-requires : tie.Need-pool-with-requires
+pool-with-requires c κs = search needs
 
 same-length : tie.Need-same-length
 same-length c = search needs
 
+-- rule 1
 returns : tie.Need-returns
-returns c = open-unfit _ _ (call-no (c .before .before .lengths-fit .ensures) (c .before .if1 .taken)) (c .blank-pool .ensures)
+returns c =
+    let at-empty = c .before in
+    let past-lengths = at-empty .before in
+    open-unfit _ _ (call-no (past-lengths .before .lengths-fit .ensures) (past-lengths .if1 .taken)) (rw (at-empty .empty .ensures) at (c .pool-with .ensures))
+
+cast-is-sound : tie.Need-cast-is-sound
+cast-is-sound c = let h = fits c in omega arith
 
 is-sound-requires : tie.Need-is-sound-requires
 is-sound-requires c κs = let h = fits c in (h .pages, h .store)
 
-blank-pool-requires-2 : tie.Need-blank-pool-requires-2
-blank-pool-requires-2 c κs = search needs
+empty-requires-2 : tie.Need-empty-requires-2
+empty-requires-2 c κs = search needs
+
+pool-with-requires-2 : tie.Need-pool-with-requires-2
+pool-with-requires-2 c κs = search needs
 
 same-length-2 : tie.Need-same-length-2
 same-length-2 c = search needs
 
+-- rule 16
 returns-2 : tie.Need-returns-2
-returns-2 c = open-unsound _ _ (call-yes (c .before .before .before .before .lengths-fit .ensures) (c .before .before .before .if1 .left)) (call-no (c .before .before .is-sound .ensures) (c .before .if2 .taken)) (c .blank-pool2 .ensures)
+returns-2 c =
+    let at-empty = c .before in
+    let past-sound = at-empty .before in
+    let at-sound = past-sound .before in
+    let past-lengths = at-sound .before in
+    open-unsound _ _ (call-yes (past-lengths .before .lengths-fit .ensures) (past-lengths .if1 .left)) (call-no (at-sound .is-sound .ensures) (past-sound .if2 .taken)) (rw (at-empty .empty2 .ensures) at (c .pool-with2 .ensures))
 
 to-frame-requires : tie.Need-to-frame-requires
 to-frame-requires c κs = let h = fits (c .before .before .before) in (omega arith, omega arith)
 
-cast-opened-pool : tie.Need-cast-opened-pool
-cast-opened-pool c = let h = fits (c .before .before .before .before .before .before) in omega arith
+root-requires : tie.Need-root-requires
+root-requires c κs = search needs
 
-cast-opened-pool-2 : tie.Need-cast-opened-pool-2
-cast-opened-pool-2 c = let h = fits (c .before .before .before .before .before .before) in omega arith
+cast-pool-with : tie.Need-cast-pool-with
+cast-pool-with c = let h = fits (c .before .before .before .before .before .before .before) in omega arith
 
-opened-pool-requires : tie.Need-opened-pool-requires
-opened-pool-requires c κs = search needs
+cast-pool-with-2 : tie.Need-cast-pool-with-2
+cast-pool-with-2 c = let h = fits (c .before .before .before .before .before .before .before) in omega arith
+
+pool-with-requires-3 : tie.Need-pool-with-requires-3
+pool-with-requires-3 c κs = search needs
 
 same-length-3 : tie.Need-same-length-3
 same-length-3 c = search needs
 
+-- page 0 is in frame 0
 returns-3 : tie.Need-returns-3
 returns-3 c =
-    open-done _ _ (call-yes (c .before .before .before .before .before .before .before .before .lengths-fit .ensures) (c .before .before .before .before .before .before .before .if1 .left)) (call-yes (c .before .before .before .before .before .before .is-sound .ensures) (c .before .before .before .before .before .if2 .left)) (c .opened-pool .ensures) (c .before .before .before .to-frame .ensures .0)
+    let at-root = c .before in
+    let at-copy = at-root .before .before .before in
+    let past-sound = at-copy .before .before in
+    let at-sound = past-sound .before in
+    let past-lengths = at-sound .before in
+    open-done _ _ (call-yes (past-lengths .before .lengths-fit .ensures) (past-lengths .if1 .left)) (call-yes (at-sound .is-sound .ensures) (past-sound .if2 .left)) (rw (at-root .root .ensures) at (c .pool-with3 .ensures)) (at-copy .to-frame .ensures .0)
 
 pub open-spec : {M : Type 1} → statement M
 open-spec =
     tie.close
     (tie.spec
     lengths-fit-requires
-    blank-pool-requires
+    empty-requires
+    pool-with-requires
     same-length
     returns
+    cast-is-sound
     is-sound-requires
-    blank-pool-requires-2
+    empty-requires-2
+    pool-with-requires-2
     same-length-2
     returns-2
     to-frame-requires
-    cast-opened-pool
-    cast-opened-pool-2
-    opened-pool-requires
+    root-requires
+    cast-pool-with
+    cast-pool-with-2
+    pool-with-requires-3
     same-length-3
     returns-3)
