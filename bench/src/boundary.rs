@@ -19,18 +19,17 @@ extern "C" fn opened() -> Done {
 /// By value in, and in the answer out.
 pub fn in_and_out(state: &mut State) {
     let call: extern "C" fn(Pool) -> Done = black_box(done);
-    state.pool = call(state.pool).pool;
+    state.records = call(state.records).pool;
 }
 
 /// By value in.
 pub fn only_in(state: &mut State) {
     let call: extern "C" fn(Pool) -> Found = black_box(found);
-    black_box(call(state.pool));
+    black_box(call(state.records));
 }
 
-/// In the answer out. The records aren't taken over, since open's are others.
-pub fn only_out(_: &mut State) {
+/// In the answer out.
+pub fn only_out(state: &mut State) {
     let call: extern "C" fn() -> Done = black_box(opened);
-    let pool = call().pool;
-    black_box(&pool);
+    state.records = call().pool;
 }

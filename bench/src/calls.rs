@@ -3,7 +3,7 @@ use crate::boundary;
 use crate::timing::{repeat, Variants};
 use pagepool::{Refusal, MAX_PINS, PAGE_SIZE};
 use pool_bench::baseline;
-use pool_bench::shapes::{State, EMPTY_SLOT, ROOT};
+use pool_bench::shapes::{absent, last_resident, pinned, unnamed, State, EMPTY_SLOT, ROOT};
 use std::hint::black_box;
 
 pub fn accept<T>(answer: Result<T, Refusal>) {
@@ -17,11 +17,11 @@ macro_rules! variants {
         let (undo_library, undo_baseline, undo_copy) = (undo.clone(), undo.clone(), undo.clone());
         Variants {
             library: repeat(move |s| {
-                accept(pagepool::$call(&mut s.pool, &mut s.frames, &mut s.store $(, $argument)*));
+                accept(s.$call($($argument),*));
                 undo_library(black_box(s));
             }),
             baseline: repeat(move |s| {
-                accept(baseline::$call(&mut s.pool, &mut s.frames, &mut s.store $(, $argument)*));
+                accept(baseline::$call(&mut s.records, &mut s.frames, &mut s.store $(, $argument)*));
                 undo_baseline(black_box(s));
             }),
             copy: repeat(move |s| {
@@ -45,7 +45,7 @@ macro_rules! undone {
     ($state:expr, $call:ident($($argument:expr),*)) => {{
         let state: State = $state;
         let mut after = state.clone();
-        accept(baseline::$call(&mut after.pool, &mut after.frames, &mut after.store $(, $argument)*));
+        accept(after.$call($($argument),*));
         let undo = undo(&state, &after);
         (state, variants!(boundary::in_and_out, undo, $call($($argument),*)))
     }};
@@ -54,13 +54,13 @@ macro_rules! undone {
 /// Puts the records back, and the frames that a call altered. What it wrote to the store was there before.
 fn undo(before: &State, after: &State) -> impl Fn(&mut State) + Clone {
     assert!(before.store == after.store);
-    let pool = before.pool;
+    let records = before.records;
     let frames = before.frames.chunks_exact(PAGE_SIZE).zip(after.frames.chunks_exact(PAGE_SIZE));
     let altered = frames.enumerate().filter(|(_, (old, new))| old != new);
     let pages: Vec<(usize, Vec<u8>)> =
         altered.map(|(frame, (old, _))| (PAGE_SIZE * frame, old.to_vec())).collect();
     move |state| {
-        state.pool = pool;
+        state.records = records;
         for (start, page) in &pages {
             state.frames[*start..*start + PAGE_SIZE].copy_from_slice(page);
         }
@@ -70,7 +70,7 @@ fn undo(before: &State, after: &State) -> impl Fn(&mut State) + Clone {
 /// The state with every resident page dirty.
 pub fn dirtied(state: &State) -> State {
     let mut state = state.clone();
-    state.pool.records.iter_mut().filter(|record| record.is_used()).for_each(|record| record.dirty = 1);
+    state.records.records.iter_mut().filter(|record| record.is_used()).for_each(|record| record.dirty = 1);
     state
 }
 
@@ -81,7 +81,7 @@ pub fn fix_hit(state: &State) -> (State, Variants) {
 
 /// A page that isn't resident. Where the frames are full every open one has usage 1, so that the sweep goes round once.
 pub fn fix_clean(state: &State) -> (State, Variants) {
-    let (page, slot) = state.absent();
+    let (page, slot) = absent(state);
     undone!(state.clone(), fix(page, slot))
 }
 
@@ -90,8 +90,8 @@ pub fn fix_dirty(state: &State) -> (State, Variants) {
 }
 
 pub fn unfix(state: &State) -> (State, Variants) {
-    let (mut state, page) = (state.clone(), state.pinned());
-    state.pool.record_mut(page.frame).pins = MAX_PINS;
+    let (mut state, page) = (state.clone(), pinned(state));
+    state.records.record_mut(page.frame).pins = MAX_PINS;
     repeated!(state, boundary::in_and_out, unfix(page))
 }
 
@@ -100,18 +100,18 @@ pub fn root(state: &State) -> (State, Variants) {
 }
 
 pub fn find(state: &State) -> (State, Variants) {
-    let page = state.last_resident();
+    let page = last_resident(state);
     repeated!(state.clone(), boundary::only_in, find(page))
 }
 
 /// A page that isn't resident.
 pub fn peek(state: &State) -> (State, Variants) {
-    let page = state.unnamed();
+    let page = unnamed(state);
     repeated!(state.clone(), boundary::only_in, peek(page))
 }
 
 pub fn show(state: &State) -> (State, Variants) {
-    let page = state.pinned();
+    let page = pinned(state);
     repeated!(state.clone(), boundary::only_in, show(page))
 }
 
@@ -120,22 +120,22 @@ pub fn word(state: &State) -> (State, Variants) {
 }
 
 pub fn write(state: &State) -> (State, Variants) {
-    let page = state.pinned();
+    let page = pinned(state);
     repeated!(state.clone(), boundary::in_and_out, write(page, 0, &[7; 8]))
 }
 
 pub fn link(state: &State) -> (State, Variants) {
-    let (page, named) = (state.pinned(), state.unnamed());
+    let (page, named) = (pinned(state), unnamed(state));
     undone!(state.clone(), link(page, EMPTY_SLOT, named))
 }
 
 pub fn unlink(state: &State) -> (State, Variants) {
-    let (page, slot) = state.absent();
+    let (page, slot) = absent(state);
     undone!(state.clone(), unlink(page, slot))
 }
 
 pub fn evict_dirty(state: &State) -> (State, Variants) {
-    let page = state.last_resident();
+    let page = last_resident(state);
     undone!(dirtied(state), evict(page))
 }
 
@@ -143,10 +143,13 @@ pub fn settle_dirty(state: &State) -> (State, Variants) {
     undone!(dirtied(state), settle())
 }
 
+/// Library, baseline and copy all take over the records that are given.
 pub fn open(state: &State) -> (State, Variants) {
     let variants = Variants {
-        library: repeat(|s| accept(pagepool::open(&mut s.frames, &s.store))),
-        baseline: repeat(|s| accept(baseline::open(&mut s.frames, &s.store))),
+        library: repeat(|s| accept(s.open())),
+        baseline: repeat(|s| {
+            accept(baseline::open(&mut s.frames, &s.store).map(|records| s.records = records))
+        }),
         copy: repeat(boundary::only_out),
         undo: repeat(|_| ()),
     };

@@ -176,8 +176,8 @@ impl Row {
             label: self.label,
             shape: self.block.shape,
             grows: self.block.grows,
-            count: self.race.pool().count.into(),
-            pages: self.race.pool().pages.into(),
+            count: self.race.records().count.into(),
+            pages: self.race.records().pages.into(),
             times: self.race.times(),
         }
     }

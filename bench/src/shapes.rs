@@ -1,14 +1,8 @@
 //! The shapes of state that calls are timed on: how the store's pages name each other, and which of them are resident.
-use crate::baseline;
-use pagepool::{FrameIndex, Handle, PageNumber, Pool, PAGE_SIZE, PAYLOAD_START, SLOTS};
+use pagepool::{FrameIndex, Handle, PageNumber, PagePool, PAGE_SIZE, PAYLOAD_START, SLOTS};
 
-/// The records and the buffers that a host lends to each call.
-#[derive(Clone, PartialEq)]
-pub struct State {
-    pub pool: Pool,
-    pub frames: Vec<u8>,
-    pub store: Vec<u8>,
-}
+/// The records, the frames and the store of a host.
+pub type State = PagePool<Vec<u8>, Vec<u8>>;
 
 #[derive(Clone, Copy, Debug, PartialEq)]
 pub enum Shape {
@@ -77,69 +71,57 @@ impl Shape {
     /// A pool over such a store, its frames filled in the order of page numbers. The root and the first page after it are
     /// pinned, and each page has usage 1.
     pub fn state(self, count: usize, pages: usize) -> State {
-        let mut state = State::opened(count, self.store(count, pages));
-        let mut handles = vec![state.pin_root()];
+        let mut state = opened(count, self.store(count, pages));
+        let mut handles = vec![state.root().expect("the root can be pinned").handle];
         let taken_in = |page: &usize| self == Shape::Chain || *page != LEFT_OUT;
         let most = if self == Shape::Opened { 0 } else { count - 1 };
         for page in self.named(count, pages).filter(taken_in).take(most) {
             let (parent, slot) = self.parent(page);
-            handles.push(state.pin(handles[parent], slot));
+            handles.push(state.fix(handles[parent], slot).expect("a frame is empty").handle);
         }
-        state.release_all_but_two();
+        release_all_but_two(&mut state);
         state
     }
 }
 
-impl State {
-    /// A pool just opened, nothing pinned.
-    pub fn opened(count: usize, store: Vec<u8>) -> State {
-        let mut frames = vec![0; PAGE_SIZE * count];
-        let pool = baseline::open(&mut frames, &store).expect("the store is sound");
-        State { pool, frames, store }
-    }
+/// A pool just opened, nothing pinned.
+pub fn opened(count: usize, store: Vec<u8>) -> State {
+    let mut state = State::new(vec![0; PAGE_SIZE * count], store);
+    state.open().expect("the store is sound");
+    state
+}
 
-    fn pin_root(&mut self) -> Handle {
-        baseline::root(&mut self.pool, &self.frames, &self.store).expect("the root can be pinned").handle
+fn release_all_but_two(state: &mut State) {
+    let records = state.records.records.iter_mut().enumerate();
+    for (frame, record) in records.filter(|(_, record)| record.is_used()) {
+        record.pins = u16::from(frame < 2);
+        record.usage = 1;
     }
+}
 
-    fn pin(&mut self, parent: Handle, slot: usize) -> Handle {
-        let fixed = baseline::fix(&mut self.pool, &mut self.frames, &mut self.store, parent, slot);
-        fixed.expect("a frame is empty").handle
-    }
+/// The page that was pinned last: the first one after the root, or the root where it is alone.
+pub fn pinned(state: &State) -> Handle {
+    let frame = FrameIndex(state.records.records[1].used);
+    Handle { frame, page: state.records.record(frame).page }
+}
 
-    fn release_all_but_two(&mut self) {
-        let records = self.pool.records.iter_mut().enumerate();
-        for (frame, record) in records.filter(|(_, record)| record.is_used()) {
-            record.pins = u16::from(frame < 2);
-            record.usage = 1;
-        }
-    }
+/// A slot of a pinned page that names a page that isn't resident.
+pub fn absent(state: &State) -> (Handle, usize) {
+    let slots = [pinned(state), ROOT].into_iter().flat_map(|page| (0..SLOTS).map(move |slot| (page, slot)));
+    let mut absent = slots.filter(|(page, slot)| {
+        let word = &state.frames[PAGE_SIZE * usize::from(page.frame) + 4 * slot..][..4];
+        word != [0; 4] && word[3] < 0x80
+    });
+    absent.next().expect("a page was left out")
+}
 
-    /// The page that was pinned last: the first one after the root, or the root where it is alone.
-    pub fn pinned(&self) -> Handle {
-        let frame = FrameIndex(self.pool.records[1].used);
-        Handle { frame, page: self.pool.record(frame).page }
-    }
+/// The page in the last frame that isn't empty.
+pub fn last_resident(state: &State) -> PageNumber {
+    let used = state.records.records.iter().rev().find(|record| record.is_used());
+    used.expect("the root is resident").page
+}
 
-    /// A slot of a pinned page that names a page that isn't resident.
-    pub fn absent(&self) -> (Handle, usize) {
-        let slots =
-            [self.pinned(), ROOT].into_iter().flat_map(|page| (0..SLOTS).map(move |slot| (page, slot)));
-        let mut absent = slots.filter(|(page, slot)| {
-            let word = &self.frames[PAGE_SIZE * usize::from(page.frame) + 4 * slot..][..4];
-            word != [0; 4] && word[3] < 0x80
-        });
-        absent.next().expect("a page was left out")
-    }
-
-    /// The page in the last frame that isn't empty.
-    pub fn last_resident(&self) -> PageNumber {
-        let used = self.pool.records.iter().rev().find(|record| record.is_used());
-        used.expect("the root is resident").page
-    }
-
-    /// A page that isn't resident and that no word names.
-    pub fn unnamed(&self) -> PageNumber {
-        PageNumber(self.pool.pages - 1)
-    }
+/// A page that isn't resident and that no word names.
+pub fn unnamed(state: &State) -> PageNumber {
+    PageNumber(state.records.pages - 1)
 }

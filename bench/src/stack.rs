@@ -29,13 +29,13 @@ const LAST_RESIDENT: PageNumber = PageNumber(COUNT as u16);
 
 macro_rules! call {
     ($name:ident($($argument:expr),*)) => {
-        (stringify!($name), |s| accept(pagepool::$name(&mut s.pool, &mut s.frames, &mut s.store $(, $argument)*)))
+        (stringify!($name), |s| accept(s.$name($($argument),*)))
     };
 }
 
 /// Each call on its longest way.
 const CALLS: [(&str, Call); 13] = [
-    ("open", |s| accept(pagepool::open(&mut s.frames, &s.store))),
+    call!(open()),
     call!(root()),
     call!(fix(CHILD, 0)),
     call!(unfix(CHILD)),

@@ -60,15 +60,15 @@ impl Race {
         let Variants { library, baseline, copy, undo } = &self.variants;
         for _ in 0..BATCHES {
             for (variant, least) in [library, baseline, copy, undo].into_iter().zip(&mut self.least) {
-                self.now.pool = self.state.pool;
+                self.now.records = self.state.records;
                 *least = batch(variant, &mut self.now, self.calls).min(*least);
             }
         }
     }
 
     /// The records that every batch begins with.
-    pub fn pool(&self) -> &Pool {
-        &self.state.pool
+    pub fn records(&self) -> &Pool {
+        &self.state.records
     }
 
     pub fn times(&self) -> Times {
