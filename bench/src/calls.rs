@@ -143,15 +143,6 @@ pub fn settle_dirty(state: &State) -> (State, Variants) {
     undone!(dirtied(state), settle())
 }
 
-/// Library, baseline and copy all take over the records that are given.
 pub fn open(state: &State) -> (State, Variants) {
-    let variants = Variants {
-        library: repeat(|s| accept(s.open())),
-        baseline: repeat(|s| {
-            accept(baseline::open(&mut s.frames, &s.store).map(|records| s.records = records))
-        }),
-        copy: repeat(boundary::only_out),
-        undo: repeat(|_| ()),
-    };
-    (state.clone(), variants)
+    repeated!(state.clone(), boundary::only_out, open())
 }

@@ -90,8 +90,7 @@ impl Trial {
     /// An open; accepted, it is undone nine times in ten.
     fn open(&mut self, a: &mut State, b: &mut State) -> u8 {
         let before = a.clone();
-        let baseline = baseline::open(&mut b.frames, &b.store).map(|records| b.records = records);
-        let refusal = agreed("open", a.open(), baseline);
+        let refusal = same!(a, b, open());
         if refusal == 0 && !self.random.percent(10) {
             assert!(a == b, "states differ after open");
             (*a, *b) = (before.clone(), before);

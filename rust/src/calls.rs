@@ -47,9 +47,15 @@ impl raw::Place {
 /// Begins with a store: page 0 is copied to frame 0, not pinned, and every other frame is empty. What an earlier pool has not
 /// settled is forgotten. Refused: 1, 16.
 pub fn open(frames: &mut [u8], store: &[u8]) -> Result<Pool, Refusal> {
+    let mut pool = Pool::ZERO;
+    open_into(&mut pool, frames, store).map(|()| pool)
+}
+
+/// As [`open`], with the records put where they belong. Refused, those stay as they were.
+pub(crate) fn open_into(pool: &mut Pool, frames: &mut [u8], store: &[u8]) -> Result<(), Refusal> {
     // SAFETY: as in `call`.
     let done = unsafe { raw::pool_open(frames.as_mut_ptr(), frames.len(), store.as_ptr(), store.len()) };
-    unless_refused(done.refusal, ()).map(|()| done.pool)
+    unless_refused(done.refusal, ()).map(|()| *pool = done.pool)
 }
 
 /// Pins page 0. Refused: 1, 2, 13.

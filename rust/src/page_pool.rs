@@ -91,8 +91,7 @@ where
 {
     /// Begins with the store as it is, as [`open`](calls::open) does. Refused, the records stay as they were.
     pub fn open(&mut self) -> Result<(), Refusal> {
-        self.records = calls::open(self.frames.as_mut(), self.store.as_ref())?;
-        Ok(())
+        calls::open_into(&mut self.records, self.frames.as_mut(), self.store.as_ref())
     }
 
     /// As [`fix`](calls::fix).

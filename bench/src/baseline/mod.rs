@@ -1,5 +1,5 @@
-//! The thirteen calls of document 01 in safe Rust, on records lent by `&mut`. Each takes and answers what the function of
-//! the same name in `pagepool` does.
+//! The thirteen calls of document 01 in safe Rust, on records lent by `&mut`. Each answers what the method of the same name
+//! of `PagePool` does.
 mod agreement;
 mod moves;
 mod naming;
@@ -16,14 +16,14 @@ use rules::rule;
 use seen::{Seen, FEW};
 
 #[inline(never)]
-pub fn open(frames: &mut [u8], store: &[u8]) -> Result<Pool, Refusal> {
+pub fn open(pool: &mut Pool, frames: &mut [u8], store: &[u8]) -> Result<(), Refusal> {
     let (count, pages) = (frames.len() / PAGE_SIZE, store.len() / PAGE_SIZE);
     rule(Refusal::WrongLength, rules::lengths_fit(count, pages, frames, store))?;
     rule(Refusal::UnsoundStore, naming::is_sound(pages_of(store)))?;
     frames[..PAGE_SIZE].copy_from_slice(&store[..PAGE_SIZE]);
-    let mut pool = Pool { count: count as u16, pages: pages as u16, ..Pool::ZERO };
+    *pool = Pool { count: count as u16, pages: pages as u16, ..Pool::ZERO };
     pool.records[0].used = 1;
-    Ok(pool)
+    Ok(())
 }
 
 #[inline(never)]
