@@ -55,8 +55,8 @@ module _ (rs : List FrameRecord) (fs : List ℕ) (F N : ℕ) where
         rw q (D .notes (numbersInFrames rs fs N) (perFrame * f) (has-numbers rs fs N f) (B .passed))
 
     -- a number of the frame stands in the frames twice
-    pub not-fresh : fresh ≡ false → FramesFit rs fs F N → ⊥
-    not-fresh z fit = not-twice (numbersInFrames rs fs N) (perFrame * (f + 1)) (perFrame * F) (omega arith) (fit .once) (rw z at progress)
+    pub stands-twice : fresh ≡ false → FramesFit rs fs F N → ⊥
+    stands-twice z fit = not-twice (numbersInFrames rs fs N) (perFrame * (f + 1)) (perFrame * F) (omega arith) (fit .once) (rw z at progress)
 
     over-more : fresh ≡ true → over + more ≡ countIf (slotCount * (f + 1)) (isOver rs fs N)
     over-more z = elim (case (isUsed (recordAt rs f))) [

@@ -58,7 +58,7 @@ pub fn note(
     seen: &mut Seen,
 ) -> Noted
     requires { ⌜ (rec .page .0 < pages) × (pages ≤ mostPages) × (pageSize * frame .0 + pageSize ≤ length (now frames)) × Table (now seen) ⌝ }
-    ensures { λ r. ⌜ FrameNoted (now (frames .entry)) pages (frame .0) rec (now (seen .entry)) (now (seen .exit)) (r .over) (r .fits) ⌝ }
+    ensures { λ r. ⌜ FrameNoted (now (frames .entry)) pages (frame .0) rec (now (seen .entry)) (now (seen .exit)) (r .over) (r .fresh) ⌝ }
 {
     if rec.used == 1 {
         let start = FrameIndex::start(frame);
@@ -66,6 +66,6 @@ pub fn note(
     }
     Noted {
         over: 0,
-        fits: true,
+        fresh: true,
     }
 }

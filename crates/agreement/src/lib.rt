@@ -40,7 +40,7 @@ pub fn agrees(pool: Pool, frames: &[u8], residents: &mut Residents, seen: &mut S
         parents[f] = rec.parent.0;
         residents[f] = rec.page.0;
         let noted = frame::note(frames, frame, rec, n, seen);
-        if !noted.fits {
+        if !noted.fresh {
             return false;
         }
         over += noted.over;

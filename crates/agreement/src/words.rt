@@ -11,10 +11,10 @@ ghost use Rattle.agreement.specs.Fit.{numberBelow, weight, SumsWords, Be
 // What a word that isn't below N counts for in a sum of words: more than 16 numbers below 4,096 add up to.
 const OVER: u32 = 65536;
 
-// What was found of a frame: how many of its words are not below N, and whether it fits so far.
+// What was found of a frame's numbers: how many of its words are not below N, and whether the others are all new.
 pub struct Noted {
     pub over: u32,
-    pub fits: bool,
+    pub fresh: bool,
 }
 
 // A word that is below N; 0 in place of any other.
@@ -68,7 +68,7 @@ fn numbers_below(frames: &[u8], start: usize, pages: u32) -> [u32; PageNumber::S
     numbers
 }
 
-// Notes the page and the words of an occupied frame that starts at `start`: it fits where its numbers are all new.
+// Notes the page and the words of an occupied frame that starts at `start`.
 pub fn note_numbers(
     frames: &[u8],
     start: usize,
@@ -77,13 +77,13 @@ pub fn note_numbers(
     seen: &mut Seen,
 ) -> Noted
     requires { ⌜ (page .0 + 1 ≤ pages) × (pages ≤ mostPages) × (start + payloadStart ≤ length (now frames)) × Table (now seen) ⌝ }
-    ensures { λ r. ⌜ NumbersNoted (now (frames .entry)) pages start (page .0) (now (seen .entry)) (now (seen .exit)) (r .over) (r .fits) ⌝ }
+    ensures { λ r. ⌜ NumbersNoted (now (frames .entry)) pages start (page .0) (now (seen .entry)) (now (seen .exit)) (r .over) (r .fresh) ⌝ }
 {
     let x = page::wide::from_u16(page.0);
     if !seen::note(seen, x) {
         return Noted {
             over: 0,
-            fits: false,
+            fresh: false,
         };
     }
     let sum = word_sum(frames, start, pages);
@@ -93,11 +93,11 @@ pub fn note_numbers(
         let fresh = seen::mark_numbers(&numbers, seen);
         return Noted {
             over: over,
-            fits: fresh,
+            fresh: fresh,
         };
     }
     Noted {
         over: over,
-        fits: true,
+        fresh: true,
     }
 }

@@ -9,7 +9,7 @@ use Rattle.machine.specs.Machine.{recordAt}
 use Rattle.agreement.specs.Fit.{NoField, Before}
 use Rattle.agreement.specs.Deciding.{decided, fails}
 use Rattle.agreement.specs.FitLaws.{page-below, gathers}
-use Rattle.agreement.specs.PassLaws.{before-first, before-few, not-fresh, before-more, frames-even, settle, RestTo, rest-none, rest-more}
+use Rattle.agreement.specs.PassLaws.{before-first, before-few, stands-twice, before-more, frames-even, settle, RestTo, rest-none, rest-more}
 use Rattle.agreement.specs.Same.{end-hand, end-rest, end-frames, table-below, table-root}
 use Rattle.agreement.specs.Hands.{end-all}
 use Rattle.agreement.proofs.agrees.Statement.{statement}
@@ -119,7 +119,7 @@ returns-3 c =
     let at-count = at-frames .before .before .before .before in
     let at-entry = at-count .before .before .before in
     end-frames (at-entry .args .pool) _ (at-entry .pre .0) _ (at-count .from-u16 .ensures) _ _
-    (not-fresh _ _ _ _ _ _ _ _ _ _ (at-frames .loop .inv .1) (past-frames .loop-test .taken) _ _ (at-note .note .result .fits) (at-note .note .ensures) (not-true _ (c .if3 .taken)))
+    (stands-twice _ _ _ _ _ _ _ _ _ _ (at-frames .loop .inv .1) (past-frames .loop-test .taken) _ _ (at-note .note .result .fresh) (at-note .note .ensures) (not-true _ (c .if3 .taken)))
 
 add-over : tie.Need-add-over Inv-loop μ-loop Inv-loop2 μ-loop2
 add-over c =
@@ -153,7 +153,7 @@ loop-again c =
     let past-frames = at-above .before .before in
     let at-frames = past-frames .before in
     let fit = decided (at-fitting .is-fitting .result) _ (rw (at-above .from-u82 .ensures) at (at-fitting .is-fitting .ensures)) (not-false _ (past-fitting .if2 .left)) in
-    (at-frames .loop .inv .0, before-more _ _ _ _ _ _ _ _ _ _ (at-frames .loop .inv .1) (past-frames .loop-test .taken) _ _ (at-note .note .result .fits) (at-note .note .ensures) (omega arith) fit (not-false _ (past-note .if3 .left)))
+    (at-frames .loop .inv .0, before-more _ _ _ _ _ _ _ _ _ _ (at-frames .loop .inv .1) (past-frames .loop-test .taken) _ _ (at-note .note .result .fresh) (at-note .note .ensures) (omega arith) fit (not-false _ (past-note .if3 .left)))
 
 loop2-holds : tie.Need-loop2-holds Inv-loop μ-loop Inv-loop2 μ-loop2
 loop2-holds c = (c .loop-test .left, omega (arith, c .before .loop .inv .1 .most), rest-none _ _ _ _ (c .before .loop .inv .1 .most) (record { first = refl; parent = refl; last = refl }))
