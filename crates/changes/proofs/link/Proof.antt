@@ -12,9 +12,13 @@ use Rattle.changes.proofs.link.Tie as tie
 abbrev given : tie.Start → State
 given c = let a = c .args in state (a .pool) (a .frames .now) (a .store .now)
 
+-- the start, from past the refusals
+abbrev start : tie.Else1 → tie.Start
+start c = let at-record-place = c .before .before .before .before .before .before in at-record-place .before .before .before
+
 -- past the refusals
-kept : (c : tie.Else1) → SlotKept (given (c .before .before .before .before .before .before .before .before .before)) (c .before .before .before .before .before .before .before .before .before .args .handle) (c .before .before .before .before .before .before .before .before .before .args .slot)
-kept c = let a = c .before .before .before .before .before .before .before .before .before .args in linkable (given (c .before .before .before .before .before .before .before .before .before)) (a .handle) (a .slot) (a .page) (c .before .link-refusal .ensures) (c .if1 .left)
+kept : (c : tie.Else1) → SlotKept (given (start c)) (start c .args .handle) (start c .args .slot)
+kept c = let a = start c .args in linkable (given (start c)) (a .handle) (a .slot) (a .page) (c .before .link-refusal .ensures) (c .if1 .left)
 
 record-place-requires : tie.Need-record-place-requires
 record-place-requires c κs = search needs
@@ -26,11 +30,15 @@ element-copy-out-held : tie.Need-element-copy-out-held
 element-copy-out-held c = search needs
 
 link-refusal-requires : tie.Need-link-refusal-requires
-link-refusal-requires c κs = (ap (recordAt (c .before .before .before .before .before .before .before .args .pool .records)) (c .before .before .before .before .record-place .ensures), record { noPage = refl; noneSeen = refl })
+link-refusal-requires c κs =
+    let at-record-place = c .before .before .before .before in
+    let at-entry = at-record-place .before .before .before in
+    (ap (recordAt (at-entry .args .pool .records)) (at-record-place .record-place .ensures), record { noPage = refl; noneSeen = refl })
 
 same-length : tie.Need-same-length
 same-length c = search needs
 
+-- refused
 returns : tie.Need-returns
 unfolding linkCall
 returns c = done-no _ _ _ (c .before .link-refusal .ensures) (c .if1 .taken)
@@ -53,10 +61,17 @@ element-set-from-next c = search needs
 same-length-2 : tie.Need-same-length-2
 same-length-2 c = search needs
 
+-- the word is in the slot, and the page is dirty
 returns-2 : tie.Need-returns-2
 returns-2 c =
-    let a = c .before .before .before .before .before .before .before .before .before .before .before .before .before .before .before .args in
-    link-done (given (c .before .before .before .before .before .before .before .before .before .before .before .before .before .before .before)) (a .handle) (a .slot) (a .page) (c .before .before .before .before .before .before .before .link-refusal .ensures) (c .before .before .before .before .before .before .if1 .left) (c .before .before .before .before .before .before .before .before .before .before .before .before .record-place .ensures) (c .dirtied .ensures) (c .before .before .before .put-in-slot .ensures) (c .before .before .before .before .word .ensures)
+    let at-put-in-slot = c .before .before .before in
+    let at-word = at-put-in-slot .before in
+    let past-refusal = at-word .before .before in
+    let at-link-refusal = past-refusal .before in
+    let at-record-place = at-link-refusal .before .before .before .before .before in
+    let at-entry = at-record-place .before .before .before in
+    let a = at-entry .args in
+    link-done (given at-entry) (a .handle) (a .slot) (a .page) (at-link-refusal .link-refusal .ensures) (past-refusal .if1 .left) (at-record-place .record-place .ensures) (c .dirtied .ensures) (at-put-in-slot .put-in-slot .ensures) (at-word .word .ensures)
 
 pub link-spec : {M : Type 1} → statement M
 link-spec =

@@ -12,9 +12,13 @@ use Rattle.changes.proofs.unlink.Tie as tie
 abbrev given : tie.Start → State
 given c = let a = c .args in state (a .pool) (a .frames .now) (a .store .now)
 
+-- the start, from past the refusals
+abbrev start : tie.Else1 → tie.Start
+start c = let at-record-place = c .before .before .before .before .before .before in at-record-place .before .before .before
+
 -- past the refusals
-kept : (c : tie.Else1) → SlotKept (given (c .before .before .before .before .before .before .before .before .before)) (c .before .before .before .before .before .before .before .before .before .args .handle) (c .before .before .before .before .before .before .before .before .before .args .slot)
-kept c = let a = c .before .before .before .before .before .before .before .before .before .args in unlinkable (given (c .before .before .before .before .before .before .before .before .before)) (a .handle) (a .slot) (c .before .unlink-refusal .ensures) (c .if1 .left)
+kept : (c : tie.Else1) → SlotKept (given (start c)) (start c .args .handle) (start c .args .slot)
+kept c = let a = start c .args in unlinkable (given (start c)) (a .handle) (a .slot) (c .before .unlink-refusal .ensures) (c .if1 .left)
 
 record-place-requires : tie.Need-record-place-requires
 record-place-requires c κs = search needs
@@ -26,11 +30,15 @@ element-copy-out-held : tie.Need-element-copy-out-held
 element-copy-out-held c = search needs
 
 unlink-refusal-requires : tie.Need-unlink-refusal-requires
-unlink-refusal-requires c κs = (ap (recordAt (c .before .before .before .before .before .before .before .args .pool .records)) (c .before .before .before .before .record-place .ensures), record { noPage = refl; noneSeen = refl })
+unlink-refusal-requires c κs =
+    let at-record-place = c .before .before .before .before in
+    let at-entry = at-record-place .before .before .before in
+    (ap (recordAt (at-entry .args .pool .records)) (at-record-place .record-place .ensures), record { noPage = refl; noneSeen = refl })
 
 same-length : tie.Need-same-length
 same-length c = search needs
 
+-- refused
 returns : tie.Need-returns
 unfolding unlinkCall
 returns c = done-no _ _ _ (c .before .unlink-refusal .ensures) (c .if1 .taken)
@@ -50,10 +58,16 @@ element-set-from-next c = search needs
 same-length-2 : tie.Need-same-length-2
 same-length-2 c = search needs
 
+-- the slot is empty, and the page is dirty
 returns-2 : tie.Need-returns-2
 returns-2 c =
-    let a = c .before .before .before .before .before .before .before .before .before .before .before .before .before .before .args in
-    unlink-done (given (c .before .before .before .before .before .before .before .before .before .before .before .before .before .before)) (a .handle) (a .slot) (c .before .before .before .before .before .before .unlink-refusal .ensures) (c .before .before .before .before .before .if1 .left) (c .before .before .before .before .before .before .before .before .before .before .before .record-place .ensures) (c .dirtied .ensures) (c .before .before .before .put-in-slot .ensures)
+    let at-put-in-slot = c .before .before .before in
+    let past-refusal = at-put-in-slot .before .before in
+    let at-unlink-refusal = past-refusal .before in
+    let at-record-place = at-unlink-refusal .before .before .before .before .before in
+    let at-entry = at-record-place .before .before .before in
+    let a = at-entry .args in
+    unlink-done (given at-entry) (a .handle) (a .slot) (at-unlink-refusal .unlink-refusal .ensures) (past-refusal .if1 .left) (at-record-place .record-place .ensures) (c .dirtied .ensures) (at-put-in-slot .put-in-slot .ensures)
 
 pub unlink-spec : {M : Type 1} → statement M
 unlink-spec =

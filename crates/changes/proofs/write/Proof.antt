@@ -13,9 +13,13 @@ use Rattle.changes.proofs.write.Tie as tie
 abbrev given : tie.Start → State
 given c = let a = c .args in state (a .pool) (a .frames .now) (a .store .now)
 
+-- the start, from past the refusals
+abbrev start : tie.Else1 → tie.Start
+start c = let at-record-place = c .before .before .before .before .before .before in at-record-place .before .before .before .before
+
 -- past the refusals
-ok : (c : tie.Else1) → let a = c .before .before .before .before .before .before .before .before .before .before .args in WriteKept (given (c .before .before .before .before .before .before .before .before .before .before)) (a .handle) (a .offset) (length (a .bytes .now))
-ok c = let a = c .before .before .before .before .before .before .before .before .before .before .args in write-kept (given (c .before .before .before .before .before .before .before .before .before .before)) (a .handle) (a .offset) (length (a .bytes .now)) (c .before .write-refusal .ensures) (c .if1 .left)
+ok : (c : tie.Else1) → let a = start c .args in WriteKept (given (start c)) (a .handle) (a .offset) (length (a .bytes .now))
+ok c = let a = start c .args in write-kept (given (start c)) (a .handle) (a .offset) (length (a .bytes .now)) (c .before .write-refusal .ensures) (c .if1 .left)
 
 record-place-requires : tie.Need-record-place-requires
 record-place-requires c κs = search needs
@@ -27,11 +31,15 @@ element-copy-out-held : tie.Need-element-copy-out-held
 element-copy-out-held c = search needs
 
 write-refusal-requires : tie.Need-write-refusal-requires
-write-refusal-requires c κs = (ap (recordAt (c .before .before .before .before .before .before .before .before .args .pool .records)) (c .before .before .before .before .record-place .ensures), record { noPage = refl; noneSeen = refl })
+write-refusal-requires c κs =
+    let at-record-place = c .before .before .before .before in
+    let at-entry = at-record-place .before .before .before .before in
+    (ap (recordAt (at-entry .args .pool .records)) (at-record-place .record-place .ensures), record { noPage = refl; noneSeen = refl })
 
 same-length : tie.Need-same-length
 same-length c = search needs
 
+-- refused
 returns : tie.Need-returns
 unfolding writeCall
 returns c = done-no _ _ _ (c .before .write-refusal .ensures) (c .if1 .taken)
@@ -39,8 +47,14 @@ returns c = done-no _ _ _ (c .before .write-refusal .ensures) (c .if1 .taken)
 same-length-2 : tie.Need-same-length-2
 same-length-2 c = search needs
 
+-- no bytes
 returns-2 : tie.Need-returns-2
-returns-2 c = let a = c .before .before .before .before .before .before .before .before .before .before .before .args in write-nothing (given (c .before .before .before .before .before .before .before .before .before .before .before)) (a .handle) (a .offset) (a .bytes .now) (c .before .before .write-refusal .ensures) (c .before .if1 .left) (c .if2 .taken)
+returns-2 c =
+    let past-refusal = c .before in
+    let at-write-refusal = past-refusal .before in
+    let at-record-place = at-write-refusal .before .before .before .before .before in
+    let at-entry = at-record-place .before .before .before .before in
+    let a = at-entry .args in write-nothing (given at-entry) (a .handle) (a .offset) (a .bytes .now) (at-write-refusal .write-refusal .ensures) (past-refusal .if1 .left) (c .if2 .taken)
 
 start-requires : tie.Need-start-requires
 start-requires c κs = search needs
@@ -78,11 +92,19 @@ element-set-from-next c = search needs
 same-length-3 : tie.Need-same-length-3
 same-length-3 c = search needs
 
+-- the bytes are in the frame, and the page is dirty
 returns-3 : tie.Need-returns-3
 returns-3 c =
-    let a = c .before .before .before .before .before .before .before .before .before .before .before .before .before .before .before .before .before .args in
-    write-bytes (given (c .before .before .before .before .before .before .before .before .before .before .before .before .before .before .before .before .before)) (a .handle) (a .offset) (a .bytes .now) (c .before .before .before .before .before .before .before .before .write-refusal .ensures) (c .before .before .before .before .before .before .before .if1 .left) (c .before .before .before .before .before .before .if2 .left) (c .before .before .before .before .before .before .before .before .before .before .before .before .before .record-place .ensures) (c .dirtied .ensures)
-    (put-back (a .frames .now) (a .handle .frame .0) _ (a .offset) _ (a .bytes .now) (c .before .before .before .before .before .start .ensures) (c .before .before .before .copy-into .ensures .0))
+    let at-copy-into = c .before .before .before in
+    let at-start = at-copy-into .before .before in
+    let past-empty = at-start .before in
+    let past-refusal = past-empty .before in
+    let at-write-refusal = past-refusal .before in
+    let at-record-place = at-write-refusal .before .before .before .before .before in
+    let at-entry = at-record-place .before .before .before .before in
+    let a = at-entry .args in
+    write-bytes (given at-entry) (a .handle) (a .offset) (a .bytes .now) (at-write-refusal .write-refusal .ensures) (past-refusal .if1 .left) (past-empty .if2 .left) (at-record-place .record-place .ensures) (c .dirtied .ensures)
+    (put-back (a .frames .now) (a .handle .frame .0) _ (a .offset) _ (a .bytes .now) (at-start .start .ensures) (at-copy-into .copy-into .ensures .0))
 
 pub write-spec : {M : Type 1} → statement M
 write-spec =

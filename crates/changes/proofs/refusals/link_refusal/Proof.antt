@@ -22,6 +22,13 @@ use borrow.Author.Needs.{needs}
 use Rattle.changes.proofs.refusals.link_refusal.Statement.{statement}
 use Rattle.changes.proofs.refusals.link_refusal.Tie as tie
 
+-- the points that are gone by: the start, past the rules of the slot, past rule 6, the slot's name read, it is empty
+abbrev start : tie.Else1 → tie.Start
+start c = c .before .before .before .before .before .before
+
+abbrev past-slot : tie.Else3 → tie.Else1
+past-slot c = c .before .before .before .before
+
 abbrev given : tie.Start → State
 given c = let a = c .args in state (a .pool) (a .frames .now) (a .store .now)
 
@@ -40,70 +47,99 @@ a-page : (q n : ℕ) → (q ≡ 0 → ⊥) → q < n → (ltb 0 q and ltb q n) �
 a-page q n h l = sym (and-yes (lt-ltb 0 q (omega arith)) (sym (lt-ltb q n l)))
 
 -- past the rules of the slot, and then by the rest
-kept : (c : tie.Else1) → SlotKept (given (c .before .before .before .before .before .before)) (c .before .before .before .before .before .before .args .handle) (c .before .before .before .before .before .before .args .slot)
-kept c = slot-kept (given (c .before .before .before .before .before .before)) (c .before .before .before .before .before .before .args .handle) (c .before .before .before .before .before .before .args .slot) (sym (c .before .slot-refusal .ensures .0) ∙ c .if1 .left)
+kept : (c : tie.Else1) → let a = start c .args in SlotKept (given (start c)) (a .handle) (a .slot)
+kept c = let a = start c .args in slot-kept (given (start c)) (a .handle) (a .slot) (sym (c .before .slot-refusal .ensures .0) ∙ c .if1 .left)
 
-passed : (c : tie.Else1) {m : ℕ} → m ≡ firstBroken (rest (c .before .before .before .before .before .before)) → m ≡ firstBroken (linkRules (given (c .before .before .before .before .before .before)) (c .before .before .before .before .before .before .args .handle) (c .before .before .before .before .before .before .args .slot) (c .before .before .before .before .before .before .args .page))
-passed c = slot-passes (given (c .before .before .before .before .before .before)) (c .before .before .before .before .before .before .args .handle) (c .before .before .before .before .before .before .args .slot) (rest (c .before .before .before .before .before .before)) (c .before .slot-refusal .ensures .0) (c .if1 .left)
+passed : (c : tie.Else1) {m : ℕ} → m ≡ firstBroken (rest (start c)) → let a = start c .args in m ≡ firstBroken (linkRules (given (start c)) (a .handle) (a .slot) (a .page))
+passed c = let a = start c .args in slot-passes (given (start c)) (a .handle) (a .slot) (rest (start c)) (c .before .slot-refusal .ensures .0) (c .if1 .left)
 
 -- N by the store's length
-stored : (c : tie.Else1) → length (c .before .before .before .before .before .before .args .store .now) / pageSize ≡ c .before .before .before .before .before .before .args .pool .pages
+stored : (c : tie.Else1) → let a = start c .args in length (a .store .now) / pageSize ≡ a .pool .pages
 stored c = omega (arith, kept c .kept .sized .store)
 
 -- past rule 6
-below : (c : tie.Else3) → c .before .before .before .before .before .before .before .before .before .before .args .page .0 < c .before .before .before .before .before .before .before .before .before .before .args .pool .pages
-below c = omega (arith, stored (c .before .before .before .before), c .if3 .left)
+below : (c : tie.Else3) → let a = start (past-slot c) .args in a .page .0 < a .pool .pages
+below c = omega (arith, stored (past-slot c), c .if3 .left)
 
-numbered : (c : tie.Else3) → let a = c .before .before .before .before .before .before .before .before .before .before .args in (ltb 0 (a .page .0) and ltb (a .page .0) (a .pool .pages)) ≡ true
+numbered : (c : tie.Else3) → let a = start (past-slot c) .args in (ltb 0 (a .page .0) and ltb (a .page .0) (a .pool .pages)) ≡ true
 numbered c = a-page _ _ (c .before .before .if2 .left) (below c)
 
 -- what the tables tell is what rule 9 asks
-told : (c : tie.Else3) {residents : List ℕ} {seen : Seen} → let a = c .before .before .before .before .before .before .before .before .before .before .args in Handed (a .pool) (a .frames .now) residents seen → namedBy residents seen (a .store .now) (length (a .store .now) / pageSize) (a .page .0) ≡ named (given (c .before .before .before .before .before .before .before .before .before .before)) (a .page .0)
+told : (c : tie.Else3) {residents : List ℕ} {seen : Seen} → let a = start (past-slot c) .args in Handed (a .pool) (a .frames .now) residents seen
+    → namedBy residents seen (a .store .now) (length (a .store .now) / pageSize) (a .page .0) ≡ named (given (start (past-slot c))) (a .page .0)
 told c {residents} {seen} h =
-    let a = c .before .before .before .before .before .before .before .before .before .before .args in
+    let a = start (past-slot c) .args in
     let z = c .before .before .if2 .left in
-    ap (λ (n : ℕ). namedBy residents seen (a .store .now) n (a .page .0)) (stored (c .before .before .before .before)) ∙ named-by-tables (given (c .before .before .before .before .before .before .before .before .before .before)) (kept (c .before .before .before .before) .kept) h (a .page .0) (omega arith) (below c)
+    ap (λ (n : ℕ). namedBy residents seen (a .store .now) n (a .page .0)) (stored (past-slot c)) ∙ named-by-tables (given (start (past-slot c))) (kept (past-slot c) .kept) h (a .page .0) (omega arith) (below c)
+
+-- what rule 9's test answered is whether the page is named
+asked : (c : tie.After-is-named) → let past-numbered = c .before .before .before .before .before in c .is-named .result ≡ named (given (start (past-slot past-numbered))) (start (past-slot past-numbered) .args .page .0)
+asked c =
+    let past-numbered = c .before .before .before .before .before in
+    let handed = past-slot past-numbered in
+    c .is-named .ensures ∙ told past-numbered (handed .before .slot-refusal .ensures .1 (handed .if1 .left))
 
 slot-refusal-requires : tie.Need-slot-refusal-requires
 slot-refusal-requires c κs = search needs
 
+-- rules 1 to 4
 returns : tie.Need-returns
-returns c = slot-stops (given (c .before .before .before .before .before .before)) (c .before .before .before .before .before .before .args .handle) (c .before .before .before .before .before .before .args .slot) (rest (c .before .before .before .before .before .before)) (c .before .slot-refusal .ensures .0) (c .if1 .taken)
+returns c =
+    let at-start = c .before .before .before .before .before .before in
+    let a = at-start .args in
+    slot-stops (given at-start) (a .handle) (a .slot) (rest at-start) (c .before .slot-refusal .ensures .0) (c .if1 .taken)
 
+-- rule 6: page 0
 returns-2 : tie.Need-returns-2
 returns-2 c = passed (c .before .before) (sym (broken-here 6 _ (no-page _ _ (c .if2 .taken))))
 
 cast-if3 : tie.Need-cast-if3
 cast-if3 c = search needs
 
+-- rule 6: a page from N on
 returns-3 : tie.Need-returns-3
 returns-3 c =
-    let a = c .before .before .before .before .before .before .before .before .before .before .args in
-    let l : a .pool .pages ≤ a .page .0 = omega (arith, stored (c .before .before .before .before), c .if3 .taken) in
-    passed (c .before .before .before .before) (sym (broken-here 6 _ (past-pages _ _ (c .before .before .if2 .left) l)))
+    let past-zero = c .before .before in
+    let past-handle = past-zero .before .before in
+    let a = start past-handle .args in
+    let l : a .pool .pages ≤ a .page .0 = omega (arith, stored past-handle, c .if3 .taken) in
+    passed past-handle (sym (broken-here 6 _ (past-pages _ _ (past-zero .if2 .left) l)))
 
 slot-name-requires : tie.Need-slot-name-requires
-slot-name-requires c κs = let k = kept (c .before .before .before .before) in (omega arith, k .slot)
+slot-name-requires c κs = let k = kept (past-slot c) in (omega arith, k .slot)
 
+-- rule 8
 returns-4 : tie.Need-returns-4
-returns-4 c = passed (c .before .before .before .before .before .before) (sym (kept-then 6 _ (numbered (c .before .before)) ∙ broken-here 8 _ (ne-eqb _ 0 (λ z. c .if4 .taken (c .before .slot-name .ensures ∙ z)))))
+returns-4 c =
+    let at-name = c .before in
+    let past-numbered = at-name .before in
+    passed (past-slot past-numbered) (sym (kept-then 6 _ (numbered past-numbered) ∙ broken-here 8 _ (ne-eqb _ 0 (λ z. c .if4 .taken (at-name .slot-name .ensures ∙ z)))))
 
 is-named-requires : tie.Need-is-named-requires
 is-named-requires c κs =
-    let z = kept (c .before .before .before .before .before .before .before .before) .kept .sized in
-    let e = stored (c .before .before .before .before .before .before .before .before) in
-    let l = below (c .before .before .before .before) in
+    let past-numbered = c .before .before .before .before in
+    let z = kept (past-slot past-numbered) .kept .sized in
+    let e = stored (past-slot past-numbered) in
+    let l = below past-numbered in
     (omega arith, omega arith, omega arith)
 
+-- rule 9
 returns-5 : tie.Need-returns-5
 returns-5 c =
-    passed (c .before .before .before .before .before .before .before .before .before .before)
-    (sym (kept-then 6 _ (numbered (c .before .before .before .before .before .before)) ∙ kept-then 8 _ (eq-eqb _ 0 (sym (c .before .before .before .before .before .slot-name .ensures) ∙ c .before .before .before .before .if4 .left)) ∙ broken-here 9 [] (ap not (sym (c .before .is-named .ensures ∙ told (c .before .before .before .before .before .before) (c .before .before .before .before .before .before .before .before .before .before .before .slot-refusal .ensures .1 (c .before .before .before .before .before .before .before .before .before .before .if1 .left))) ∙ c .if5 .taken))))
+    let past-empty = c .before .before .before .before in
+    let at-name = past-empty .before in
+    let past-numbered = at-name .before in
+    passed (past-slot past-numbered)
+    (sym (kept-then 6 _ (numbered past-numbered) ∙ kept-then 8 _ (eq-eqb _ 0 (sym (at-name .slot-name .ensures) ∙ past-empty .if4 .left)) ∙ broken-here 9 [] (ap not (sym (asked (c .before)) ∙ c .if5 .taken))))
 
+-- no rule is broken
 returns-6 : tie.Need-returns-6
 returns-6 c =
-    passed (c .before .before .before .before .before .before .before .before .before .before)
-    (sym (kept-then 6 _ (numbered (c .before .before .before .before .before .before)) ∙ kept-then 8 _ (eq-eqb _ 0 (sym (c .before .before .before .before .before .slot-name .ensures) ∙ c .before .before .before .before .if4 .left)) ∙ kept-then 9 [] (ap not (sym (c .before .is-named .ensures ∙ told (c .before .before .before .before .before .before) (c .before .before .before .before .before .before .before .before .before .before .before .slot-refusal .ensures .1 (c .before .before .before .before .before .before .before .before .before .before .if1 .left))) ∙ c .if5 .left)) ∙ none-broken))
+    let past-empty = c .before .before .before .before in
+    let at-name = past-empty .before in
+    let past-numbered = at-name .before in
+    passed (past-slot past-numbered)
+    (sym (kept-then 6 _ (numbered past-numbered) ∙ kept-then 8 _ (eq-eqb _ 0 (sym (at-name .slot-name .ensures) ∙ past-empty .if4 .left)) ∙ kept-then 9 [] (ap not (sym (asked (c .before)) ∙ c .if5 .left)) ∙ none-broken))
 
 pub link-refusal-spec : {M : Type 1} → statement M
 link-refusal-spec =

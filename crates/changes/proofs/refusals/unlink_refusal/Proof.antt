@@ -19,41 +19,60 @@ use Rattle.changes.proofs.refusals.unlink_refusal.Tie as tie
 abbrev given : tie.Start → State
 given c = let a = c .args in state (a .pool) (a .frames .now) (a .store .now)
 
+-- the start, from past the rules of the slot
+abbrev start : tie.Else1 → tie.Start
+start c = c .before .before .before .before .before .before
+
 -- what comes after the rules of the slot
 abbrev rest : tie.Start → List Rule
 rest c = let w = wordOf (given c) (c .args .handle) (c .args .slot) in rule7 w ∷ rule10 w ∷ []
 
 -- past the rules of the slot, and then by the rest
-kept : (c : tie.Else1) → SlotKept (given (c .before .before .before .before .before .before)) (c .before .before .before .before .before .before .args .handle) (c .before .before .before .before .before .before .args .slot)
-kept c = slot-kept (given (c .before .before .before .before .before .before)) (c .before .before .before .before .before .before .args .handle) (c .before .before .before .before .before .before .args .slot) (sym (c .before .slot-refusal .ensures .0) ∙ c .if1 .left)
+kept : (c : tie.Else1) → let a = start c .args in SlotKept (given (start c)) (a .handle) (a .slot)
+kept c = let a = start c .args in slot-kept (given (start c)) (a .handle) (a .slot) (sym (c .before .slot-refusal .ensures .0) ∙ c .if1 .left)
 
-passed : (c : tie.Else1) {m : ℕ} → m ≡ firstBroken (rest (c .before .before .before .before .before .before)) → m ≡ firstBroken (unlinkRules (given (c .before .before .before .before .before .before)) (c .before .before .before .before .before .before .args .handle) (c .before .before .before .before .before .before .args .slot))
-passed c = slot-passes (given (c .before .before .before .before .before .before)) (c .before .before .before .before .before .before .args .handle) (c .before .before .before .before .before .before .args .slot) (rest (c .before .before .before .before .before .before)) (c .before .slot-refusal .ensures .0) (c .if1 .left)
+passed : (c : tie.Else1) {m : ℕ} → m ≡ firstBroken (rest (start c)) → m ≡ firstBroken (unlinkRules (given (start c)) (start c .args .handle) (start c .args .slot))
+passed c = slot-passes (given (start c)) (start c .args .handle) (start c .args .slot) (rest (start c)) (c .before .slot-refusal .ensures .0) (c .if1 .left)
 
 slot-refusal-requires : tie.Need-slot-refusal-requires
 slot-refusal-requires c κs = search needs
 
+-- rules 1 to 4
 returns : tie.Need-returns
-returns c = slot-stops (given (c .before .before .before .before .before .before)) (c .before .before .before .before .before .before .args .handle) (c .before .before .before .before .before .before .args .slot) (rest (c .before .before .before .before .before .before)) (c .before .slot-refusal .ensures .0) (c .if1 .taken)
+returns c =
+    let at-slot-refusal = c .before in
+    let at-entry = at-slot-refusal .before .before .before .before .before in
+    slot-stops (given at-entry) (at-entry .args .handle) (at-entry .args .slot) (rest at-entry) (at-slot-refusal .slot-refusal .ensures .0) (c .if1 .taken)
 
 slot-name-requires : tie.Need-slot-name-requires
 slot-name-requires c κs = let k = kept c in (omega arith, k .slot)
 
+-- rule 7
 returns-2 : tie.Need-returns-2
 returns-2 c = passed (c .before .before) (sym (broken-here 7 _ (ap not (eq-eqb _ 0 (sym (c .before .slot-name .ensures) ∙ c .if2 .taken)))))
 
 is-number-requires : tie.Need-is-number-requires
 is-number-requires c κs = search needs
 
+-- rule 10
 returns-3 : tie.Need-returns-3
 returns-3 c =
-    passed (c .before .before .before .before)
-    (sym (kept-then 7 _ (ap not (ne-eqb _ 0 (λ z. c .before .before .if2 .left (c .before .before .before .slot-name .ensures ∙ z)))) ∙ broken-here 10 [] (call-no (c .before .is-number .ensures ∙ ap isNumber (c .before .before .before .slot-name .ensures)) (c .if3 .taken))))
+    let at-is-number = c .before in
+    let past-empty = at-is-number .before in
+    let at-slot-name = past-empty .before in
+    let past-handle = at-slot-name .before in
+    passed past-handle
+    (sym (kept-then 7 _ (ap not (ne-eqb _ 0 (λ z. past-empty .if2 .left (at-slot-name .slot-name .ensures ∙ z)))) ∙ broken-here 10 [] (call-no (at-is-number .is-number .ensures ∙ ap isNumber (at-slot-name .slot-name .ensures)) (c .if3 .taken))))
 
+-- no rule is broken
 returns-4 : tie.Need-returns-4
 returns-4 c =
-    passed (c .before .before .before .before)
-    (sym (kept-then 7 _ (ap not (ne-eqb _ 0 (λ z. c .before .before .if2 .left (c .before .before .before .slot-name .ensures ∙ z)))) ∙ kept-then 10 [] (call-yes (c .before .is-number .ensures ∙ ap isNumber (c .before .before .before .slot-name .ensures)) (c .if3 .left)) ∙ none-broken))
+    let at-is-number = c .before in
+    let past-empty = at-is-number .before in
+    let at-slot-name = past-empty .before in
+    let past-handle = at-slot-name .before in
+    passed past-handle
+    (sym (kept-then 7 _ (ap not (ne-eqb _ 0 (λ z. past-empty .if2 .left (at-slot-name .slot-name .ensures ∙ z)))) ∙ kept-then 10 [] (call-yes (at-is-number .is-number .ensures ∙ ap isNumber (at-slot-name .slot-name .ensures)) (c .if3 .left)) ∙ none-broken))
 
 pub unlink-refusal-spec : {M : Type 1} → statement M
 unlink-refusal-spec =

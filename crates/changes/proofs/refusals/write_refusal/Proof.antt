@@ -20,21 +20,35 @@ rest c = rule5 (c .args .offset) (c .args .n) ∷ []
 handle-refusal-requires : tie.Need-handle-refusal-requires
 handle-refusal-requires c κs = search needs
 
+-- rules 1 to 3
 returns : tie.Need-returns
-returns c = handle-stops (given (c .before .before .before .before .before .before)) (c .before .before .before .before .before .before .args .handle) (rest (c .before .before .before .before .before .before)) (c .before .handle-refusal .ensures .0) (c .if1 .taken)
+returns c =
+    let at-handle-refusal = c .before in
+    let at-entry = at-handle-refusal .before .before .before .before .before in
+    handle-stops (given at-entry) (at-entry .args .handle) (rest at-entry) (at-handle-refusal .handle-refusal .ensures .0) (c .if1 .taken)
 
 range-fits-requires : tie.Need-range-fits-requires
 range-fits-requires c κs = search needs
 
+-- rule 5
 returns-2 : tie.Need-returns-2
 returns-2 c =
-    handle-passes (given (c .before .before .before .before .before .before .before .before)) (c .before .before .before .before .before .before .before .before .args .handle) (rest (c .before .before .before .before .before .before .before .before)) (c .before .before .before .handle-refusal .ensures .0) (c .before .before .if1 .left)
-    (sym (broken-here 5 [] (call-no (c .before .range-fits .ensures) (c .if2 .taken))))
+    let at-range-fits = c .before in
+    let past-handle = at-range-fits .before in
+    let at-handle-refusal = past-handle .before in
+    let at-entry = at-handle-refusal .before .before .before .before .before in
+    handle-passes (given at-entry) (at-entry .args .handle) (rest at-entry) (at-handle-refusal .handle-refusal .ensures .0) (past-handle .if1 .left)
+    (sym (broken-here 5 [] (call-no (at-range-fits .range-fits .ensures) (c .if2 .taken))))
 
+-- no rule is broken
 returns-3 : tie.Need-returns-3
 returns-3 c =
-    handle-passes (given (c .before .before .before .before .before .before .before .before)) (c .before .before .before .before .before .before .before .before .args .handle) (rest (c .before .before .before .before .before .before .before .before)) (c .before .before .before .handle-refusal .ensures .0) (c .before .before .if1 .left)
-    (sym (kept-then 5 [] (call-yes (c .before .range-fits .ensures) (c .if2 .left)) ∙ none-broken))
+    let at-range-fits = c .before in
+    let past-handle = at-range-fits .before in
+    let at-handle-refusal = past-handle .before in
+    let at-entry = at-handle-refusal .before .before .before .before .before in
+    handle-passes (given at-entry) (at-entry .args .handle) (rest at-entry) (at-handle-refusal .handle-refusal .ensures .0) (past-handle .if1 .left)
+    (sym (kept-then 5 [] (call-yes (at-range-fits .range-fits .ensures) (c .if2 .left)) ∙ none-broken))
 
 pub write-refusal-spec : {M : Type 1} → statement M
 write-refusal-spec =
