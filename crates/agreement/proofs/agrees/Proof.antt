@@ -124,7 +124,8 @@ returns-3 c =
 add-over : tie.Need-add-over Inv-loop μ-loop Inv-loop2 μ-loop2
 add-over c =
     let at-note = c .before .before .before in
-    let past-frames = at-note .before .before .before .before .before .before .before .before in
+    let at-fitting = at-note .before .before .before in
+    let past-frames = at-fitting .before .before .before .before .before in
     let at-frames = past-frames .before in
     omega (arith, before-few _ _ _ _ _ _ _ _ _ _ (at-frames .loop .inv .1) .1, at-note .note .ensures .few)
 
@@ -134,7 +135,8 @@ cast-occupied c = search needs
 add-occupied : tie.Need-add-occupied Inv-loop μ-loop Inv-loop2 μ-loop2
 add-occupied c =
     let at-note = c .before .before .before .before in
-    let past-frames = at-note .before .before .before .before .before .before .before .before in
+    let at-fitting = at-note .before .before .before in
+    let past-frames = at-fitting .before .before .before .before .before in
     omega (arith, before-few _ _ _ _ _ _ _ _ _ _ (past-frames .before .loop .inv .1) .0)
 
 add-f : tie.Need-add-f Inv-loop μ-loop Inv-loop2 μ-loop2

@@ -20,13 +20,24 @@ find-frame-requires : tie.Need-find-frame-requires
 find-frame-requires c κs = few-frames _ _ (c .before .before .page-refusal .ensures) (c .before .if1 .left) refl
 
 cast-t17 : tie.Need-cast-t17
-cast-t17 c = let h = few-frames _ _ (c .before .before .before .before .page-refusal .ensures) (c .before .before .before .if1 .left) refl in omega (arith, h)
+cast-t17 c =
+    let past-refusal = c .before .before .before in
+    let at-page-refusal = past-refusal .before in
+    let h = few-frames _ _ (at-page-refusal .page-refusal .ensures) (past-refusal .if1 .left) refl in omega (arith, h)
 
 returns-2 : tie.Need-returns-2
-returns-2 c = find-at _ _ (c .before .before .before .before .page-refusal .ensures) (c .before .before .before .if1 .left) refl (c .before .find-frame .ensures) (c .if2 .taken)
+returns-2 c =
+    let at-find-frame = c .before in
+    let past-refusal = at-find-frame .before .before in
+    let at-page-refusal = past-refusal .before in
+    find-at _ _ (at-page-refusal .page-refusal .ensures) (past-refusal .if1 .left) refl (at-find-frame .find-frame .ensures) (c .if2 .taken)
 
 returns-3 : tie.Need-returns-3
-returns-3 c = find-absent _ _ (c .before .before .before .before .page-refusal .ensures) (c .before .before .before .if1 .left) refl (c .before .find-frame .ensures) (c .if2 .left)
+returns-3 c =
+    let at-find-frame = c .before in
+    let past-refusal = at-find-frame .before .before in
+    let at-page-refusal = past-refusal .before in
+    find-absent _ _ (at-page-refusal .page-refusal .ensures) (past-refusal .if1 .left) refl (at-find-frame .find-frame .ensures) (c .if2 .left)
 
 pub find-spec : {M : Type 1} → statement M
 find-spec =

@@ -14,10 +14,16 @@ peek-place-requires : tie.Need-peek-place-requires
 peek-place-requires c κs = search needs
 
 part-at-requires : tie.Need-part-at-requires
-part-at-requires c κs = peek-within (given (c .before .before .before .before)) (c .before .before .before .before .args .page) (c .before .peek-place .ensures)
+part-at-requires c κs =
+    let at-peek-place = c .before in
+    let at-entry = at-peek-place .before .before .before in
+    peek-within (given at-entry) (at-entry .args .page) (at-peek-place .peek-place .ensures)
 
 returns : tie.Need-returns
-returns c = c .part-at .ensures ∙ ap (handedAt (lent (c .before .before .before .before .before .args .frames)) (lent (c .before .before .before .before .before .args .store))) (c .before .before .peek-place .ensures)
+returns c =
+    let at-peek-place = c .before .before in
+    let at-entry = at-peek-place .before .before .before in
+    c .part-at .ensures ∙ ap (handedAt (lent (at-entry .args .frames)) (lent (at-entry .args .store))) (at-peek-place .peek-place .ensures)
 
 pub peek-spec : {M : Type 1} → statement M
 peek-spec = tie.close (tie.spec peek-place-requires part-at-requires returns)

@@ -24,23 +24,34 @@ find-frame-requires : tie.Need-find-frame-requires
 find-frame-requires c κs = few-frames _ _ (c .before .before .page-refusal .ensures) (c .before .if1 .left) refl
 
 cast-t17 : tie.Need-cast-t17
-cast-t17 c = let h = few-frames _ _ (c .before .before .before .before .page-refusal .ensures) (c .before .before .before .if1 .left) refl in omega (arith, h)
+cast-t17 c =
+    let past-refusal = c .before .before .before in
+    let at-page-refusal = past-refusal .before in
+    let h = few-frames _ _ (at-page-refusal .page-refusal .ensures) (past-refusal .if1 .left) refl in omega (arith, h)
 
 in-frame-requires : tie.Need-in-frame-requires
 in-frame-requires c κs = search needs
 
 returns-2 : tie.Need-returns-2
 returns-2 c =
+    let past-found = c .before in
+    let at-find-frame = past-found .before in
+    let past-refusal = at-find-frame .before .before in
+    let at-page-refusal = past-refusal .before in
     c .in-frame .ensures
-    ∙ ap placeOf (peek-in-frame _ _ (c .before .before .before .before .before .page-refusal .ensures) (c .before .before .before .before .if1 .left) refl (c .before .before .find-frame .ensures) (c .before .if2 .taken))
+    ∙ ap placeOf (peek-in-frame _ _ (at-page-refusal .page-refusal .ensures) (past-refusal .if1 .left) refl (at-find-frame .find-frame .ensures) (past-found .if2 .taken))
 
 in-store-requires : tie.Need-in-store-requires
 in-store-requires c κs = search needs
 
 returns-3 : tie.Need-returns-3
 returns-3 c =
+    let past-found = c .before in
+    let at-find-frame = past-found .before in
+    let past-refusal = at-find-frame .before .before in
+    let at-page-refusal = past-refusal .before in
     c .in-store .ensures
-    ∙ ap placeOf (peek-in-store _ _ (c .before .before .before .before .before .page-refusal .ensures) (c .before .before .before .before .if1 .left) refl (c .before .before .find-frame .ensures) (c .before .if2 .left))
+    ∙ ap placeOf (peek-in-store _ _ (at-page-refusal .page-refusal .ensures) (past-refusal .if1 .left) refl (at-find-frame .find-frame .ensures) (past-found .if2 .left))
 
 pub peek-place-spec : {M : Type 1} → statement M
 peek-place-spec =

@@ -14,10 +14,16 @@ show-place-requires : tie.Need-show-place-requires
 show-place-requires c κs = search needs
 
 part-at-requires : tie.Need-part-at-requires
-part-at-requires c κs = show-within (given (c .before .before .before .before)) (c .before .before .before .before .args .handle) (c .before .show-place .ensures)
+part-at-requires c κs =
+    let at-show-place = c .before in
+    let at-entry = at-show-place .before .before .before in
+    show-within (given at-entry) (at-entry .args .handle) (at-show-place .show-place .ensures)
 
 returns : tie.Need-returns
-returns c = c .part-at .ensures ∙ ap (handedAt (lent (c .before .before .before .before .before .args .frames)) (lent (c .before .before .before .before .before .args .store))) (c .before .before .show-place .ensures)
+returns c =
+    let at-show-place = c .before .before in
+    let at-entry = at-show-place .before .before .before in
+    c .part-at .ensures ∙ ap (handedAt (lent (at-entry .args .frames)) (lent (at-entry .args .store))) (at-show-place .show-place .ensures)
 
 pub show-spec : {M : Type 1} → statement M
 show-spec = tie.close (tie.spec show-place-requires part-at-requires returns)

@@ -18,7 +18,10 @@ element-copy-out-held : tie.Need-element-copy-out-held
 element-copy-out-held c = search needs
 
 slot-refusal-requires : tie.Need-slot-refusal-requires
-slot-refusal-requires c κs = (ap (recordAt (c .before .before .before .before .before .before .args .t1 .records)) (c .before .before .before .record-place .ensures), record { noPage = refl; noneSeen = refl })
+slot-refusal-requires c κs =
+    let at-record-place = c .before .before .before in
+    let at-entry = at-record-place .before .before .before in
+    (ap (recordAt (at-entry .args .t1 .records)) (at-record-place .record-place .ensures), record { noPage = refl; noneSeen = refl })
 
 returns : tie.Need-returns
 unfolding wordCall
@@ -31,7 +34,11 @@ page-named-requires : tie.Need-page-named-requires
 page-named-requires c κs = resolvable _ _ _ (c .before .before .before .slot-refusal .ensures) (c .before .before .if1 .left) (c .before .slot-name .ensures)
 
 returns-2 : tie.Need-returns-2
-returns-2 c = word-names _ _ _ (c .before .before .before .before .slot-refusal .ensures) (c .before .before .before .if1 .left) (c .before .before .slot-name .ensures) (c .page-named .ensures)
+returns-2 c =
+    let at-slot-name = c .before .before in
+    let past-refusal = at-slot-name .before in
+    let at-slot-refusal = past-refusal .before in
+    word-names _ _ _ (at-slot-refusal .slot-refusal .ensures) (past-refusal .if1 .left) (at-slot-name .slot-name .ensures) (c .page-named .ensures)
 
 pub word-spec : {M : Type 1} → statement M
 word-spec =

@@ -11,12 +11,16 @@ use borrow.Author.Needs.{needs}
 use Rattle.fixing.proofs.fix.Statement.{statement}
 use Rattle.fixing.proofs.fix.Tie as tie
 
+-- the start, from past the first four rules
+abbrev start : tie.Else1 → tie.Start
+start c = let at-record-place = c .before .before .before .before .before .before in at-record-place .before .before .before .before
+
 -- past the first four rules
-ok : (c : tie.Else1) → let a = c .before .before .before .before .before .before .before .before .before .before .args in SlotKept (state (a .pool) (a .frames .now) (a .store .now)) (a .handle) (a .slot)
+ok : (c : tie.Else1) → let a = start c .args in SlotKept (state (a .pool) (a .frames .now) (a .store .now)) (a .handle) (a .slot)
 ok c = slot-kept _ _ _ (sym (c .before .slot-refusal .ensures .0) ∙ c .if1 .left)
 
 -- the number is below N
-number : (c : tie.Then3) → c .before .before .before .slot-name .result < c .before .before .before .before .before .before .before .before .before .before .before .before .before .before .before .before .args .pool .pages
+number : (c : tie.Then3) → let at-name = c .before .before .before in at-name .slot-name .result < start (at-name .before .before .before) .args .pool .pages
 number c =
     let at-reading = c .before in
     let past-name = at-reading .before in

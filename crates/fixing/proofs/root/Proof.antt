@@ -20,7 +20,11 @@ refused-requires-2 : tie.Need-refused-requires-2
 refused-requires-2 c κs = search needs
 
 returns-2 : tie.Need-returns-2
-returns-2 c = root-given _ (c .before .before .before .before .before .pool-refusal .ensures) (c .before .before .before .before .if1 .left) (pin-denied _ 0 (c .before .if2 .taken) (c .refused2 .ensures))
+returns-2 c =
+    let past-pins = c .before in
+    let past-refusal = past-pins .before .before .before in
+    let at-pool-refusal = past-refusal .before in
+    root-given _ (at-pool-refusal .pool-refusal .ensures) (past-refusal .if1 .left) (pin-denied _ 0 (past-pins .if2 .taken) (c .refused2 .ensures))
 
 pinned-requires : tie.Need-pinned-requires
 pinned-requires c κs = search needs
@@ -32,7 +36,12 @@ given-requires : tie.Need-given-requires
 given-requires c κs = search needs
 
 returns-3 : tie.Need-returns-3
-returns-3 c = root-given _ (c .before .before .before .before .before .before .before .pool-refusal .ensures) (c .before .before .before .before .before .before .if1 .left) (pin-given _ 0 (c .before .before .before .if2 .left) (c .before .pinned .ensures) (c .given .ensures))
+returns-3 c =
+    let at-pinned = c .before in
+    let past-pins = at-pinned .before .before in
+    let past-refusal = past-pins .before .before .before in
+    let at-pool-refusal = past-refusal .before in
+    root-given _ (at-pool-refusal .pool-refusal .ensures) (past-refusal .if1 .left) (pin-given _ 0 (past-pins .if2 .left) (at-pinned .pinned .ensures) (c .given .ensures))
 
 pub root-spec : {M : Type 1} → statement M
 root-spec =

@@ -15,31 +15,44 @@ abbrev given : tie.Start → State
 given c = let a = c .args in state (a .pool) (a .frames .now) (a .store .now)
 
 table-refusal-requires : tie.Need-table-refusal-requires
-table-refusal-requires c κs = c .before .before .before .before .pre .1
+table-refusal-requires c κs =
+    let at-entry = c .before .before .before .before in
+    at-entry .pre .1
 
 returns : tie.Need-returns
-returns c = (pool-stops (given (c .before .before .before .before .before .before)) (rule3 (given (c .before .before .before .before .before .before)) (c .before .before .before .before .before .before .args .handle) ∷ []) (c .before .table-refusal .ensures .0) (c .if1 .taken), λ z. absurd (c .if1 .taken z))
+returns c =
+    let at-table-refusal = c .before in
+    let at-entry = at-table-refusal .before .before .before .before .before in
+    (pool-stops (given at-entry) (rule3 (given at-entry) (at-entry .args .handle) ∷ []) (at-table-refusal .table-refusal .ensures .0) (c .if1 .taken), λ z. absurd (c .if1 .taken z))
 
 handle-fits-requires : tie.Need-handle-fits-requires
 handle-fits-requires c κs = search needs
 
 returns-2 : tie.Need-returns-2
 returns-2 c =
-    let s = given (c .before .before .before .before .before .before .before .before) in
-    let h = c .before .before .before .before .before .before .before .before .args .handle in
-    let e = c .before .before .before .table-refusal .ensures .0 in
-    let z = c .before .before .if1 .left in
-    let t = call-no (is-held s e z h (c .before .before .before .before .before .before .before .before .pre .0) (c .before .handle-fits .ensures)) (c .if2 .taken) in
+    let at-handle-fits = c .before in
+    let past-pool = at-handle-fits .before in
+    let at-table-refusal = past-pool .before in
+    let at-entry = at-table-refusal .before .before .before .before .before in
+    let s = given at-entry in
+    let h = at-entry .args .handle in
+    let e = at-table-refusal .table-refusal .ensures .0 in
+    let z = past-pool .if1 .left in
+    let t = call-no (is-held s e z h (at-entry .pre .0) (at-handle-fits .handle-fits .ensures)) (c .if2 .taken) in
     (pool-passes s (rule3 s h ∷ []) e z (sym (broken-here 3 [] t)), λ y. absurd (omega arith))
 
 returns-3 : tie.Need-returns-3
 returns-3 c =
-    let s = given (c .before .before .before .before .before .before .before .before) in
-    let h = c .before .before .before .before .before .before .before .before .args .handle in
-    let e = c .before .before .before .table-refusal .ensures .0 in
-    let z = c .before .before .if1 .left in
-    let t = call-yes (is-held s e z h (c .before .before .before .before .before .before .before .before .pre .0) (c .before .handle-fits .ensures)) (c .if2 .left) in
-    (pool-passes s (rule3 s h ∷ []) e z (sym (kept-then 3 [] t ∙ none-broken)), λ y. c .before .before .before .table-refusal .ensures .1 z)
+    let at-handle-fits = c .before in
+    let past-pool = at-handle-fits .before in
+    let at-table-refusal = past-pool .before in
+    let at-entry = at-table-refusal .before .before .before .before .before in
+    let s = given at-entry in
+    let h = at-entry .args .handle in
+    let e = at-table-refusal .table-refusal .ensures .0 in
+    let z = past-pool .if1 .left in
+    let t = call-yes (is-held s e z h (at-entry .pre .0) (at-handle-fits .handle-fits .ensures)) (c .if2 .left) in
+    (pool-passes s (rule3 s h ∷ []) e z (sym (kept-then 3 [] t ∙ none-broken)), λ y. at-table-refusal .table-refusal .ensures .1 z)
 
 pub handle-refusal-spec : {M : Type 1} → statement M
 handle-refusal-spec =

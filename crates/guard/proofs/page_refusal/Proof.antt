@@ -16,31 +16,42 @@ abbrev given : tie.Start → State
 given c = let a = c .args in state (a .pool) (a .frames .now) (a .store .now)
 
 table-refusal-requires : tie.Need-table-refusal-requires
-table-refusal-requires c κs = c .before .before .before .before .pre
+table-refusal-requires c κs =
+    let at-entry = c .before .before .before .before in
+    at-entry .pre
 
 returns : tie.Need-returns
-returns c = (pool-stops (given (c .before .before .before .before .before .before)) (rule6 (given (c .before .before .before .before .before .before)) (c .before .before .before .before .before .before .args .page .0) ∷ []) (c .before .table-refusal .ensures .0) (c .if1 .taken), λ z. absurd (c .if1 .taken z))
+returns c =
+    let at-table-refusal = c .before in
+    let at-entry = at-table-refusal .before .before .before .before .before in
+    (pool-stops (given at-entry) (rule6 (given at-entry) (at-entry .args .page .0) ∷ []) (at-table-refusal .table-refusal .ensures .0) (c .if1 .taken), λ z. absurd (c .if1 .taken z))
 
 cast-if2 : tie.Need-cast-if2
 cast-if2 c = search needs
 
 returns-2 : tie.Need-returns-2
 returns-2 c =
-    let s = given (c .before .before .before .before .before .before .before .before) in
-    let q = c .before .before .before .before .before .before .before .before .args .page .0 in
-    let e = c .before .before .before .table-refusal .ensures .0 in
-    let z = c .before .before .if1 .left in
+    let past-pool = c .before .before in
+    let at-table-refusal = past-pool .before in
+    let at-entry = at-table-refusal .before .before .before .before .before in
+    let s = given at-entry in
+    let q = at-entry .args .page .0 in
+    let e = at-table-refusal .table-refusal .ensures .0 in
+    let z = past-pool .if1 .left in
     let n = page-count s e z in
     (pool-passes s (rule6 s q ∷ []) e z (sym (broken-here 6 [] (le-ltb q (s .pool .pages) (omega (arith, n, c .if2 .taken))))), λ y. absurd (omega arith))
 
 returns-3 : tie.Need-returns-3
 returns-3 c =
-    let s = given (c .before .before .before .before .before .before .before .before) in
-    let q = c .before .before .before .before .before .before .before .before .args .page .0 in
-    let e = c .before .before .before .table-refusal .ensures .0 in
-    let z = c .before .before .if1 .left in
+    let past-pool = c .before .before in
+    let at-table-refusal = past-pool .before in
+    let at-entry = at-table-refusal .before .before .before .before .before in
+    let s = given at-entry in
+    let q = at-entry .args .page .0 in
+    let e = at-table-refusal .table-refusal .ensures .0 in
+    let z = past-pool .if1 .left in
     let n = page-count s e z in
-    (pool-passes s (rule6 s q ∷ []) e z (sym (kept-then 6 [] (lt-ltb q (s .pool .pages) (omega (arith, n, c .if2 .left))) ∙ none-broken)), λ y. c .before .before .before .table-refusal .ensures .1 z)
+    (pool-passes s (rule6 s q ∷ []) e z (sym (kept-then 6 [] (lt-ltb q (s .pool .pages) (omega (arith, n, c .if2 .left))) ∙ none-broken)), λ y. at-table-refusal .table-refusal .ensures .1 z)
 
 pub page-refusal-spec : {M : Type 1} → statement M
 page-refusal-spec =

@@ -14,22 +14,32 @@ abbrev given : tie.Start → State
 given c = let a = c .args in state (a .pool) (a .frames .now) (a .store .now)
 
 handle-refusal-requires : tie.Need-handle-refusal-requires
-handle-refusal-requires c κs = c .before .before .before .before .pre
+handle-refusal-requires c κs =
+    let at-entry = c .before .before .before .before in
+    at-entry .pre
 
 returns : tie.Need-returns
 returns c =
-    let a = c .before .before .before .before .before .before .args in
-    (handle-stops (given (c .before .before .before .before .before .before)) (a .handle) (rule4 (a .slot) ∷ []) (c .before .handle-refusal .ensures .0) (c .if1 .taken), λ z. absurd (c .if1 .taken z))
+    let at-handle-refusal = c .before in
+    let at-entry = at-handle-refusal .before .before .before .before .before in
+    let a = at-entry .args in
+    (handle-stops (given at-entry) (a .handle) (rule4 (a .slot) ∷ []) (at-handle-refusal .handle-refusal .ensures .0) (c .if1 .taken), λ z. absurd (c .if1 .taken z))
 
 returns-2 : tie.Need-returns-2
 returns-2 c =
-    let a = c .before .before .before .before .before .before .before .args in
-    (handle-passes (given (c .before .before .before .before .before .before .before)) (a .handle) (rule4 (a .slot) ∷ []) (c .before .before .handle-refusal .ensures .0) (c .before .if1 .left) (sym (broken-here 4 [] (le-ltb _ _ (c .if2 .taken)))), λ y. absurd (omega arith))
+    let past-handle = c .before in
+    let at-handle-refusal = past-handle .before in
+    let at-entry = at-handle-refusal .before .before .before .before .before in
+    let a = at-entry .args in
+    (handle-passes (given at-entry) (a .handle) (rule4 (a .slot) ∷ []) (at-handle-refusal .handle-refusal .ensures .0) (past-handle .if1 .left) (sym (broken-here 4 [] (le-ltb _ _ (c .if2 .taken)))), λ y. absurd (omega arith))
 
 returns-3 : tie.Need-returns-3
 returns-3 c =
-    let a = c .before .before .before .before .before .before .before .args in
-    (handle-passes (given (c .before .before .before .before .before .before .before)) (a .handle) (rule4 (a .slot) ∷ []) (c .before .before .handle-refusal .ensures .0) (c .before .if1 .left) (sym (kept-then 4 [] (lt-ltb _ _ (c .if2 .left)) ∙ none-broken)), λ y. c .before .before .handle-refusal .ensures .1 (c .before .if1 .left))
+    let past-handle = c .before in
+    let at-handle-refusal = past-handle .before in
+    let at-entry = at-handle-refusal .before .before .before .before .before in
+    let a = at-entry .args in
+    (handle-passes (given at-entry) (a .handle) (rule4 (a .slot) ∷ []) (at-handle-refusal .handle-refusal .ensures .0) (past-handle .if1 .left) (sym (kept-then 4 [] (lt-ltb _ _ (c .if2 .left)) ∙ none-broken)), λ y. at-handle-refusal .handle-refusal .ensures .1 (past-handle .if1 .left))
 
 pub slot-refusal-spec : {M : Type 1} → statement M
 slot-refusal-spec = tie.close (tie.spec handle-refusal-requires returns returns-2 returns-3)

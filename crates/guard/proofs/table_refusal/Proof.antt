@@ -26,19 +26,28 @@ returns : tie.Need-returns
 returns c = (sym (broken-here 1 _ (call-no (c .before .lengths-fit .ensures) (c .if1 .taken))), λ z. absurd (omega arith))
 
 agrees-requires : tie.Need-agrees-requires
-agrees-requires c κs = let h = sized (c .before .before) in (record { least = h .least; most = h .most; some = h .some; pages = h .pages; size = h .frames }, c .before .before .before .before .before .before .before .before .pre)
+agrees-requires c κs =
+    let past-lengths = c .before .before in
+    let at-entry = past-lengths .before .before .before .before .before .before in
+    let h = sized past-lengths in (record { least = h .least; most = h .most; some = h .some; pages = h .pages; size = h .frames }, at-entry .pre)
 
 returns-2 : tie.Need-returns-2
-returns-2 c = (
-  sym (kept-then 1 _ (call-yes (c .before .before .before .before .before .lengths-fit .ensures) (c .before .before .before .before .if1 .left)) ∙ broken-here 2 [] (call-no (c .before .agrees .ensures .0) (c .if2 .taken))),
-  λ z. absurd (omega arith),
-)
+returns-2 c =
+    let at-agrees = c .before in
+    let past-lengths = at-agrees .before .before .before in
+    let at-lengths-fit = past-lengths .before in (
+      sym (kept-then 1 _ (call-yes (at-lengths-fit .lengths-fit .ensures) (past-lengths .if1 .left)) ∙ broken-here 2 [] (call-no (at-agrees .agrees .ensures .0) (c .if2 .taken))),
+      λ z. absurd (omega arith),
+    )
 
 returns-3 : tie.Need-returns-3
-returns-3 c = (
-  sym (kept-then 1 _ (call-yes (c .before .before .before .before .before .lengths-fit .ensures) (c .before .before .before .before .if1 .left)) ∙ kept-then 2 [] (call-yes (c .before .agrees .ensures .0) (c .if2 .left)) ∙ none-broken),
-  λ z. c .before .agrees .ensures .1 (call-yes refl (c .if2 .left)),
-)
+returns-3 c =
+    let at-agrees = c .before in
+    let past-lengths = at-agrees .before .before .before in
+    let at-lengths-fit = past-lengths .before in (
+      sym (kept-then 1 _ (call-yes (at-lengths-fit .lengths-fit .ensures) (past-lengths .if1 .left)) ∙ kept-then 2 [] (call-yes (at-agrees .agrees .ensures .0) (c .if2 .left)) ∙ none-broken),
+      λ z. at-agrees .agrees .ensures .1 (call-yes refl (c .if2 .left)),
+    )
 
 pub table-refusal-spec : {M : Type 1} → statement M
 table-refusal-spec =

@@ -62,9 +62,14 @@ slice-aggregate-list-records-2 c = search needs
 
 list-records-requires : tie.Need-list-records-requires
 list-records-requires c κs =
-    let e = slice-aggregate-list-records (c .before) in
-    let h = slice-reshare-prefix-list-records (c .before .before) in
-    omega (arith, e, h, c .before .before .before .before .before .before .before .before .before .before .before .bytes2 .given, c .before .before .before .before .before .before .before .before .before .before .before .before .before .before .bytes .given)
+    let at-list-records-arg3 = c .before in
+    let at-list-records-arg2 = at-list-records-arg3 .before in
+    let at-count = at-list-records-arg2 .before .before .before .before in
+    let at-bytes2 = at-count .before .before .before .before .before in
+    let at-bytes = at-bytes2 .before .before .before in
+    let e = slice-aggregate-list-records at-list-records-arg3 in
+    let h = slice-reshare-prefix-list-records at-list-records-arg2 in
+    omega (arith, e, h, at-bytes2 .bytes2 .given, at-bytes .bytes .given)
 
 array-share-prefix-text : tie.Need-array-share-prefix-text
 array-share-prefix-text c = search needs

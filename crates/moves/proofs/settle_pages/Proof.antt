@@ -30,7 +30,11 @@ cast-t18 : tie.Need-cast-t18 Inv-loop μ-loop
 cast-t18 c = search needs
 
 write-out-requires : tie.Need-write-out-requires Inv-loop μ-loop
-write-out-requires c κs = let l = c .before .before .before .loop in settling-writable (l .inv .2) (c .before .before .before .before .before .before .pre .0) (c .before .before .loop-test .taken) (l .inv .1)
+write-out-requires c κs =
+    let past-frames = c .before .before in
+    let at-frames = past-frames .before in
+    let at-entry = at-frames .before .before .before in
+    let l = at-frames .loop in settling-writable (l .inv .2) (at-entry .pre .0) (past-frames .loop-test .taken) (l .inv .1)
 
 cleaned-requires : tie.Need-cleaned-requires Inv-loop μ-loop
 cleaned-requires c κs = search needs

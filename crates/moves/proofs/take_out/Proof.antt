@@ -6,7 +6,9 @@ use Rattle.moves.proofs.take_out.Statement.{statement}
 use Rattle.moves.proofs.take_out.Tie as tie
 
 write-bytes-out-requires : tie.Need-write-bytes-out-requires
-write-bytes-out-requires c κs = let a = c .before .before .before .before in (a .pre .writable, a .pre .alone)
+write-bytes-out-requires c κs =
+    let at-entry = c .before .before .before .before in
+    let a = at-entry in (a .pre .writable, a .pre .alone)
 
 from-u8-requires : tie.Need-from-u8-requires
 from-u8-requires c κs = search needs

@@ -40,7 +40,11 @@ bare-requires c κs = search needs
 
 returns : tie.Need-returns
 unfolding lineFor
-returns c = let a = c .before .before .before .before .before in line-listed _ (refused 17) _ (c .bare .ensures) (record-refused (given a) (bytes a) (call-no (c .before .before .is-call .ensures) (c .before .if1 .taken)))
+returns c =
+    let past-call = c .before in
+    let at-is-call = past-call .before in
+    let at-entry = at-is-call .before .before .before in
+    let a = at-entry in line-listed _ (refused 17) _ (c .bare .ensures) (record-refused (given a) (bytes a) (call-no (at-is-call .is-call .ensures) (past-call .if1 .taken)))
 
 element-copy-out-call : tie.Need-element-copy-out-call
 element-copy-out-call c = search needs
@@ -55,7 +59,9 @@ unfix-requires : tie.Need-unfix-requires
 unfix-requires c κs = search needs
 
 write-requires : tie.Need-write-requires
-write-requires c κs = fields (c .before .before .before .before) .short
+write-requires c κs =
+    let past-call = c .before .before .before .before in
+    fields past-call .short
 
 link-requires : tie.Need-link-requires
 link-requires c κs = search needs
@@ -79,7 +85,10 @@ same-length-2 : tie.Need-same-length-2
 same-length-2 c = search needs
 
 returns-2 : tie.Need-returns-2
-returns-2 c = c .root .ensures ∙ runs (c .before .before .before .before .before) _ (is-root _ (c .before .before .before .match .keys1))
+returns-2 c =
+    let at-match = c .before .before .before in
+    let past-call = at-match .before .before in
+    c .root .ensures ∙ runs past-call _ (is-root _ (at-match .match .keys1))
 
 same-length-3 : tie.Need-same-length-3
 same-length-3 c = search needs
@@ -88,7 +97,11 @@ same-length-4 : tie.Need-same-length-4
 same-length-4 c = search needs
 
 returns-3 : tie.Need-returns-3
-returns-3 c = c .before .before .before .before .fix .ensures ∙ runs (c .before .before .before .before .before .before .before .before .before) _ (is-fix _ (c .before .before .before .before .before .before .before .match .keys2))
+returns-3 c =
+    let at-fix = c .before .before .before .before in
+    let at-match = at-fix .before .before .before in
+    let past-call = at-match .before .before in
+    at-fix .fix .ensures ∙ runs past-call _ (is-fix _ (at-match .match .keys2))
 
 same-length-5 : tie.Need-same-length-5
 same-length-5 c = search needs
@@ -97,7 +110,10 @@ same-length-6 : tie.Need-same-length-6
 same-length-6 c = search needs
 
 returns-4 : tie.Need-returns-4
-returns-4 c = c .unfix .ensures ∙ runs (c .before .before .before .before .before) _ (is-unfix _ (c .before .before .before .match .keys3))
+returns-4 c =
+    let at-match = c .before .before .before in
+    let past-call = at-match .before .before in
+    c .unfix .ensures ∙ runs past-call _ (is-unfix _ (at-match .match .keys3))
 
 same-length-7 : tie.Need-same-length-7
 same-length-7 c = search needs
@@ -106,7 +122,11 @@ same-length-8 : tie.Need-same-length-8
 same-length-8 c = search needs
 
 returns-5 : tie.Need-returns-5
-returns-5 c = c .before .before .write .ensures ∙ runs (c .before .before .before .before .before .before .before) _ (is-write _ (c .before .before .before .before .before .match .keys4))
+returns-5 c =
+    let at-write = c .before .before in
+    let at-match = at-write .before .before .before in
+    let past-call = at-match .before .before in
+    at-write .write .ensures ∙ runs past-call _ (is-write _ (at-match .match .keys4))
 
 same-length-9 : tie.Need-same-length-9
 same-length-9 c = search needs
@@ -115,7 +135,11 @@ same-length-10 : tie.Need-same-length-10
 same-length-10 c = search needs
 
 returns-6 : tie.Need-returns-6
-returns-6 c = c .before .before .link .ensures ∙ runs (c .before .before .before .before .before .before .before) _ (is-link _ (c .before .before .before .before .before .match .keys5))
+returns-6 c =
+    let at-link = c .before .before in
+    let at-match = at-link .before .before .before in
+    let past-call = at-match .before .before in
+    at-link .link .ensures ∙ runs past-call _ (is-link _ (at-match .match .keys5))
 
 same-length-11 : tie.Need-same-length-11
 same-length-11 c = search needs
@@ -124,7 +148,11 @@ same-length-12 : tie.Need-same-length-12
 same-length-12 c = search needs
 
 returns-7 : tie.Need-returns-7
-returns-7 c = c .before .before .unlink .ensures ∙ runs (c .before .before .before .before .before .before .before) _ (is-unlink _ (c .before .before .before .before .before .match .keys6))
+returns-7 c =
+    let at-unlink = c .before .before in
+    let at-match = at-unlink .before .before .before in
+    let past-call = at-match .before .before in
+    at-unlink .unlink .ensures ∙ runs past-call _ (is-unlink _ (at-match .match .keys6))
 
 same-length-13 : tie.Need-same-length-13
 same-length-13 c = search needs
@@ -133,7 +161,11 @@ same-length-14 : tie.Need-same-length-14
 same-length-14 c = search needs
 
 returns-8 : tie.Need-returns-8
-returns-8 c = c .before .before .before .before .evict .ensures ∙ runs (c .before .before .before .before .before .before .before .before .before) _ (is-evict _ (c .before .before .before .before .before .before .before .match .keys7))
+returns-8 c =
+    let at-evict = c .before .before .before .before in
+    let at-match = at-evict .before .before .before in
+    let past-call = at-match .before .before in
+    at-evict .evict .ensures ∙ runs past-call _ (is-evict _ (at-match .match .keys7))
 
 same-length-15 : tie.Need-same-length-15
 same-length-15 c = search needs
@@ -142,7 +174,11 @@ same-length-16 : tie.Need-same-length-16
 same-length-16 c = search needs
 
 returns-9 : tie.Need-returns-9
-returns-9 c = c .before .before .settle .ensures ∙ runs (c .before .before .before .before .before .before .before) _ (is-settle _ (c .before .before .before .before .before .match .keys8))
+returns-9 c =
+    let at-settle = c .before .before in
+    let at-match = at-settle .before .before .before in
+    let past-call = at-match .before .before in
+    at-settle .settle .ensures ∙ runs past-call _ (is-settle _ (at-match .match .keys8))
 
 same-length-17 : tie.Need-same-length-17
 same-length-17 c = search needs
@@ -151,7 +187,10 @@ same-length-18 : tie.Need-same-length-18
 same-length-18 c = search needs
 
 returns-10 : tie.Need-returns-10
-returns-10 c = c .find .ensures ∙ runs (c .before .before .before .before .before) _ (is-find _ (last-call _ (fields (c .before .before .before .before .before)) (c .before .before .before .match .rest)))
+returns-10 c =
+    let at-match = c .before .before .before in
+    let past-call = at-match .before .before in
+    c .find .ensures ∙ runs past-call _ (is-find _ (last-call _ (fields past-call) (at-match .match .rest)))
 
 pub list-record-spec : {M : Type 1} → statement M
 list-record-spec =

@@ -41,7 +41,10 @@ element-copy-out-if1 : tie.Need-element-copy-out-if1 Inv-loop μ-loop
 element-copy-out-if1 c = search needs
 
 returns : tie.Need-returns Inv-loop μ-loop
-returns c = sym (c .before .before .before .before .loop .inv .1 ∙ here _ _ _ _ (c .before .before .before .loop-test .taken) (c .if1 .taken))
+returns c =
+    let past-frames = c .before .before .before in
+    let at-frames = past-frames .before in
+    sym (at-frames .loop .inv .1 ∙ here _ _ _ _ (past-frames .loop-test .taken) (c .if1 .taken))
 
 add-i : tie.Need-add-i Inv-loop μ-loop
 add-i c = search needs
@@ -50,7 +53,10 @@ loop-less : tie.Need-loop-less Inv-loop μ-loop
 loop-less c = search needs
 
 loop-again : tie.Need-loop-again Inv-loop μ-loop
-loop-again c = (omega arith, c .before .before .before .before .loop .inv .1 ∙ other _ _ _ _ (c .before .before .before .loop-test .taken) (c .if1 .left))
+loop-again c =
+    let past-frames = c .before .before .before in
+    let at-frames = past-frames .before in
+    (omega arith, at-frames .loop .inv .1 ∙ other _ _ _ _ (past-frames .loop-test .taken) (c .if1 .left))
 
 returns-2 : tie.Need-returns-2 Inv-loop μ-loop
 returns-2 c = sym (c .before .loop .inv .1 ∙ past _ _ _ _ (c .loop-test .left))

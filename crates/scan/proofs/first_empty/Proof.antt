@@ -45,7 +45,12 @@ cast-result : tie.Need-cast-result Inv-loop μ-loop
 cast-result c = search needs
 
 returns : tie.Need-returns Inv-loop μ-loop
-returns c = sym (c .before .before .before .before .loop .inv .2 ∙ here _ _ _ _ (c .before .before .before .loop-test .taken) (call-no (c .before .before .holds-page .ensures) (c .before .if1 .taken)))
+returns c =
+    let past-empty = c .before in
+    let at-holds-page = past-empty .before in
+    let past-frames = at-holds-page .before in
+    let at-frames = past-frames .before in
+    sym (at-frames .loop .inv .2 ∙ here _ _ _ _ (past-frames .loop-test .taken) (call-no (at-holds-page .holds-page .ensures) (past-empty .if1 .taken)))
 
 next-frame-requires : tie.Need-next-frame-requires Inv-loop μ-loop
 next-frame-requires c κs = search needs
@@ -58,7 +63,11 @@ loop-less c = search needs
 
 loop-again : tie.Need-loop-again Inv-loop μ-loop
 loop-again c =
-    (omega arith, c .next-frame .ensures .1, c .before .before .before .before .loop .inv .2 ∙ on _ _ _ _ _ (c .before .before .before .loop-test .taken) (call-yes (c .before .before .holds-page .ensures) (c .before .if1 .left)) (c .next-frame .ensures .0))
+    let past-empty = c .before in
+    let at-holds-page = past-empty .before in
+    let past-frames = at-holds-page .before in
+    let at-frames = past-frames .before in
+    (omega arith, c .next-frame .ensures .1, at-frames .loop .inv .2 ∙ on _ _ _ _ _ (past-frames .loop-test .taken) (call-yes (at-holds-page .holds-page .ensures) (past-empty .if1 .left)) (c .next-frame .ensures .0))
 
 returns-2 : tie.Need-returns-2 Inv-loop μ-loop
 returns-2 c = sym (c .before .loop .inv .2 ∙ past _ _ _ _ (c .loop-test .left))

@@ -31,7 +31,10 @@ cast-x : tie.Need-cast-x Inv-loop μ-loop
 cast-x c = record { fits = omega (arith, c .before .before .before .pre .0 (c .before .before .loop .k) (omega arith)) }
 
 note-requires : tie.Need-note-requires Inv-loop μ-loop
-note-requires c κs = c .before .before .before .before .pre .0 (c .before .before .before .loop .k) (omega arith)
+note-requires c κs =
+    let at-numbers = c .before .before .before in
+    let at-entry = at-numbers .before in
+    at-entry .pre .0 (at-numbers .loop .k) (omega arith)
 
 add-k : tie.Need-add-k Inv-loop μ-loop
 add-k c = search needs
@@ -41,9 +44,12 @@ loop-less c = search needs
 
 loop-again : tie.Need-loop-again Inv-loop μ-loop
 loop-again c =
-    let l = c .before .before .before .before .before .loop in (
+    let at-note = c .before in
+    let at-numbers = at-note .before .before .before .before in
+    let at-entry = at-numbers .before in
+    let l = at-numbers .loop in (
       omega arith,
-      marked-more _ _ _ (l .k) (omega arith) (l .seen) _ refl (λ n. c .before .before .before .before .before .before .pre .0 (l .k) (omega arith)) _ _ (c .before .note .ensures) _ _
+      marked-more _ _ _ (l .k) (omega arith) (l .seen) _ refl (λ n. at-entry .pre .0 (l .k) (omega arith)) _ _ (at-note .note .ensures) _ _
           (⊎-elim (λ a. flag-cleared (l .fresh) (not-true _ (a .0 .taken)) (a .1)) (λ a. flag-kept (l .fresh) (not-false _ (a .0 .left)) (a .1)) (c .if1 .came))
           (l .inv .1),
     )

@@ -38,8 +38,11 @@ cast-w c = search needs
 -- a word that isn't below the limit
 returns : tie.Need-returns Inv-loop μ-loop
 returns c =
-    marked-false _ _ _ _ _ (omega arith) (c .before .before .before .before .loop .seen) _
-    (marked-large _ _ _ (c .before .before .before .before .loop .k) _ (sym (c .before .before .name-at .ensures)) (c .before .if1 .taken) (c .if2 .taken) _)
+    let past-zero = c .before in
+    let at-name-at = past-zero .before in
+    let at-words = at-name-at .before .before in
+    marked-false _ _ _ _ _ (omega arith) (at-words .loop .seen) _
+    (marked-large _ _ _ (at-words .loop .k) _ (sym (at-name-at .name-at .ensures)) (past-zero .if1 .taken) (c .if2 .taken) _)
 
 mark-requires : tie.Need-mark-requires Inv-loop μ-loop
 mark-requires c κs = search needs

@@ -25,12 +25,17 @@ has-word-requires : tie.Need-has-word-requires Inv-loop μ-loop
 has-word-requires c κs = search needs
 
 mark-page-requires : tie.Need-mark-page-requires Inv-loop μ-loop
-mark-page-requires c κs = (omega arith, omega arith, c .before .before .before .before .before .loop .inv .1 .tells .table)
+mark-page-requires c κs =
+    let at-pages = c .before .before .before .before .before in
+    (omega arith, omega arith, at-pages .loop .inv .1 .tells .table)
 
 returns : tie.Need-returns Inv-loop μ-loop
 returns c =
-    fail-page _ _ (omega arith) _ _ (c .before .before .before .before .before .before .before .loop .inv .1) _ (omega arith)
-    (rw (c .before .before .before .before .before .start .ensures, not-true (c .before .mark-page .result) (c .if2 .taken)) at (c .before .mark-page .ensures))
+    let at-mark-page = c .before in
+    let at-start = at-mark-page .before .before .before .before in
+    let at-pages = at-start .before .before in
+    fail-page _ _ (omega arith) _ _ (at-pages .loop .inv .1) _ (omega arith)
+    (rw (at-start .start .ensures, not-true (at-mark-page .mark-page .result) (c .if2 .taken)) at (at-mark-page .mark-page .ensures))
 
 add-p : tie.Need-add-p Inv-loop μ-loop
 add-p c = search needs
@@ -39,13 +44,16 @@ loop-less : tie.Need-loop-less Inv-loop μ-loop
 loop-less c = search needs
 
 loop-again : tie.Need-loop-again Inv-loop μ-loop
-loop-again c = (
-  omega arith,
-  ⊎-elim
-      (λ a. rw (a .4) (pass-page _ _ (omega arith) _ _ (c .before .before .before .before .loop .inv .1) _ (rw (c .before .before .start .ensures, not-false (a .2 .result) (a .3 .left)) at (a .2 .ensures))))
-      (λ a. rw (a .1) (pass-over _ _ (omega arith) _ _ (c .before .before .before .before .loop .inv .1) (sym (rw (c .before .before .start .ensures) at (c .before .has-word .ensures)) ∙ a .0 .left)))
-      (c .if1 .came),
-)
+loop-again c =
+    let at-has-word = c .before in
+    let at-start = at-has-word .before in
+    let at-pages = at-start .before .before in (
+      omega arith,
+      ⊎-elim
+          (λ a. rw (a .4) (pass-page _ _ (omega arith) _ _ (at-pages .loop .inv .1) _ (rw (at-start .start .ensures, not-false (a .2 .result) (a .3 .left)) at (a .2 .ensures))))
+          (λ a. rw (a .1) (pass-over _ _ (omega arith) _ _ (at-pages .loop .inv .1) (sym (rw (at-start .start .ensures) at (at-has-word .has-word .ensures)) ∙ a .0 .left)))
+          (c .if1 .came),
+    )
 
 returns-2 : tie.Need-returns-2 Inv-loop μ-loop
 returns-2 c =

@@ -18,18 +18,29 @@ resident-fits-requires : tie.Need-resident-fits-requires
 resident-fits-requires c κs = search needs
 
 returns-2 : tie.Need-returns-2
-returns-2 c = λ k. fails (c .before .resident-fits .result) _ (c .before .resident-fits .ensures) (not-true _ (c .if3 .taken)) (k .resident (c .before .before .before .before .if1 .left) (eq-eqb _ 1 (c .before .before .if2 .taken)))
+returns-2 c =
+    let at-resident-fits = c .before in
+    let past-used = at-resident-fits .before in
+    let past-root = past-used .before .before in
+    λ k. fails (at-resident-fits .resident-fits .result) _ (at-resident-fits .resident-fits .ensures) (not-true _ (c .if3 .taken)) (k .resident (past-root .if1 .left) (eq-eqb _ 1 (past-used .if2 .taken)))
 
 is-linked-requires : tie.Need-is-linked-requires
 is-linked-requires c κs =
-    let r : ResidentFits (c .before .before .before .before .before .before .before .args .count) (c .before .before .before .before .before .before .before .args .pages) (c .before .before .before .before .before .before .before .args .rec) = decided (c .before .resident-fits .result) _ (c .before .resident-fits .ensures) (not-false _ (c .if3 .left)) in
-    let S = c .before .before .before .before .before .before .before .pre .0 in
-    omega (arith, r .parent, r .slot, S .most, S .size, c .before .before .before .before .before .before .before .pre .1)
+    let at-resident-fits = c .before in
+    let at-entry = at-resident-fits .before .before .before .before .before .before in
+    let r : ResidentFits (at-entry .args .count) (at-entry .args .pages) (at-entry .args .rec) = decided (at-resident-fits .resident-fits .result) _ (at-resident-fits .resident-fits .ensures) (not-false _ (c .if3 .left)) in
+    let S = at-entry .pre .0 in
+    omega (arith, r .parent, r .slot, S .most, S .size, at-entry .pre .1)
 
 returns-3 : tie.Need-returns-3
 returns-3 c =
-    let r : ResidentFits (c .before .before .before .before .before .before .before .before .args .count) (c .before .before .before .before .before .before .before .before .args .pages) (c .before .before .before .before .before .before .before .before .args .rec) = decided (c .before .before .resident-fits .result) _ (c .before .before .resident-fits .ensures) (not-false _ (c .before .if3 .left)) in
-    decide-by (c .is-linked .result) _ _ (λ k. fits-linked _ _ _ _ _ _ (c .before .before .before .before .before .if1 .left) (eq-eqb _ 1 (c .before .before .before .if2 .taken)) r k) (λ k. k .linked (c .before .before .before .before .before .if1 .left) (eq-eqb _ 1 (c .before .before .before .if2 .taken))) (c .is-linked .ensures)
+    let past-resident = c .before in
+    let at-resident-fits = past-resident .before in
+    let past-used = at-resident-fits .before in
+    let past-root = past-used .before .before in
+    let at-entry = past-root .before .before .before in
+    let r : ResidentFits (at-entry .args .count) (at-entry .args .pages) (at-entry .args .rec) = decided (at-resident-fits .resident-fits .result) _ (at-resident-fits .resident-fits .ensures) (not-false _ (past-resident .if3 .left)) in
+    decide-by (c .is-linked .result) _ _ (λ k. fits-linked _ _ _ _ _ _ (past-root .if1 .left) (eq-eqb _ 1 (past-used .if2 .taken)) r k) (λ k. k .linked (past-root .if1 .left) (eq-eqb _ 1 (past-used .if2 .taken))) (c .is-linked .ensures)
 
 is-blank-requires : tie.Need-is-blank-requires
 is-blank-requires c κs = search needs

@@ -25,8 +25,15 @@ returns-6 c = search needs
 
 returns-7 : tie.Need-returns-7
 returns-7 c =
-    decide-equal _ 0 (Blank (c .before .before .before .before .before .before .before .before .before .before .before .before .before .args .rec))
-    (λ e. record { used = c .before .before .before .before .before .before .before .before .before .before .before .if1 .left; dirty = c .before .before .before .before .before .before .before .before .before .if2 .left; usage = c .before .before .before .before .before .before .before .if3 .left; slot = c .before .before .before .before .before .if4 .left; parent = c .before .before .before .if5 .left; pins = c .before .if6 .left; page = e })
+    let past-pins = c .before in
+    let past-parent = past-pins .before .before in
+    let past-slot = past-parent .before .before in
+    let past-usage = past-slot .before .before in
+    let past-dirty = past-usage .before .before in
+    let past-used = past-dirty .before .before in
+    let at-entry = past-used .before .before in
+    decide-equal _ 0 (Blank (at-entry .args .rec))
+    (λ e. record { used = past-used .if1 .left; dirty = past-dirty .if2 .left; usage = past-usage .if3 .left; slot = past-slot .if4 .left; parent = past-parent .if5 .left; pins = past-pins .if6 .left; page = e })
     (λ b. b .page)
 
 pub is-blank-spec : {M : Type 1} → statement M

@@ -39,11 +39,14 @@ loop-less c = search needs
 
 loop-again : tie.Need-loop-again Inv-loop μ-loop
 loop-again c =
-    let e = ap (entry (c .before .before .before .before .before .loop .table)) (c .before .before .from-u8 .ensures) in
-    let l : c .before .before .before .before .before .loop .f < c .before .before .before .before .before .before .args .count = omega arith in (
+    let at-from-u8 = c .before .before in
+    let at-frames = at-from-u8 .before .before .before in
+    let at-entry = at-frames .before in
+    let e = ap (entry (at-frames .loop .table)) (at-from-u8 .from-u8 .ensures) in
+    let l : at-frames .loop .f < at-entry .args .count = omega arith in (
       omega arith,
-      jumped-more (c .before .before .before .before .before .before .args .count) _ (c .before .before .before .before .before .loop .table) _ _ l e (c .before .before .before .before .before .loop .inv .1),
-      at-root-more (c .before .before .before .before .before .before .args .count) (c .before .before .before .before .before .loop .table) _ _ l (c .before .before .before .before .before .loop .inv .1 .below .size) _ _ (c .before .before .before .before .before .loop .inv .2)
+      jumped-more (at-entry .args .count) _ (at-frames .loop .table) _ _ l e (at-frames .loop .inv .1),
+      at-root-more (at-entry .args .count) (at-frames .loop .table) _ _ l (at-frames .loop .inv .1 .below .size) _ _ (at-frames .loop .inv .2)
           (λ n. ⊎-elim (λ a. a .1) (λ a. absurd (n (a .0 .left))) (c .if1 .came))
           (λ z. ⊎-elim (λ a. absurd (a .0 .taken z)) (λ a. a .1) (c .if1 .came)),
     )

@@ -27,8 +27,11 @@ jump-requires c κs = (c .before .before .before .pre .0, c .before .before .loo
 
 returns : tie.Need-returns Inv-loop μ-loop
 returns c =
-    let s = c .before .jump .ensures .jumps _ _ (c .before .before .before .before .before .pre .1 .lt) (c .before .before .before .before .loop .inv .2) in
-    lead-of _ _ _ _ s (decided _ _ (c .before .jump .ensures .root) (c .if1 .taken))
+    let at-jump = c .before in
+    let at-rounds = at-jump .before .before .before in
+    let at-entry = at-rounds .before in
+    let s = at-jump .jump .ensures .jumps _ _ (at-entry .pre .1 .lt) (at-rounds .loop .inv .2) in
+    lead-of _ _ _ _ s (decided _ _ (at-jump .jump .ensures .root) (c .if1 .taken))
 
 mul-steps : tie.Need-mul-steps Inv-loop μ-loop
 mul-steps c = search needs
@@ -38,8 +41,11 @@ loop-less c = search needs
 
 loop-again : tie.Need-loop-again Inv-loop μ-loop
 loop-again c =
-    let s = c .before .jump .ensures .jumps _ _ (c .before .before .before .before .before .pre .1 .lt) (c .before .before .before .before .loop .inv .2) in
-    (omega arith, omega arith, rw (twice (c .before .before .before .before .loop .steps)) s, c .before .jump .ensures .below, λ h. fails _ _ (c .before .jump .ensures .root) (c .if1 .left))
+    let at-jump = c .before in
+    let at-rounds = at-jump .before .before .before in
+    let at-entry = at-rounds .before in
+    let s = at-jump .jump .ensures .jumps _ _ (at-entry .pre .1 .lt) (at-rounds .loop .inv .2) in
+    (omega arith, omega arith, rw (twice (at-rounds .loop .steps)) s, at-jump .jump .ensures .below, λ h. fails _ _ (at-jump .jump .ensures .root) (c .if1 .left))
 
 returns-2 : tie.Need-returns-2 Inv-loop μ-loop
 returns-2 c = λ lead. c .before .loop .inv .4 (omega arith) (at-root _ _ _ _ (c .before .before .pre .1 .lt) (c .before .before .pre .2) (omega arith) (c .before .loop .inv .2) lead)

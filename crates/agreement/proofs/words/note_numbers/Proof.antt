@@ -39,17 +39,21 @@ numbers-below-requires c κs = search needs
 
 mark-numbers-requires : tie.Need-mark-numbers-requires
 mark-numbers-requires c κs =
-    let at-page = c .before .before .before .before .before .before in
+    let at-numbers-below = c .before .before in
+    let at-note = at-numbers-below .before .before .before .before in
+    let at-page = at-note in
     let at-start = at-page .before .before .before .before in (
-      λ k h. omega (arith, numbers-lt _ _ _ _ (let o : 1 ≤ at-start .args .pages = omega arith in o) (c .before .before .numbers-below .ensures) k h),
+      λ k h. omega (arith, numbers-lt _ _ _ _ (let o : 1 ≤ at-start .args .pages = omega arith in o) (at-numbers-below .numbers-below .ensures) k h),
       at-page .note .ensures .table (at-start .pre .3),
     )
 
 -- the words were marked
 returns-2 : tie.Need-returns-2
 returns-2 c =
-    let at-numbers = c .before .before .before in
-    let at-sum = c .before .before .before .before .before in
+    let at-numbers-below = c .before .before .before in
+    let at-word-sum = at-numbers-below .before .before in
+    let at-numbers = at-numbers-below in
+    let at-sum = at-word-sum in
     let at-page = at-sum .before .before in
     let at-start = at-page .before .before .before .before in
     let T = at-sum .word-sum .ensures in

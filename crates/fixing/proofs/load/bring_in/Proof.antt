@@ -27,8 +27,18 @@ Inv-loop2 frames store parent slot page residents seen next₀ n count most empt
 abbrev μ-loop2 : tie.MeasureT-loop2
 μ-loop2 frames store parent slot page residents seen next₀ n count most empty sights f walk taken g₀ next g = most - g
 
+-- the start, from where no frame is empty, from what the sweep sees, and from the records that it left
+abbrev start : tie.Else2 Inv-loop μ-loop Inv-loop2 μ-loop2 → tie.Start Inv-loop μ-loop Inv-loop2 μ-loop2
+start c = let at-loadable = c .before .before .before .before in at-loadable .before .before .before .before .before
+
+abbrev start-of-sweep : tie.After-loop Inv-loop μ-loop Inv-loop2 μ-loop2 → tie.Start Inv-loop μ-loop Inv-loop2 μ-loop2
+start-of-sweep c = start (c .before .before)
+
+abbrev start-of-cooling : tie.After-loop2 Inv-loop μ-loop Inv-loop2 μ-loop2 → tie.Start Inv-loop μ-loop Inv-loop2 μ-loop2
+start-of-cooling c = let at-sweep = c .before .before .before in start-of-sweep (at-sweep .before .before)
+
 -- rule 14 is kept, and no frame is empty
-full : (c : tie.Else2 Inv-loop μ-loop Inv-loop2 μ-loop2) → let a = c .before .before .before .before .before .before .before .before .before .args in (x : Out) → let s = state (a .pool) (a .frames .now) (a .store .now) in x ≡ sweptDecided s (a .parent .0) (a .slot) (a .page .0) → x ≡ missDecided s (a .parent .0) (a .slot) (a .page .0)
+full : (c : tie.Else2 Inv-loop μ-loop Inv-loop2 μ-loop2) → let a = start c .args in (x : Out) → let s = state (a .pool) (a .frames .now) (a .store .now) in x ≡ sweptDecided s (a .parent .0) (a .slot) (a .page .0) → x ≡ missDecided s (a .parent .0) (a .slot) (a .page .0)
 full c x =
     let at-empty = c .before in
     let past-loadable = at-empty .before .before in
@@ -37,21 +47,21 @@ full c x =
     let h = at-entry .pre in miss-full _ _ _ _ (call-yes (loadable-told _ (h .0) (h .1) _ (at-loadable .is-loadable .ensures)) (past-loadable .if1 .left)) (empty-told _ (h .0) (h .1) (at-empty .first-empty .ensures)) (c .if2 .left)
 
 -- the sweep sees every frame
-seen-all : (c : tie.After-loop Inv-loop μ-loop Inv-loop2 μ-loop2) → let a = c .before .before .before .before .before .before .before .before .before .before .before .args in Sees (kind (a .frames .now)) (a .pool .records) (c .before .loop .sights) (a .pool .count)
+seen-all : (c : tie.After-loop Inv-loop μ-loop Inv-loop2 μ-loop2) → let a = start-of-sweep c .args in Sees (kind (a .frames .now)) (a .pool .records) (c .before .loop .sights) (a .pool .count)
 seen-all c =
     let at-sights = c .before in
-    let at-entry = at-sights .before .before .before .before .before .before .before .before .before .before in
+    let at-entry = start-of-sweep c in
     let e : at-sights .loop .f ≡ at-entry .args .pool .count = omega arith in
     rw e at (at-sights .loop .inv .1)
 
 -- a frame was taken, and the records are as the sweep leaves them
-taken : (c : tie.After-loop2 Inv-loop μ-loop Inv-loop2 μ-loop2) → let a = c .before .before .before .before .before .before .before .before .before .before .before .before .before .before .before .before .args in Took (state (a .pool) (a .frames .now) (a .store .now)) (c .before .before .before .sweep .result) (c .before .loop2 .next)
+taken : (c : tie.After-loop2 Inv-loop μ-loop Inv-loop2 μ-loop2) → let a = start-of-cooling c .args in Took (state (a .pool) (a .frames .now) (a .store .now)) (c .before .before .before .sweep .result) (c .before .loop2 .next)
 taken c =
     let at-cooling = c .before in
     let past-sweep = at-cooling .before in
     let at-sweep = past-sweep .before in
     let past-sights = at-sweep .before .before in
-    let at-entry = past-sights .before .before .before .before .before .before .before .before .before .before .before in
+    let at-entry = start-of-cooling c in
     let e : at-cooling .loop2 .g ≡ at-entry .args .pool .count = omega arith in
     took _ (ready _ (at-entry .pre .0)) (seen-all past-sights) (at-sweep .sweep .ensures) (not-false _ (past-sweep .if3 .left)) (rw e at (at-cooling .loop2 .inv .1))
 

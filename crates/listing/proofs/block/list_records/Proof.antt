@@ -19,7 +19,9 @@ abbrev μ-loop : tie.MeasureT-loop
 μ-loop frames₀ store₀ block text₀ count pool₀ end₀ odd₀ i₀ frames store text pool end odd i = count - i
 
 loop-holds : tie.Need-loop-holds Inv-loop μ-loop
-loop-holds c = (search needs, omega arith, search needs, c .before .before .before .before .pre, refl, refl, refl, all-listed _ _ _)
+loop-holds c =
+    let at-entry = c .before .before .before .before in
+    (search needs, omega arith, search needs, at-entry .pre, refl, refl, refl, all-listed _ _ _)
 
 mul-at : tie.Need-mul-at Inv-loop μ-loop
 mul-at c = search needs
@@ -55,17 +57,29 @@ put-line-requires : tie.Need-put-line-requires Inv-loop μ-loop
 put-line-requires c κs = search needs
 
 add-i : tie.Need-add-i Inv-loop μ-loop
-add-i c = let h = add-copy-into (c .before .before .before .before .before .before .before .before .before .before .before .before .before .before .before .before .before .before) .fits in record { fits = omega (arith, h) }
+add-i c =
+    let at-oddity = c .before .before .before .before .before .before in
+    let at-list-record = at-oddity .before .before .before .before .before in
+    let at-copy-into = at-list-record .before .before .before .before .before in
+    let past-entry = at-copy-into .before .before in
+    let h = add-copy-into past-entry .fits in record { fits = omega (arith, h) }
 
 loop-less : tie.Need-loop-less Inv-loop μ-loop
 loop-less c = search needs
 
 loop-again : tie.Need-loop-again Inv-loop μ-loop
 loop-again c =
-    let l = c .before .before .before .before .before .before .before .before .before .before .before .before .before .before .before .before .before .before .before .before .loop in
-    let b = c .before .before .before .before .before .before .before .before .before .before .before .before .before .before .before .before .before .before .before .before .before .before .before .before .before .args .block .now in
-    let run = one-printed (take (l .end) (l .text)) _ (c .before .before .before .before .before .before .before .before .before .before .before .list-record .ensures) (c .before .before .before .put-line .ensures .1) in
-    (omega arith, l .inv .1, omega arith, l .inv .3, omega arith, omega arith, omega arith, l .inv .7 ∙ one-listed b (length b / 16) (l .i) (take (l .end) (l .text)) (state (l .pool) (l .frames) (l .store)) (c .before .before .before .before .before .before .before .before .before .before .before .before .before .before .before .before .before .before .before .loop-test .taken) (c .before .before .before .before .before .before .before .before .before .before .before .before .before .before .before .before .copy-into .ensures .0) run)
+    let at-put-line = c .before .before .before in
+    let at-oddity = at-put-line .before .before .before in
+    let at-list-record = at-oddity .before .before .before .before .before in
+    let at-copy-into = at-list-record .before .before .before .before .before in
+    let past-records = at-copy-into .before .before .before in
+    let at-records = past-records .before in
+    let at-entry = at-records .before .before .before .before .before in
+    let l = at-records .loop in
+    let b = at-entry .args .block .now in
+    let run = one-printed (take (l .end) (l .text)) _ (at-list-record .list-record .ensures) (at-put-line .put-line .ensures .1) in
+    (omega arith, l .inv .1, omega arith, l .inv .3, omega arith, omega arith, omega arith, l .inv .7 ∙ one-listed b (length b / 16) (l .i) (take (l .end) (l .text)) (state (l .pool) (l .frames) (l .store)) (past-records .loop-test .taken) (at-copy-into .copy-into .ensures .0) run)
 
 same-length : tie.Need-same-length Inv-loop μ-loop
 same-length c = c .before .loop .inv .4
@@ -78,8 +92,10 @@ same-length-3 c = c .before .loop .inv .6
 
 returns : tie.Need-returns Inv-loop μ-loop
 returns c =
-    let l = c .before .loop in
-    let b = c .before .before .before .before .before .before .args .block .now in
+    let at-records = c .before in
+    let at-entry = at-records .before .before .before .before .before in
+    let l = at-records .loop in
+    let b = at-entry .args .block .now in
     let h : l .end ≤ length (l .text) = omega arith in
     (counts _ _ h, sym (l .inv .7 ∙ none-listed b (length b / 16) (l .i) _ (c .loop-test .left)))
 

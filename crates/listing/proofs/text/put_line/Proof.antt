@@ -30,7 +30,12 @@ same-length : tie.Need-same-length
 same-length c = omega arith
 
 returns : tie.Need-returns
-returns c = (omega arith, line-put _ _ _ _ _ _ _ _ (c .before .before .before .before .before .before .before .before .before .before .before .before .before .before .before .before .put-number .ensures .1) (c .before .before .before .before .before .before .before .before .before .before .before .put-number2 .ensures .1) (c .before .before .before .before .before .before .put-number3 .ensures .1) (c .before .before .put-number4 .ensures .1))
+returns c =
+    let at-put-number4 = c .before .before in
+    let at-put-number3 = at-put-number4 .before .before .before .before in
+    let at-put-number2 = at-put-number3 .before .before .before .before .before in
+    let at-put-number = at-put-number2 .before .before .before .before .before in
+    (omega arith, line-put _ _ _ _ _ _ _ _ (at-put-number .put-number .ensures .1) (at-put-number2 .put-number2 .ensures .1) (at-put-number3 .put-number3 .ensures .1) (at-put-number4 .put-number4 .ensures .1))
 
 pub put-line-spec : {M : Type 1} → statement M
 put-line-spec =

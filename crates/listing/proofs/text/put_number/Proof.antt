@@ -42,8 +42,10 @@ loop-less c = search needs
 
 loop-again : tie.Need-loop-again Inv-loop μ-loop
 loop-again c =
-    let l = c .before .loop in
-    let a = c .before .before .before .before .before .args in
+    let at-digits = c .before in
+    let at-entry = at-digits .before .before .before .before in
+    let l = at-digits .loop in
+    let a = at-entry .args in
     let h : a .at + l .i < length (l .text) = omega arith in
     (search needs, l .inv .1, l .inv .2, simp length-set (l .inv .3), l .inv .4, l .inv .5, put-digit (l .text) (a .text .now) _ (a .at) (l .i) _ h (c .loop-test .taken) (l .inv .2) (l .inv .6))
 
@@ -64,11 +66,14 @@ same-length c = simp length-set (c .before .loop .inv .3)
 
 returns : tie.Need-returns Inv-loop μ-loop
 returns c =
-    let l = c .before .loop in
-    let a = c .before .before .before .before .before .args in
-    let k = c .before .before .decimal .result in
+    let at-digits = c .before in
+    let at-decimal = at-digits .before in
+    let at-entry = at-decimal .before .before .before in
+    let l = at-digits .loop in
+    let a = at-entry .args in
+    let k = at-decimal .decimal .result in
     let h : a .at + k < length (l .text) = omega arith in
-    (search needs, put-after (l .text) (a .text .now) _ (a .at) (a .n) k (l .i) (a .after) h (l .inv .0) (c .loop-test .left) (small (a .n) (c .before .before .before .before .before .fits .n)) (l .inv .4) (l .inv .5) (l .inv .6))
+    (search needs, put-after (l .text) (a .text .now) _ (a .at) (a .n) k (l .i) (a .after) h (l .inv .0) (c .loop-test .left) (small (a .n) (at-entry .fits .n)) (l .inv .4) (l .inv .5) (l .inv .6))
 
 pub put-number-spec : {M : Type 1} → statement M
 put-number-spec =

@@ -59,7 +59,12 @@ mul-t14 c = search needs
 
 element-copy-out-t17 : tie.Need-element-copy-out-t17 Inv-loop μ-loop
 element-copy-out-t17 c =
-    named _ _ _ _ _ (c .before .before .before .loop-test .taken) (c .before .before .before .before .before .before .before .before .before .before .before .pre .2) (c .before .before .word-at .ensures) (c .before .name-of .ensures) (c .frame-in .ensures)
+    let at-name-of = c .before in
+    let at-word-at = at-name-of .before in
+    let past-words = at-word-at .before in
+    let at-copy-into = past-words .before .before .before .before in
+    let at-entry = at-copy-into .before .before .before .before in
+    named _ _ _ _ _ (past-words .loop-test .taken) (at-entry .pre .2) (at-word-at .word-at .ensures) (at-name-of .name-of .ensures) (c .frame-in .ensures)
 
 plain-name-requires : tie.Need-plain-name-requires Inv-loop μ-loop
 plain-name-requires c κs = search needs

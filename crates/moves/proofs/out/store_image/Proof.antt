@@ -11,7 +11,11 @@ childless-requires : tie.Need-childless-requires
 childless-requires c κs = search needs
 
 store-bytes-requires : tie.Need-store-bytes-requires
-store-bytes-requires c κs = (c .before .before .before .before .before .pre .0, sym (c .before .before .childless .ensures) ∙ c .before .if1 .taken)
+store-bytes-requires c κs =
+    let past-childless = c .before in
+    let at-childless = past-childless .before in
+    let at-entry = at-childless .before .before .before in
+    (at-entry .pre .0, sym (at-childless .childless .ensures) ∙ past-childless .if1 .taken)
 
 same-length : tie.Need-same-length
 same-length c = search needs
@@ -53,17 +57,23 @@ part-put-image-end-2 : tie.Need-part-put-image-end-2
 part-put-image-end-2 c = search needs
 
 put-image-requires : tie.Need-put-image-requires
-put-image-requires c κs = (search needs, search needs, part-named _ _ _ (c .before .before .start2 .ensures) (c .before .before .before .before .before .before .before .before .before .pre .1))
+put-image-requires c κs =
+    let at-start2 = c .before .before in
+    let at-childless = at-start2 .before .before .before .before in
+    let at-entry = at-childless .before .before .before in
+    (search needs, search needs, part-named _ _ _ (at-start2 .start2 .ensures) (at-entry .pre .1))
 
 same-length-2 : tie.Need-same-length-2
 same-length-2 c = search needs
 
 returns-2 : tie.Need-returns-2
 returns-2 c =
-    let frame = c .before .before .before .before .before in
+    let at-put-image = c .before .before in
+    let at-start2 = at-put-image .before .before .before in
+    let frame = at-start2 in
     let place = frame .before .before in
     let to = frame .before .start .ensures ∙ ap (λ (p : ℕ). pageSize * p) (place .place .ensures) in
-    image-back _ _ _ _ _ _ _ _ (frame .start2 .ensures) to (place .before .before .before .before .before .pre .0 .bytes) (c .before .before .put-image .ensures)
+    image-back _ _ _ _ _ _ _ _ (frame .start2 .ensures) to (place .before .before .before .before .before .pre .0 .bytes) (at-put-image .put-image .ensures)
 
 pub store-image-spec : {M : Type 1} → statement M
 store-image-spec =

@@ -9,13 +9,18 @@ returns : tie.Need-returns
 returns c = λ page. written-clean page _ _ _ _ (ne-eqb _ 1 (c .if1 .taken))
 
 store-bytes-requires : tie.Need-store-bytes-requires
-store-bytes-requires c κs = let a = c .before .before .before .before .before .before in (a .pre .0 .placed, a .pre .1)
+store-bytes-requires c κs =
+    let at-entry = c .before .before .before .before .before .before in
+    let a = at-entry in (a .pre .0 .placed, a .pre .1)
 
 same-length : tie.Need-same-length
 same-length c = search needs
 
 returns-2 : tie.Need-returns-2
-returns-2 c = λ page. written-dirty page _ _ _ _ _ (eq-eqb _ 1 (c .before .before .before .before .before .if1 .left)) (c .before .before .store-bytes .ensures page)
+returns-2 c =
+    let at-store-bytes = c .before .before in
+    let past-clean = at-store-bytes .before .before .before in
+    λ page. written-dirty page _ _ _ _ _ (eq-eqb _ 1 (past-clean .if1 .left)) (at-store-bytes .store-bytes .ensures page)
 
 pub write-bytes-out-spec : {M : Type 1} → statement M
 write-bytes-out-spec = tie.close (tie.spec returns store-bytes-requires same-length returns-2)

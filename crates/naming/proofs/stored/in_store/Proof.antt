@@ -36,8 +36,13 @@ is-resident-requires c κs = search needs
 
 returns : tie.Need-returns Inv-loop μ-loop
 returns c =
-    sym (in-page _ _ _ _ (c .before .before .before .before .before .before .loop .p) (omega arith)
-    (sym (rw (c .before .before .before .before .start .ensures) at (c .before .before .before .has .ensures)) ∙ c .before .before .if1 .taken) (call-no (c .before .is-resident .ensures) (c .if2 .taken)))
+    let at-is-resident = c .before in
+    let past-has = at-is-resident .before in
+    let at-has = past-has .before in
+    let at-start = at-has .before in
+    let at-pages = at-start .before .before in
+    sym (in-page _ _ _ _ (at-pages .loop .p) (omega arith)
+    (sym (rw (at-start .start .ensures) at (at-has .has .ensures)) ∙ past-has .if1 .taken) (call-no (at-is-resident .is-resident .ensures) (c .if2 .taken)))
 
 add-p : tie.Need-add-p Inv-loop μ-loop
 add-p c = search needs
@@ -46,14 +51,17 @@ loop-less : tie.Need-loop-less Inv-loop μ-loop
 loop-less c = search needs
 
 loop-again : tie.Need-loop-again Inv-loop μ-loop
-loop-again c = (
-  omega arith,
-  ⊎-elim
-      (λ a. pass-resident _ _ _ _ (call-yes (a .1 .ensures) (a .2 .left)))
-      (λ a. pass-other _ _ _ _ (sym (rw (c .before .before .start .ensures) at (c .before .has .ensures)) ∙ a .left))
-      (c .if1 .came)
-      ∙ c .before .before .before .before .loop .inv .1,
-)
+loop-again c =
+    let at-has = c .before in
+    let at-start = at-has .before in
+    let at-pages = at-start .before .before in (
+      omega arith,
+      ⊎-elim
+          (λ a. pass-resident _ _ _ _ (call-yes (a .1 .ensures) (a .2 .left)))
+          (λ a. pass-other _ _ _ _ (sym (rw (at-start .start .ensures) at (at-has .has .ensures)) ∙ a .left))
+          (c .if1 .came)
+          ∙ at-pages .loop .inv .1,
+    )
 
 returns-2 : tie.Need-returns-2 Inv-loop μ-loop
 returns-2 c =

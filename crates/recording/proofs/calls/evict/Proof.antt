@@ -20,7 +20,10 @@ same-length-2 : tie.Need-same-length-2
 same-length-2 c = search needs
 
 returns : tie.Need-returns
-returns c = line-listed _ _ _ (c .of-done .ensures) (rw (c .before .before .before .before .before .before .before .before .page .ensures) at (c .before .before .before .before .before .evict .ensures))
+returns c =
+    let at-evict = c .before .before .before .before .before in
+    let at-page = at-evict .before .before .before in
+    line-listed _ _ _ (c .of-done .ensures) (rw (at-page .page .ensures) at (at-evict .evict .ensures))
 
 pub evict-spec : {M : Type 1} → statement M
 evict-spec =

@@ -16,9 +16,12 @@ of-find-requires c κs = search needs
 
 returns : tie.Need-returns
 returns c =
-    let a = c .before .before .before .before .before .args in
+    let at-find = c .before in
+    let at-page = at-find .before in
+    let at-entry = at-page .before .before .before in
+    let a = at-entry .args in
     let s : State = state (a .pool) (a .frames .now) (a .store .now) in
-    line-listed _ _ _ (c .of-find .ensures) (rw (c .before .before .page .ensures) at (find-leaves s (c .before .before .page .result) (c .before .find .ensures)))
+    line-listed _ _ _ (c .of-find .ensures) (rw (at-page .page .ensures) at (find-leaves s (at-page .page .result) (at-find .find .ensures)))
 
 pub find-spec : {M : Type 1} → statement M
 find-spec = tie.close (tie.spec page-requires find-requires of-find-requires returns)

@@ -23,7 +23,11 @@ same-length-2 : tie.Need-same-length-2
 same-length-2 c = search needs
 
 returns : tie.Need-returns
-returns c = line-listed _ _ _ (c .of-fix .ensures) (rw (c .before .before .before .before .before .before .before .before .before .handle .ensures, c .before .before .before .before .before .before .before .before .slot .ensures) at (c .before .before .before .before .before .fix .ensures))
+returns c =
+    let at-fix = c .before .before .before .before .before in
+    let at-slot = at-fix .before .before .before in
+    let at-handle = at-slot .before in
+    line-listed _ _ _ (c .of-fix .ensures) (rw (at-handle .handle .ensures, at-slot .slot .ensures) at (at-fix .fix .ensures))
 
 pub fix-spec : {M : Type 1} → statement M
 fix-spec =

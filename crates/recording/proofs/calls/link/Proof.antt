@@ -23,7 +23,12 @@ same-length : tie.Need-same-length
 same-length c = search needs
 
 returns : tie.Need-returns
-returns c = line-listed _ _ _ (c .of-done .ensures) (rw (c .before .before .before .before .before .before .before .parent .ensures, c .before .before .before .before .before .before .slot .ensures, c .before .before .before .before .before .page .ensures) at (c .before .before .before .link .ensures))
+returns c =
+    let at-link = c .before .before .before in
+    let at-page = at-link .before .before in
+    let at-slot = at-page .before in
+    let at-parent = at-slot .before in
+    line-listed _ _ _ (c .of-done .ensures) (rw (at-parent .parent .ensures, at-slot .slot .ensures, at-page .page .ensures) at (at-link .link .ensures))
 
 pub link-spec : {M : Type 1} → statement M
 link-spec =

@@ -20,7 +20,11 @@ same-length : tie.Need-same-length
 same-length c = search needs
 
 returns : tie.Need-returns
-returns c = line-listed _ _ _ (c .of-done .ensures) (rw (c .before .before .before .before .before .before .handle .ensures, c .before .before .before .before .before .slot .ensures) at (c .before .before .before .unlink .ensures))
+returns c =
+    let at-unlink = c .before .before .before in
+    let at-slot = at-unlink .before .before in
+    let at-handle = at-slot .before in
+    line-listed _ _ _ (c .of-done .ensures) (rw (at-handle .handle .ensures, at-slot .slot .ensures) at (at-unlink .unlink .ensures))
 
 pub unlink-spec : {M : Type 1} → statement M
 unlink-spec =

@@ -23,7 +23,12 @@ same-length : tie.Need-same-length
 same-length c = search needs
 
 returns : tie.Need-returns
-returns c = line-listed _ _ _ (c .of-done .ensures) (rw (c .before .before .before .before .before .before .before .handle .ensures, c .before .before .before .before .before .before .offset .ensures, c .before .before .before .before .before .bytes .ensures) at (c .before .before .before .write .ensures))
+returns c =
+    let at-write = c .before .before .before in
+    let at-bytes = at-write .before .before in
+    let at-offset = at-bytes .before in
+    let at-handle = at-offset .before in
+    line-listed _ _ _ (c .of-done .ensures) (rw (at-handle .handle .ensures, at-offset .offset .ensures, at-bytes .bytes .ensures) at (at-write .write .ensures))
 
 pub write-spec : {M : Type 1} → statement M
 write-spec =

@@ -18,7 +18,10 @@ element-copy-out-rec : tie.Need-element-copy-out-rec
 element-copy-out-rec c = search needs
 
 handle-refusal-requires : tie.Need-handle-refusal-requires
-handle-refusal-requires c κs = (ap (recordAt (c .before .before .before .before .before .before .args .pool .records)) (c .before .before .before .record-place .ensures), record { noPage = refl; noneSeen = refl })
+handle-refusal-requires c κs =
+    let at-record-place = c .before .before .before in
+    let at-entry = at-record-place .before .before .before in
+    (ap (recordAt (at-entry .args .pool .records)) (at-record-place .record-place .ensures), record { noPage = refl; noneSeen = refl })
 
 returns : tie.Need-returns
 unfolding unfixCall

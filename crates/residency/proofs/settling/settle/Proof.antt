@@ -25,7 +25,11 @@ same-length-2 c = search needs
 
 returns-2 : tie.Need-returns-2
 unfolding settleCall
-returns-2 c = done-yes _ _ (c .before .before .before .before .before .before .table-refusal .ensures .0) (c .before .before .before .before .before .if1 .left) (c .before .before .settle-pages .ensures)
+returns-2 c =
+    let at-settle-pages = c .before .before in
+    let past-refusal = at-settle-pages .before .before .before in
+    let at-table-refusal = past-refusal .before in
+    done-yes _ _ (at-table-refusal .table-refusal .ensures .0) (past-refusal .if1 .left) (at-settle-pages .settle-pages .ensures)
 
 pub settle-spec : {M : Type 1} → statement M
 settle-spec =
