@@ -12,6 +12,7 @@ use Rattle.contents.proofs.find.Tie as tie
 page-refusal-requires : tie.Need-page-refusal-requires
 page-refusal-requires c κs = search needs
 
+-- refused
 returns : tie.Need-returns
 unfolding findCall
 returns c = answer-no _ _ _ (c .before .page-refusal .ensures .0) (c .if1 .taken)
@@ -25,6 +26,7 @@ cast-t17 c =
     let at-page-refusal = past-refusal .before in
     let h = few-frames _ _ (at-page-refusal .page-refusal .ensures) (past-refusal .if1 .left) refl in omega (arith, h)
 
+-- the frame that holds it
 returns-2 : tie.Need-returns-2
 returns-2 c =
     let at-find-frame = c .before in
@@ -32,6 +34,7 @@ returns-2 c =
     let at-page-refusal = past-refusal .before in
     find-at _ _ (at-page-refusal .page-refusal .ensures) (past-refusal .if1 .left) refl (at-find-frame .find-frame .ensures) (c .if2 .taken)
 
+-- no frame
 returns-3 : tie.Need-returns-3
 returns-3 c =
     let at-find-frame = c .before in

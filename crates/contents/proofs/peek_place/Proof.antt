@@ -16,6 +16,7 @@ page-refusal-requires c κs = search needs
 refused-requires : tie.Need-refused-requires
 refused-requires c κs = search needs
 
+-- refused
 returns : tie.Need-returns
 unfolding peekCall
 returns c = c .refused .ensures ∙ ap placeOf (answer-no _ _ _ (c .before .before .page-refusal .ensures .0) (c .before .if1 .taken))
@@ -32,6 +33,7 @@ cast-t17 c =
 in-frame-requires : tie.Need-in-frame-requires
 in-frame-requires c κs = search needs
 
+-- in its frame
 returns-2 : tie.Need-returns-2
 returns-2 c =
     let past-found = c .before in
@@ -44,6 +46,7 @@ returns-2 c =
 in-store-requires : tie.Need-in-store-requires
 in-store-requires c κs = search needs
 
+-- in the store
 returns-3 : tie.Need-returns-3
 returns-3 c =
     let past-found = c .before in

@@ -23,6 +23,7 @@ slot-refusal-requires c κs =
     let at-entry = at-record-place .before .before .before in
     (ap (recordAt (at-entry .args .t1 .records)) (at-record-place .record-place .ensures), record { noPage = refl; noneSeen = refl })
 
+-- refused
 returns : tie.Need-returns
 unfolding wordCall
 returns c = answer-no _ _ _ (c .before .slot-refusal .ensures .0) (c .if1 .taken)
@@ -33,6 +34,7 @@ slot-name-requires c κs = slot-within _ _ _ (c .before .slot-refusal .ensures) 
 page-named-requires : tie.Need-page-named-requires
 page-named-requires c κs = resolvable _ _ _ (c .before .before .before .slot-refusal .ensures) (c .before .before .if1 .left) (c .before .slot-name .ensures)
 
+-- the page that the word names
 returns-2 : tie.Need-returns-2
 returns-2 c =
     let at-slot-name = c .before .before in

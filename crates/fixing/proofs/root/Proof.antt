@@ -10,6 +10,7 @@ pool-refusal-requires c κs = search needs
 refused-requires : tie.Need-refused-requires
 refused-requires c κs = search needs
 
+-- rules 1 and 2
 returns : tie.Need-returns
 returns c = root-denied _ (c .before .before .pool-refusal .ensures) (c .before .if1 .taken) (c .refused .ensures)
 
@@ -19,6 +20,7 @@ element-copy-out-rec c = search needs
 refused-requires-2 : tie.Need-refused-requires-2
 refused-requires-2 c κs = search needs
 
+-- rule 13
 returns-2 : tie.Need-returns-2
 returns-2 c =
     let past-pins = c .before in
@@ -35,6 +37,7 @@ element-set-from-next c = search needs
 given-requires : tie.Need-given-requires
 given-requires c κs = search needs
 
+-- page 0 has one pin more
 returns-3 : tie.Need-returns-3
 returns-3 c =
     let at-pinned = c .before in

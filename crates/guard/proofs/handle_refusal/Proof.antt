@@ -19,6 +19,7 @@ table-refusal-requires c κs =
     let at-entry = c .before .before .before .before in
     at-entry .pre .1
 
+-- rules 1 and 2
 returns : tie.Need-returns
 returns c =
     let at-table-refusal = c .before in
@@ -28,6 +29,7 @@ returns c =
 handle-fits-requires : tie.Need-handle-fits-requires
 handle-fits-requires c κs = search needs
 
+-- rule 3
 returns-2 : tie.Need-returns-2
 returns-2 c =
     let at-handle-fits = c .before in
@@ -41,6 +43,7 @@ returns-2 c =
     let t = call-no (is-held s e z h (at-entry .pre .0) (at-handle-fits .handle-fits .ensures)) (c .if2 .taken) in
     (pool-passes s (rule3 s h ∷ []) e z (sym (broken-here 3 [] t)), λ y. absurd (omega arith))
 
+-- no rule is broken
 returns-3 : tie.Need-returns-3
 returns-3 c =
     let at-handle-fits = c .before in

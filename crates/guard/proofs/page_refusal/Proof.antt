@@ -20,6 +20,7 @@ table-refusal-requires c κs =
     let at-entry = c .before .before .before .before in
     at-entry .pre
 
+-- rules 1 and 2
 returns : tie.Need-returns
 returns c =
     let at-table-refusal = c .before in
@@ -29,6 +30,7 @@ returns c =
 cast-if2 : tie.Need-cast-if2
 cast-if2 c = search needs
 
+-- rule 6
 returns-2 : tie.Need-returns-2
 returns-2 c =
     let past-pool = c .before .before in
@@ -41,6 +43,7 @@ returns-2 c =
     let n = page-count s e z in
     (pool-passes s (rule6 s q ∷ []) e z (sym (broken-here 6 [] (le-ltb q (s .pool .pages) (omega (arith, n, c .if2 .taken))))), λ y. absurd (omega arith))
 
+-- no rule is broken
 returns-3 : tie.Need-returns-3
 returns-3 c =
     let past-pool = c .before .before in

@@ -18,6 +18,7 @@ handle-refusal-requires c κs =
     let at-entry = c .before .before .before .before in
     at-entry .pre
 
+-- rules 1 to 3
 returns : tie.Need-returns
 returns c =
     let at-handle-refusal = c .before in
@@ -25,6 +26,7 @@ returns c =
     let a = at-entry .args in
     (handle-stops (given at-entry) (a .handle) (rule4 (a .slot) ∷ []) (at-handle-refusal .handle-refusal .ensures .0) (c .if1 .taken), λ z. absurd (c .if1 .taken z))
 
+-- rule 4
 returns-2 : tie.Need-returns-2
 returns-2 c =
     let past-handle = c .before in
@@ -33,6 +35,7 @@ returns-2 c =
     let a = at-entry .args in
     (handle-passes (given at-entry) (a .handle) (rule4 (a .slot) ∷ []) (at-handle-refusal .handle-refusal .ensures .0) (past-handle .if1 .left) (sym (broken-here 4 [] (le-ltb _ _ (c .if2 .taken)))), λ y. absurd (omega arith))
 
+-- no rule is broken
 returns-3 : tie.Need-returns-3
 returns-3 c =
     let past-handle = c .before in

@@ -22,6 +22,7 @@ cast-n c = search needs
 lengths-fit-requires : tie.Need-lengths-fit-requires
 lengths-fit-requires c κs = search needs
 
+-- rule 1
 returns : tie.Need-returns
 returns c = (sym (broken-here 1 _ (call-no (c .before .lengths-fit .ensures) (c .if1 .taken))), λ z. absurd (omega arith))
 
@@ -31,6 +32,7 @@ agrees-requires c κs =
     let at-entry = past-lengths .before .before .before .before .before .before in
     let h = sized past-lengths in (record { least = h .least; most = h .most; some = h .some; pages = h .pages; size = h .frames }, at-entry .pre)
 
+-- rule 2
 returns-2 : tie.Need-returns-2
 returns-2 c =
     let at-agrees = c .before in
@@ -40,6 +42,7 @@ returns-2 c =
       λ z. absurd (omega arith),
     )
 
+-- no rule is broken
 returns-3 : tie.Need-returns-3
 returns-3 c =
     let at-agrees = c .before in

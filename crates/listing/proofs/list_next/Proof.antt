@@ -24,6 +24,7 @@ unread-requires c κs = search needs
 last-requires : tie.Need-last-requires
 last-requires c κs = search needs
 
+-- the read failed
 returns : tie.Need-returns
 returns c = search needs
 
@@ -45,6 +46,7 @@ ended-requires c κs = search needs
 last-requires-2 : tie.Need-last-requires-2
 last-requires-2 c κs = search needs
 
+-- the input is at its end
 returns-2 : tie.Need-returns-2
 returns-2 c = search needs
 
@@ -86,6 +88,7 @@ unwritten-requires c κs = search needs
 last-requires-3 : tie.Need-last-requires-3
 last-requires-3 c κs = search needs
 
+-- the write failed
 returns-3 : tie.Need-returns-3
 returns-3 c = search needs
 
@@ -98,6 +101,7 @@ wrapping-add-u64-requires c κs = search needs
 wrapping-add-u64-requires-2 : tie.Need-wrapping-add-u64-requires-2
 wrapping-add-u64-requires-2 c κs = search needs
 
+-- its lines are out
 returns-4 : tie.Need-returns-4
 returns-4 c = let h = c .before .before .before .keep-rest .ensures .0 in omega (arith, h)
 

@@ -38,6 +38,7 @@ is-call-requires c κs = search needs
 bare-requires : tie.Need-bare-requires
 bare-requires c κs = search needs
 
+-- no call: 17
 returns : tie.Need-returns
 unfolding lineFor
 returns c =
@@ -84,6 +85,7 @@ same-length c = search needs
 same-length-2 : tie.Need-same-length-2
 same-length-2 c = search needs
 
+-- root
 returns-2 : tie.Need-returns-2
 returns-2 c =
     let at-match = c .before .before .before in
@@ -96,6 +98,7 @@ same-length-3 c = search needs
 same-length-4 : tie.Need-same-length-4
 same-length-4 c = search needs
 
+-- fix
 returns-3 : tie.Need-returns-3
 returns-3 c =
     let at-fix = c .before .before .before .before in
@@ -109,6 +112,7 @@ same-length-5 c = search needs
 same-length-6 : tie.Need-same-length-6
 same-length-6 c = search needs
 
+-- unfix
 returns-4 : tie.Need-returns-4
 returns-4 c =
     let at-match = c .before .before .before in
@@ -121,6 +125,7 @@ same-length-7 c = search needs
 same-length-8 : tie.Need-same-length-8
 same-length-8 c = search needs
 
+-- write
 returns-5 : tie.Need-returns-5
 returns-5 c =
     let at-write = c .before .before in
@@ -134,6 +139,7 @@ same-length-9 c = search needs
 same-length-10 : tie.Need-same-length-10
 same-length-10 c = search needs
 
+-- link
 returns-6 : tie.Need-returns-6
 returns-6 c =
     let at-link = c .before .before in
@@ -147,6 +153,7 @@ same-length-11 c = search needs
 same-length-12 : tie.Need-same-length-12
 same-length-12 c = search needs
 
+-- unlink
 returns-7 : tie.Need-returns-7
 returns-7 c =
     let at-unlink = c .before .before in
@@ -160,6 +167,7 @@ same-length-13 c = search needs
 same-length-14 : tie.Need-same-length-14
 same-length-14 c = search needs
 
+-- evict
 returns-8 : tie.Need-returns-8
 returns-8 c =
     let at-evict = c .before .before .before .before in
@@ -173,6 +181,7 @@ same-length-15 c = search needs
 same-length-16 : tie.Need-same-length-16
 same-length-16 c = search needs
 
+-- settle
 returns-9 : tie.Need-returns-9
 returns-9 c =
     let at-settle = c .before .before in
@@ -186,6 +195,7 @@ same-length-17 c = search needs
 same-length-18 : tie.Need-same-length-18
 same-length-18 c = search needs
 
+-- find
 returns-10 : tie.Need-returns-10
 returns-10 c =
     let at-match = c .before .before .before in

@@ -40,6 +40,7 @@ mul-if1 c = search needs
 element-copy-out-if1 : tie.Need-element-copy-out-if1 Inv-loop μ-loop
 element-copy-out-if1 c = search needs
 
+-- this frame holds it
 returns : tie.Need-returns Inv-loop μ-loop
 returns c =
     let past-frames = c .before .before .before in
@@ -58,6 +59,7 @@ loop-again c =
     let at-frames = past-frames .before in
     (omega arith, at-frames .loop .inv .1 ∙ other _ _ _ _ (past-frames .loop-test .taken) (c .if1 .left))
 
+-- none does
 returns-2 : tie.Need-returns-2 Inv-loop μ-loop
 returns-2 c = sym (c .before .loop .inv .1 ∙ past _ _ _ _ (c .loop-test .left))
 

@@ -44,6 +44,7 @@ holds-page-requires c κs = search needs
 cast-result : tie.Need-cast-result Inv-loop μ-loop
 cast-result c = search needs
 
+-- this frame is empty
 returns : tie.Need-returns Inv-loop μ-loop
 returns c =
     let past-empty = c .before in
@@ -69,6 +70,7 @@ loop-again c =
     let at-frames = past-frames .before in
     (omega arith, c .next-frame .ensures .1, at-frames .loop .inv .2 ∙ on _ _ _ _ _ (past-frames .loop-test .taken) (call-yes (at-holds-page .holds-page .ensures) (past-empty .if1 .left)) (c .next-frame .ensures .0))
 
+-- none is
 returns-2 : tie.Need-returns-2 Inv-loop μ-loop
 returns-2 c = sym (c .before .loop .inv .2 ∙ past _ _ _ _ (c .loop-test .left))
 

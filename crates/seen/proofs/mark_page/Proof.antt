@@ -74,6 +74,7 @@ loop-again c =
           (c .if1 .came),
     )
 
+-- every word is passed
 returns-3 : tie.Need-returns-3 Inv-loop μ-loop
 returns-3 c = let e : c .before .loop .k ≡ 16 = omega arith in rw e at (c .before .loop .inv .1)
 

@@ -29,6 +29,7 @@ mark-page-requires c κs =
     let at-pages = c .before .before .before .before .before in
     (omega arith, omega arith, at-pages .loop .inv .1 .tells .table)
 
+-- a word is out of range, or a number stands twice
 returns : tie.Need-returns Inv-loop μ-loop
 returns c =
     let at-mark-page = c .before in
@@ -55,6 +56,7 @@ loop-again c =
           (c .if1 .came),
     )
 
+-- every page is passed
 returns-2 : tie.Need-returns-2 Inv-loop μ-loop
 returns-2 c =
     let e : c .before .loop .p ≡ c .before .before .before .args .n = omega arith in

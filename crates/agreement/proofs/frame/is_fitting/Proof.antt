@@ -11,12 +11,14 @@ use Rattle.agreement.proofs.frame.is_fitting.Tie as tie
 root-fits-requires : tie.Need-root-fits-requires
 root-fits-requires c κs = search needs
 
+-- the root
 returns : tie.Need-returns
 returns c = decide-by (c .root-fits .result) _ _ (λ k. fits-root _ _ _ _ _ _ (c .before .if1 .taken) k) (λ k. k .root (c .before .if1 .taken)) (c .root-fits .ensures)
 
 resident-fits-requires : tie.Need-resident-fits-requires
 resident-fits-requires c κs = search needs
 
+-- a record out of range
 returns-2 : tie.Need-returns-2
 returns-2 c =
     let at-resident-fits = c .before in
@@ -32,6 +34,7 @@ is-linked-requires c κs =
     let S = at-entry .pre .0 in
     omega (arith, r .parent, r .slot, S .most, S .size, at-entry .pre .1)
 
+-- an occupied frame, by the word that names it
 returns-3 : tie.Need-returns-3
 returns-3 c =
     let past-resident = c .before in
@@ -45,6 +48,7 @@ returns-3 c =
 is-blank-requires : tie.Need-is-blank-requires
 is-blank-requires c κs = search needs
 
+-- an empty frame
 returns-4 : tie.Need-returns-4
 returns-4 c = decide-by (c .is-blank .result) _ _ (λ b. fits-empty _ _ _ _ _ _ (c .before .before .before .if1 .left) b) (λ k. k .empty (ne-eqb _ 1 (c .before .if2 .left))) (c .is-blank .ensures)
 

@@ -5,24 +5,31 @@ use Rattle.agreement.specs.Fit.{Blank}
 use Rattle.agreement.proofs.record.is_blank.Statement.{statement}
 use Rattle.agreement.proofs.record.is_blank.Tie as tie
 
+-- used
 returns : tie.Need-returns
 returns c = search needs
 
+-- dirty
 returns-2 : tie.Need-returns-2
 returns-2 c = search needs
 
+-- usage
 returns-3 : tie.Need-returns-3
 returns-3 c = search needs
 
+-- slot
 returns-4 : tie.Need-returns-4
 returns-4 c = search needs
 
+-- parent
 returns-5 : tie.Need-returns-5
 returns-5 c = search needs
 
+-- pins
 returns-6 : tie.Need-returns-6
 returns-6 c = search needs
 
+-- the page decides
 returns-7 : tie.Need-returns-7
 returns-7 c =
     let past-pins = c .before in

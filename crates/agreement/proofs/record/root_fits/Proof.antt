@@ -6,24 +6,31 @@ use Rattle.agreement.specs.Deciding.{decide-flag}
 use Rattle.agreement.proofs.record.root_fits.Statement.{statement}
 use Rattle.agreement.proofs.record.root_fits.Tie as tie
 
+-- pins
 returns : tie.Need-returns
 returns c = search needs
 
+-- usage
 returns-2 : tie.Need-returns-2
 returns-2 c = search needs
 
+-- dirty
 returns-3 : tie.Need-returns-3
 returns-3 c = search needs
 
+-- slot
 returns-4 : tie.Need-returns-4
 returns-4 c = search needs
 
+-- parent
 returns-5 : tie.Need-returns-5
 returns-5 c = search needs
 
+-- page
 returns-6 : tie.Need-returns-6
 returns-6 c = search needs
 
+-- its use decides
 returns-7 : tie.Need-returns-7
 returns-7 c =
     let past-page = c .before in

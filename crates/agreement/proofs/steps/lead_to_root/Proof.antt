@@ -25,6 +25,7 @@ twice n = omega arith
 jump-requires : tie.Need-jump-requires Inv-loop μ-loop
 jump-requires c κs = (c .before .before .before .pre .0, c .before .before .loop .inv .3)
 
+-- all are at frame 0
 returns : tie.Need-returns Inv-loop μ-loop
 returns c =
     let at-jump = c .before in
@@ -47,6 +48,7 @@ loop-again c =
     let s = at-jump .jump .ensures .jumps _ _ (at-entry .pre .1 .lt) (at-rounds .loop .inv .2) in
     (omega arith, omega arith, rw (twice (at-rounds .loop .steps)) s, at-jump .jump .ensures .below, λ h. fails _ _ (at-jump .jump .ensures .root) (c .if1 .left))
 
+-- 64 steps, and one is not
 returns-2 : tie.Need-returns-2 Inv-loop μ-loop
 returns-2 c = λ lead. c .before .loop .inv .4 (omega arith) (at-root _ _ _ _ (c .before .before .pre .1 .lt) (c .before .before .pre .2) (omega arith) (c .before .loop .inv .2) lead)
 

@@ -20,6 +20,7 @@ store-bytes-requires c κs =
 same-length : tie.Need-same-length
 same-length c = search needs
 
+-- no word is swizzled: the bytes
 returns : tie.Need-returns
 returns c = c .before .before .store-bytes .ensures _
 
@@ -66,6 +67,7 @@ put-image-requires c κs =
 same-length-2 : tie.Need-same-length-2
 same-length-2 c = search needs
 
+-- the words by their numbers
 returns-2 : tie.Need-returns-2
 returns-2 c =
     let at-put-image = c .before .before in

@@ -5,6 +5,7 @@ use Rattle.moves.specs.MoveSteps.{written-clean, written-dirty}
 use Rattle.moves.proofs.out.write_out.Statement.{statement}
 use Rattle.moves.proofs.out.write_out.Tie as tie
 
+-- clean
 returns : tie.Need-returns
 returns c = written-clean _ _ _ _ _ (ne-eqb _ 1 (c .if1 .taken))
 
@@ -17,6 +18,7 @@ store-image-requires c κs =
 same-length : tie.Need-same-length
 same-length c = search needs
 
+-- dirty
 returns-2 : tie.Need-returns-2
 returns-2 c =
     let at-store-image = c .before .before in

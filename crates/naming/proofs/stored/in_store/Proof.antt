@@ -34,6 +34,7 @@ cast-t12 c = search needs
 is-resident-requires : tie.Need-is-resident-requires Inv-loop μ-loop
 is-resident-requires c κs = search needs
 
+-- a page in no frame has it
 returns : tie.Need-returns Inv-loop μ-loop
 returns c =
     let at-is-resident = c .before in
@@ -63,6 +64,7 @@ loop-again c =
           ∙ at-pages .loop .inv .1,
     )
 
+-- none has
 returns-2 : tie.Need-returns-2 Inv-loop μ-loop
 returns-2 c =
     let e : c .before .loop .p ≡ c .before .before .before .args .n = omega arith in

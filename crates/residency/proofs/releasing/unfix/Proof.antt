@@ -23,6 +23,7 @@ handle-refusal-requires c κs =
     let at-entry = at-record-place .before .before .before in
     (ap (recordAt (at-entry .args .pool .records)) (at-record-place .record-place .ensures), record { noPage = refl; noneSeen = refl })
 
+-- refused
 returns : tie.Need-returns
 unfolding unfixCall
 returns c = done-no _ _ _ (c .before .handle-refusal .ensures .0) (c .if1 .taken)
@@ -38,6 +39,7 @@ mul-t13 c = search needs
 element-set-from-next : tie.Need-element-set-from-next
 element-set-from-next c = search needs
 
+-- one pin less
 returns-2 : tie.Need-returns-2
 returns-2 c =
     let tested = c .before .before in

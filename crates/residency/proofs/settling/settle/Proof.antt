@@ -13,6 +13,7 @@ table-refusal-requires c κs = search needs
 same-length : tie.Need-same-length
 same-length c = search needs
 
+-- refused
 returns : tie.Need-returns
 unfolding settleCall
 returns c = done-no _ _ _ (c .before .table-refusal .ensures .0) (c .if1 .taken)
@@ -23,6 +24,7 @@ settle-pages-requires c κs = (ready _ (rules-kept _ (sym (c .before .before .be
 same-length-2 : tie.Need-same-length-2
 same-length-2 c = search needs
 
+-- every dirty page is in the store
 returns-2 : tie.Need-returns-2
 unfolding settleCall
 returns-2 c =
