@@ -20,6 +20,7 @@ fn colour(shape: Shape) -> &'static str {
         Shape::Opened => "#d9700b",
         Shape::Few => "#8e44ad",
         Shape::Chain => "#c2255c",
+        Shape::Turned => "#495057",
     }
 }
 

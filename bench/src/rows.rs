@@ -86,13 +86,14 @@ const fn by_pages(shape: Shape, calls: &'static [Call]) -> Block {
     Block { shape, grows: Grows::Pages, sizes: BY_PAGES, calls }
 }
 
-static BLOCKS: [Block; 6] = [
+static BLOCKS: [Block; 7] = [
     by_frames(Shape::Full, WITH_FULL_FRAMES),
     by_pages(Shape::Full, &[("link", link), ("open", open)]),
     by_frames(Shape::Leaves, WITH_FULL_FRAMES),
     by_frames(Shape::Opened, ON_THE_ROOT),
     Block { shape: Shape::Few, grows: Grows::Frames, sizes: SMALL, calls: OF_EVERY_USER },
     by_pages(Shape::Chain, &[("open", open)]),
+    by_frames(Shape::Turned, &[("root", root)]),
 ];
 
 impl Figure {

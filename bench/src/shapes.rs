@@ -16,6 +16,8 @@ pub enum Shape {
     Few,
     /// Each page names the next one. The frames are full.
     Chain,
+    /// Pages as in `Chain`, in frames from the last one down, so that each parent but the root lies after its page.
+    Turned,
 }
 
 pub const ROOT: Handle = Handle { frame: FrameIndex(0), page: PageNumber(0) };
@@ -27,7 +29,8 @@ pub const EMPTY_SLOT: usize = 15;
 const LEFT_OUT: usize = 16;
 
 impl Shape {
-    pub const ALL: [Shape; 5] = [Shape::Full, Shape::Leaves, Shape::Opened, Shape::Few, Shape::Chain];
+    pub const ALL: [Shape; 6] =
+        [Shape::Full, Shape::Leaves, Shape::Opened, Shape::Few, Shape::Chain, Shape::Turned];
 
     pub fn name(self) -> &'static str {
         match self {
@@ -36,6 +39,7 @@ impl Shape {
             Shape::Opened => "just opened",
             Shape::Few => "few pages",
             Shape::Chain => "chain",
+            Shape::Turned => "turned chain",
         }
     }
 
@@ -44,7 +48,7 @@ impl Shape {
         match self {
             Shape::Leaves if page <= SLOTS => (0, page - 1),
             Shape::Leaves => ((page - SLOTS - 1) / 15 + 1, (page - SLOTS - 1) % 15),
-            Shape::Chain => (page - 1, 0),
+            Shape::Chain | Shape::Turned => (page - 1, 0),
             Shape::Full | Shape::Opened | Shape::Few => ((page - 1) / 15, (page - 1) % 15),
         }
     }
@@ -68,19 +72,27 @@ impl Shape {
         store
     }
 
-    /// A pool over such a store, its frames filled in the order of page numbers. The root and the first page after it are
-    /// pinned, and each page has usage 1.
+    /// A pool over such a store, its frames filled in the order of page numbers. The pages in the first two frames are pinned,
+    /// and each page has usage 1.
     pub fn state(self, count: usize, pages: usize) -> State {
         let mut state = opened(count, self.store(count, pages));
         let mut handles = vec![state.root().expect("the root can be pinned").handle];
-        let taken_in = |page: &usize| self == Shape::Chain || *page != LEFT_OUT;
+        let taken_in = |page: &usize| self.in_chain() || *page != LEFT_OUT;
         let most = if self == Shape::Opened { 0 } else { count - 1 };
         for page in self.named(count, pages).filter(taken_in).take(most) {
             let (parent, slot) = self.parent(page);
+            if self == Shape::Turned {
+                state.records.hand = FrameIndex((count - page) as u8);
+            }
             handles.push(state.fix(handles[parent], slot).expect("a frame is empty").handle);
         }
+        state.records.hand = FrameIndex(0);
         release_all_but_two(&mut state);
         state
+    }
+
+    fn in_chain(self) -> bool {
+        matches!(self, Shape::Chain | Shape::Turned)
     }
 }
 

@@ -213,7 +213,7 @@ fn small_pools() {
     let mut trial = Trial::new(1);
     for turn in 0..60 {
         let (count, pages) = (2 + turn % 7, 2 + 15 * (turn % 4));
-        trial.run(Shape::ALL[turn % 5], count, pages, 1000);
+        trial.run(Shape::ALL[turn % Shape::ALL.len()], count, pages, 1000);
     }
     println!("{:?}", trial.given);
     let never: Vec<usize> = (1..17).filter(|refusal| trial.given[*refusal] == 0).collect();
@@ -223,7 +223,7 @@ fn small_pools() {
 #[test]
 fn large_pools() {
     let mut trial = Trial::new(2);
-    for shape in [Shape::Full, Shape::Leaves, Shape::Chain] {
+    for shape in [Shape::Full, Shape::Leaves, Shape::Chain, Shape::Turned] {
         for (count, pages) in [(16, 256), (64, 256), (16, 4096), (64, 4096)] {
             trial.run(shape, count, pages, 2000);
         }

@@ -126,6 +126,48 @@ at-root up F s t b z h q lead f l =
     let e : c .steps ≡ a .0 + (c .steps - a .0) = omega (arith, c .many, a .1) in
     c .leads ∙ ap (λ (k : ℕ). climb up k f) e ∙ climb-more up z (a .0) (c .steps - a .0) f (a .2)
 
+-- each parent lies before its frame, frame 0's excepted
+abbrev pub InOrder : ℕ → List ℕ → Type 0
+InOrder F t = (f : ℕ) → 0 < f → f < F → entry t f < f
+
+-- before frame f, so many have a parent that doesn't lie before them: frame 0 alone where there is one at most
+pub record Late (t : List ℕ) (f late : ℕ) : Type 0 where
+  pub root : 0 < f → 0 < late
+  pub rest : late ≤ 1 → InOrder f t
+
+pub late-none : (t : List ℕ) → Late t 0 0
+late-none t = record { root = λ h. h; rest = λ h f l m. absurd (omega arith) }
+
+pub late-more : (t : List ℕ) (f late : ℕ) → f ≤ entry t f → Late t f late → Late t (f + 1) (late + 1)
+late-more t f late l L = record {
+  root = λ h. omega arith;
+  rest = λ h g a b. elim (ℕ-discrete f 0) [
+    | yes e ↦ absurd (omega arith)
+    | no e ↦ let q : 0 < late = L .root (omega arith) in absurd (omega arith)
+  ];
+}
+
+pub late-same : (t : List ℕ) (f late : ℕ) → entry t f < f → Late t f late → Late t (f + 1) late
+late-same t f late l L = record {
+  root = λ h. L .root (omega arith);
+  rest = λ h g a b. elim (ℕ-discrete g f) [
+    | yes e ↦ rw e l
+    | no e ↦ L .rest h g a (omega arith)
+  ];
+}
+
+-- in order, f steps lead from f to frame 0
+climb-down : (up : ℕ → ℕ) (F : ℕ) → up 0 ≡ 0 → ((f : ℕ) → 0 < f → f < F → up f < f) → (n f : ℕ) → f ≤ n → f < F → climb up n f ≡ 0
+unfolding climb
+climb-down up F z h zero f l m = omega arith
+climb-down up F z h (suc n) f l m = elim (ℕ-discrete f 0) [
+  | yes e ↦ let q : up f ≡ 0 = ap up e ∙ z in climb-down up F z h n (up f) (omega arith) (omega arith)
+  | no e ↦ let q : up f < f = h f (omega arith) m in climb-down up F z h n (up f) (omega arith) (omega arith)
+]
+
+pub lead-in-order : (F M : ℕ) (t : List ℕ) → F ≤ M → entry t 0 ≡ 0 → InOrder M t → AllLead (entry t) F
+lead-in-order F M t l z h f m = (f, climb-down (entry t) M z h f f (omega arith) (omega arith))
+
 -- by parents that are the same below F
 pub climb-same : (up down : ℕ → ℕ) (F : ℕ) → ((f : ℕ) → f < F → up f ≡ down f) → ((f : ℕ) → f < F → up f < F) → (n f : ℕ) → f < F → climb up n f ≡ climb down n f
 unfolding climb
