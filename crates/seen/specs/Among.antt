@@ -17,9 +17,13 @@ use Rattle.seen.specs.Fold.{or-same}
 unfoldable pub among : (ℕ → ℕ) → ℕ → ℕ → Bool
 among w m x = some m (λ k. eqb (w k) x)
 
+-- one of the first m numbers is not 0
+unfoldable pub hasAny : (ℕ → ℕ) → ℕ → Bool
+hasAny w m = some m (λ k. not (eqb (w k) 0))
+
 -- one of the numbers of a page is not 0
 unfoldable pub hasWord : (ℕ → ℕ) → Bool
-hasWord w = some slotCount (λ k. not (eqb (w k) 0))
+hasWord w = hasAny w slotCount
 
 pub some-keep : (n : ℕ) (t : ℕ → Bool) → t n ≡ false → some (n + 1) t ≡ some n t
 some-keep n t e = rw (add-one n, some-suc n t) (or-same (some n t) e)
@@ -50,10 +54,15 @@ pub among-zero : (w : ℕ → ℕ) (x : ℕ) → among w 0 x ≡ false
 unfolding among
 among-zero w x = some-zero (λ k. eqb (w k) x)
 
+-- no number but 0
+pub not-any : (w : ℕ → ℕ) (m : ℕ) → hasAny w m ≡ false → (k : ℕ) → k < m → w k ≡ 0
+unfolding hasAny
+not-any w m t k l = eqb-true (w k) 0 (not-false _ (some-false m (λ j. not (eqb (w j) 0)) t k l))
+
 -- a page without a number but 0
 pub no-word : (w : ℕ → ℕ) → hasWord w ≡ false → (k : ℕ) → k < slotCount → w k ≡ 0
 unfolding hasWord
-no-word w t k l = eqb-true (w k) 0 (not-false _ (some-false slotCount (λ j. not (eqb (w j) 0)) t k l))
+no-word w = not-any w slotCount
 
 pub no-word-among : (w : ℕ → ℕ) → hasWord w ≡ false → (x : ℕ) → 0 < x → among w slotCount x ≡ false
 no-word-among w t x p = not-among w slotCount x (λ k l e. let z : w k ≡ 0 = no-word w t k l in omega arith)

@@ -54,6 +54,10 @@ pub record Marked (m : ℕ) (w : ℕ → ℕ) (N : ℕ) (before after : Seen) (r
   pub answer : r ≡ every m (fresh (noted before) w N)
   pub tells : r ≡ true → Tells after (λ x. noted before x or among w m x)
 
+-- going on from the first m numbers, all of them fresh, to the first n, whatever the table was before them
+pub record MarksOn (m n : ℕ) (w : ℕ → ℕ) (N : ℕ) (now after : Seen) (r : Bool) : Type 0 where
+  pub onward : (before : Seen) → Marked m w N before now true → Marked n w N before after r
+
 -- the numbers in an array as a row, and that each is a page's
 abbrev pub rowOf : List ℕ → ℕ → ℕ
 rowOf numbers k = getD numbers k 0

@@ -1,21 +1,25 @@
 -- What noting a number makes of the table, and how a row of numbers is marked in it, one number after the other. Assumes nothing.
-use Prim.Native.Nat.{ℕ, _+_, _<_, _≤_}
+use Prim.Native.Nat.{ℕ, zero, suc, _+_, _*_, _<_, _≤_}
 use mathlib.Core.Path.{_≡_, refl, sym, _∙_, ap}
 use mathlib.Core.Logic.{_≢_}
 use mathlib.Core.Bool.{Bool, true, false, not}
+use mathlib.Core.List.{List}
 use native.Mathlib.Numerals.{add-one}
+use native.Mathlib.Nat.{add-zero, add-suc}
 use native.Mathlib.Omega.{arith}
 use native.Mathlib.Decide.{ℕ-discrete}
 use borrow.Author.Tests.{eq-eqb, ne-eqb, lt-ltb, ltb-true, not-true}
 use lib.Dec.{eqb, ltb}
 use lib.ListN.{length, set, length-set, length-replicate, getD-replicate}
 use lib.Seq.{getD-set-same, getD-set-other}
-use Rattle.page.specs.Figures.{mostPages}
+use Rattle.page.specs.Figures.{wordSize, mostPages}
+use Rattle.page.specs.Word.{nameAt}
+use Rattle.page.specs.Page.{wordsFrom}
 use Rattle.machine.specs.Tests.{_and_, _or_, every}
-use Rattle.machine.specs.Laws.TestLaws.{clash, case, on, off, same, is-off, both, and-true, and-no, or-left, or-right, or-second, or-none, or-off, every-zero, every-true, true-every, every-false}
+use Rattle.machine.specs.Laws.TestLaws.{clash, case, on, off, same, is-off, both, and-true, and-yes, and-no, or-left, or-right, or-second, or-none, or-off, every-zero, every-true, true-every, every-false}
 use Rattle.seen.specs.Fold.{or-same}
-use Rattle.seen.specs.Among.{among, among-zero, among-hit, among-none}
-use Rattle.seen.specs.Seen.{Seen, none, noted, Table, Tells, Marks, Notes, fresh, Marked}
+use Rattle.seen.specs.Among.{among, among-zero, among-hit, among-none, hasAny, not-any}
+use Rattle.seen.specs.Seen.{Seen, none, noted, Table, Tells, Marks, Notes, fresh, Marked, MarksOn}
 
 -- ---- the table's form: nothing noted, and a number noted by its mark, that of 0 taken back
 
@@ -179,3 +183,35 @@ module _ (w : ℕ → ℕ) (N : ℕ) (before : Seen) where
         answer = e ∙ sym (and-no new refl) ∙ and-no (isFresh m) (sym (M .answer)) ∙ sym (every-more m isFresh);
         tells = λ z. absurd (clash (sym z ∙ e ∙ sym (and-no new refl)));
       }
+
+-- ---- going on from a row marked as far as m, and the table `now`
+
+module _ (w : ℕ → ℕ) (N m : ℕ) (now : Seen) where
+  pub marks-none : MarksOn m m w N now now true
+  marks-none = record { onward = λ before M. M }
+
+  -- number k is v, which isn't below N
+  pub marks-large : (k v : ℕ) → w k ≡ v → v ≢ 0 → N ≤ v → (after : Seen) → MarksOn m (k + 1) w N now after false
+  marks-large k v e z l after = record { onward = λ before M. marked-large w N before k v e z l after }
+
+  -- once false, it stays so
+  pub marks-false : (k n : ℕ) → k ≤ n → (after : Seen) → MarksOn m k w N now after false → MarksOn m n w N now after false
+  marks-false k n l after K = record { onward = λ before M. marked-false w N before k n l after after (K .onward before M) }
+
+  module _ (few : N ≤ mostPages) where
+    -- number k is v, and v was noted
+    pub marks-more : (k : ℕ) (seen : Seen) (v : ℕ) → w k ≡ v → (v ≢ 0 → v < N) → (next : Seen) (new : Bool) → (Table seen → Notes v seen next new) → (r : Bool) → r ≡ new → MarksOn m k w N now seen true → MarksOn m (k + 1) w N now next r
+    marks-more k seen v here small next new S r e K = record {
+      onward = λ before M.
+          let B = K .onward before M in
+          marked-more w N before k few seen v here small next new (S (B .tells refl .table)) true r (and-yes refl e) B;
+    }
+
+    -- numbers of 0 are passed over
+    pub marks-zeros : (n : ℕ) → ((j : ℕ) → j < n → w (m + j) ≡ 0) → MarksOn m (m + n) w N now now true
+    marks-zeros zero z = rw (add-zero m) marks-none
+    marks-zeros (suc n) z = rw (add-suc m n, ← add-one (m + n)) (marks-more (m + n) now 0 (z n (omega arith)) (λ k. absurd (k refl)) now true (notes-zero now) true refl (marks-zeros n (λ j l. z j (omega arith))))
+
+-- words of 0 from slot k on are passed over
+pub marked-over : (b : List ℕ) (a k n N : ℕ) (before now : Seen) → N ≤ mostPages → hasAny (wordsFrom b (a + wordSize * k)) n ≡ false → Marked k (wordsFrom b a) N before now true → Marked (k + n) (wordsFrom b a) N before now true
+marked-over b a k n N before now few t = marks-zeros (wordsFrom b a) N k now few n (λ j l. ap (nameAt b) (omega arith) ∙ not-any (wordsFrom b (a + 4 * k)) n t j l) .onward before

@@ -4,16 +4,21 @@ pub mod words;
 use page::PageNumber;
 use page::word;
 ghost use mathlib.Core.Path.{_≡_};
-ghost use Prim.Native.Nat.{_+_, _≤_, _<_};
+ghost use Prim.Native.Nat.{_+_, _*_, _≤_, _<_};
 ghost use lib.ListN.{length};
-ghost use Rattle.page.specs.Figures.{payloadStart, slotCount, mostPages};
+ghost use Rattle.page.specs.Figures.{wordSize, payloadStart, slotCount, mostPages};
 ghost use Rattle.page.specs.Page.{wordsFrom};
-ghost use Rattle.seen.specs.Seen.{noted, Table, Marks, Notes, rowOf, PageNumbers, Marked};
+ghost use Rattle.seen.specs.Seen.{noted, Table, Marks, Notes, rowOf, PageNumbers, Marked, MarksOn};
 
 pub type Seen = [bool; PageNumber::MOST];
 
 // No number is noted.
 pub const NONE: Seen = [false; PageNumber::MOST];
+
+// The first slots, and the last of these.
+const FIRST: usize = 4;
+
+const LAST_OF_FIRST: usize = 3;
 
 // Is the number noted.
 pub fn is_noted(seen: &Seen, x: usize) -> bool
@@ -43,13 +48,20 @@ pub fn note(seen: &mut Seen, x: usize) -> bool
     new
 }
 
-// Notes the numbers in the 16 words from byte `at` on; false where one isn't below `limit` or was noted before.
-pub fn mark_page(buffer: &[u8], at: usize, limit: usize, seen: &mut Seen) -> bool
-    requires { ⌜ (limit ≤ mostPages) × (at + payloadStart ≤ length (now buffer)) × Table (now seen) ⌝ }
-    ensures { λ r. ⌜ Marked slotCount (wordsFrom (now (buffer .entry)) at) limit (now (seen .entry)) (now (seen .exit)) r ⌝ }
+// Notes the numbers in the words from slot `first` to before slot `end`, of the page from byte `at` on; false where one isn't below `limit` or was noted before.
+fn mark_slots(
+    buffer: &[u8],
+    at: usize,
+    first: usize,
+    end: usize,
+    limit: usize,
+    seen: &mut Seen,
+) -> bool
+    requires { ⌜ (limit ≤ mostPages) × (first ≤ end) × (at + wordSize * end ≤ length (now buffer)) ⌝ }
+    ensures { λ r. ⌜ MarksOn first end (wordsFrom (now (buffer .entry)) at) limit (now (seen .entry)) (now (seen .exit)) r ⌝ }
 {
-    let mut k: usize = 0;
-    while k < PageNumber::SLOTS {
+    let mut k = first;
+    while k < end {
         let w = word::name_at(buffer, at + word::SIZE * k) as usize;
         if w != 0 {
             if limit <= w {
@@ -62,6 +74,22 @@ pub fn mark_page(buffer: &[u8], at: usize, limit: usize, seen: &mut Seen) -> boo
         k += 1;
     }
     true
+}
+
+// The same for all 16 words. A page that names few has them in its first slots, most likely: where the last of these is empty, the other slots are looked at side by side before one by one.
+pub fn mark_page(buffer: &[u8], at: usize, limit: usize, seen: &mut Seen) -> bool
+    requires { ⌜ (limit ≤ mostPages) × (at + payloadStart ≤ length (now buffer)) × Table (now seen) ⌝ }
+    ensures { λ r. ⌜ Marked slotCount (wordsFrom (now (buffer .entry)) at) limit (now (seen .entry)) (now (seen .exit)) r ⌝ }
+{
+    if !mark_slots(buffer, at, 0, FIRST, limit, seen) {
+        return false;
+    }
+    if !words::has_any(buffer, at + word::SIZE * LAST_OF_FIRST, 1) {
+        if !words::has_any(buffer, at + word::SIZE * FIRST, PageNumber::SLOTS - FIRST) {
+            return true;
+        }
+    }
+    mark_slots(buffer, at, FIRST, PageNumber::SLOTS, limit, seen)
 }
 
 // Notes 16 numbers: were they all new. No number is branched on.

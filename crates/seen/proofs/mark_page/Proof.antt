@@ -1,98 +1,79 @@
--- `seen::mark_page` meets its contract: the words before slot k are fresh, and the table tells of them. Assumes nothing.
+-- `seen::mark_page` meets its contract: the first words are marked, and the others unless they are all 0. Assumes nothing.
 use borrow.Author.Needs.{needs}
 use borrow.Author.Tests.{not-true, not-false}
-use Prim.Native.Nat.{_≤_, _-_}
-use mathlib.Core.Path.{_≡_, refl, sym, _∙_}
-use mathlib.Core.Bool.{true}
-use mathlib.Core.Logic.{⊎-elim}
+use mathlib.Core.Path.{_≡_, sym, _∙_}
 use native.Mathlib.Omega.{arith}
-use Rattle.page.specs.Figures.{slotCount}
-use Rattle.page.specs.Page.{wordsFrom}
-use Rattle.machine.specs.Laws.TestLaws.{and-yes}
-use Rattle.seen.specs.Seen.{Marked}
-use Rattle.seen.specs.SeenLaws.{mark-notes, notes-zero, marked-none, marked-more, marked-large, marked-false}
+use Rattle.seen.specs.SeenLaws.{marked-none, marked-false, marked-over}
 use Rattle.seen.proofs.mark_page.Statement.{statement}
 use Rattle.seen.proofs.mark_page.Tie as tie
 
-abbrev Inv-loop : tie.InvT-loop
-Inv-loop buffer at limit seen₀ k₀ seen k = (k ≤ slotCount) × Marked k (wordsFrom buffer at) limit seen₀ seen true
+mark-slots-requires : tie.Need-mark-slots-requires
+mark-slots-requires c κs = search needs
 
-abbrev μ-loop : tie.MeasureT-loop
-μ-loop buffer at limit seen₀ k₀ seen k = slotCount - k
-
-loop-holds : tie.Need-loop-holds Inv-loop μ-loop
-loop-holds c = (omega arith, marked-none _ _ _ (c .before .pre .2))
-
-mul-name-at : tie.Need-mul-name-at Inv-loop μ-loop
-mul-name-at c = search needs
-
-add-name-at : tie.Need-add-name-at Inv-loop μ-loop
-add-name-at c = search needs
-
-name-at-requires : tie.Need-name-at-requires Inv-loop μ-loop
-name-at-requires c κs = search needs
-
-cast-w : tie.Need-cast-w Inv-loop μ-loop
-cast-w c = search needs
-
--- a word that isn't below the limit
-returns : tie.Need-returns Inv-loop μ-loop
+-- one of the first words isn't below the limit, or was noted before
+returns : tie.Need-returns
 returns c =
-    let past-zero = c .before in
-    let at-name-at = past-zero .before in
-    let at-words = at-name-at .before .before in
-    marked-false _ _ _ _ _ (omega arith) (at-words .loop .seen) _
-    (marked-large _ _ _ (at-words .loop .k) _ (sym (at-name-at .name-at .ensures)) (past-zero .if1 .taken) (c .if2 .taken) _)
-
-mark-requires : tie.Need-mark-requires Inv-loop μ-loop
-mark-requires c κs = search needs
-
--- a number that was noted before
-returns-2 : tie.Need-returns-2 Inv-loop μ-loop
-returns-2 c =
-    let at-mark = c .before in
-    let past-zero = at-mark .before .before .before in
-    let at-name = past-zero .before in
-    let l = at-name .before .before .loop in
+    let at-mark-slots = c .before in
+    let at-entry = at-mark-slots .before .before .before in
     marked-false _ _ _ _ _ (omega arith) _ _
-    (marked-more _ _ _ _ (omega arith) _ _ (sym (at-name .name-at .ensures)) (λ n. omega arith) _ _ (mark-notes _ _ (omega arith) (at-mark .mark .ensures) (past-zero .if1 .taken)) _ _ (and-yes refl (sym (not-true _ (c .if3 .taken)))) (l .inv .1))
+    (rw (not-true (at-mark-slots .mark-slots .result) (c .if1 .taken)) at (at-mark-slots .mark-slots .ensures .onward _ (marked-none _ _ _ (at-entry .pre .2))))
 
-add-k : tie.Need-add-k Inv-loop μ-loop
-add-k c = search needs
+mul-has-any : tie.Need-mul-has-any
+mul-has-any c = search needs
 
-loop-less : tie.Need-loop-less Inv-loop μ-loop
-loop-less c = search needs
+add-has-any : tie.Need-add-has-any
+add-has-any c = search needs
 
-loop-again : tie.Need-loop-again Inv-loop μ-loop
-loop-again c =
-    let l = c .before .before .before .loop in
-    let e = c .before .name-at .ensures in (
-      omega arith,
-      ⊎-elim
-          (λ a. rw (a .5) (marked-more _ _ _ _ (omega arith) _ _ (sym e) (λ n. omega (arith, a .1 .left)) _ _ (mark-notes _ _ (omega (arith, a .1 .left)) (a .3 .ensures) (a .0 .taken)) _ _ (and-yes refl (sym (not-false _ (a .4 .left)))) (l .inv .1)))
-          (λ a. rw (a .1) (marked-more _ _ _ _ (omega arith) _ _ (sym e ∙ a .0 .left) (λ n. absurd (n refl)) _ _ (notes-zero _ (l .inv .1 .tells refl .table)) _ _ (and-yes refl refl) (l .inv .1)))
-          (c .if1 .came),
-    )
+has-any-requires : tie.Need-has-any-requires
+has-any-requires c κs = search needs
 
--- every word is passed
-returns-3 : tie.Need-returns-3 Inv-loop μ-loop
-returns-3 c = let e : c .before .loop .k ≡ 16 = omega arith in rw e at (c .before .loop .inv .1)
+mul-has-any-2 : tie.Need-mul-has-any-2
+mul-has-any-2 c = search needs
+
+add-has-any-2 : tie.Need-add-has-any-2
+add-has-any-2 c = search needs
+
+sub-has-any : tie.Need-sub-has-any
+sub-has-any c = search needs
+
+has-any-requires-2 : tie.Need-has-any-requires-2
+has-any-requires-2 c κs = search needs
+
+-- the others are 0
+returns-2 : tie.Need-returns-2
+returns-2 c =
+    let at-others = c .before in
+    let past-first = at-others .before .before .before in
+    let at-mark-slots = past-first .before in
+    let at-entry = at-mark-slots .before .before .before in
+    marked-over _ _ 4 12 _ _ _ (at-entry .pre .0) (sym (at-others .has-any2 .ensures) ∙ not-true (at-others .has-any2 .result) (c .if3 .taken))
+    (rw (not-false (at-mark-slots .mark-slots .result) (past-first .if1 .left)) at (at-mark-slots .mark-slots .ensures .onward _ (marked-none _ _ _ (at-entry .pre .2))))
+
+mark-slots-requires-2 : tie.Need-mark-slots-requires-2
+mark-slots-requires-2 c κs = search needs
+
+-- the others are marked too
+returns-3 : tie.Need-returns-3
+returns-3 c =
+    let past-first = c .before .before .before .before in
+    let at-mark-slots = past-first .before in
+    let at-entry = at-mark-slots .before .before .before in
+    c .mark-slots2 .ensures .onward _
+    (rw (not-false (at-mark-slots .mark-slots .result) (past-first .if1 .left)) at (at-mark-slots .mark-slots .ensures .onward _ (marked-none _ _ _ (at-entry .pre .2))))
 
 pub mark-page-spec : {M : Type 1} → statement M
 mark-page-spec =
     tie.close
     (tie.spec
-    Inv-loop
-    μ-loop
-    loop-holds
-    mul-name-at
-    add-name-at
-    name-at-requires
-    cast-w
+    mark-slots-requires
     returns
-    mark-requires
+    mul-has-any
+    add-has-any
+    has-any-requires
+    mul-has-any-2
+    add-has-any-2
+    sub-has-any
+    has-any-requires-2
     returns-2
-    add-k
-    loop-less
-    loop-again
+    mark-slots-requires-2
     returns-3)
