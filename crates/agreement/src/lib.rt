@@ -1,4 +1,4 @@
-// Rule 2: do records and frames agree. One pass over the frames tests each record, the word that names the frame, and the numbers in it; then parents are followed.
+// Rule 2: do records and frames agree. One pass over the frames tests each record, the word that names the frame, and the numbers in it; then parents are followed, where one doesn't lie before its frame.
 mod frame;
 mod record;
 mod steps;

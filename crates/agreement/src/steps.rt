@@ -8,7 +8,7 @@ ghost use Rattle.agreement.specs.Deciding.{Decides};
 ghost use Rattle.agreement.specs.Fit.{entry, AllLead};
 ghost use Rattle.agreement.specs.ParentSteps.{Below, Round, InOrder};
 
-// Do all parents lie before their frames. Frame 0 alone never has one there. No entry is branched on, so that the compiler takes them side by side.
+// Do all parents lie before their frames, frame 0's excepted, which is always counted: nothing lies before it. No entry is branched on, so that the compiler takes them side by side.
 fn in_order(parents: &[u8; FrameIndex::MOST]) -> bool
     ensures { λ r. ⌜ (r ≡ true → InOrder mostFrames (now (parents .entry))) ⌝ }
 {

@@ -15,10 +15,8 @@ pub type Seen = [bool; PageNumber::MOST];
 // No number is noted.
 pub const NONE: Seen = [false; PageNumber::MOST];
 
-// The first slots, and the last of these.
+// How many slots of a page are marked one by one before the others are looked at.
 const FIRST: usize = 4;
-
-const LAST_OF_FIRST: usize = 3;
 
 // Is the number noted.
 pub fn is_noted(seen: &Seen, x: usize) -> bool
@@ -84,7 +82,7 @@ pub fn mark_page(buffer: &[u8], at: usize, limit: usize, seen: &mut Seen) -> boo
     if !mark_slots(buffer, at, 0, FIRST, limit, seen) {
         return false;
     }
-    if !words::has_any(buffer, at + word::SIZE * LAST_OF_FIRST, 1) {
+    if word::name_at(buffer, at + word::SIZE * (FIRST - 1)) == word::NOTHING {
         if !words::has_any(buffer, at + word::SIZE * FIRST, PageNumber::SLOTS - FIRST) {
             return true;
         }

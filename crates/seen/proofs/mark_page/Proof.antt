@@ -18,26 +18,29 @@ returns c =
     marked-false _ _ _ _ _ (omega arith) _ _
     (rw (not-true (at-mark-slots .mark-slots .result) (c .if1 .taken)) at (at-mark-slots .mark-slots .ensures .onward _ (marked-none _ _ _ (at-entry .pre .2))))
 
+sub-name-at : tie.Need-sub-name-at
+sub-name-at c = search needs
+
+mul-name-at : tie.Need-mul-name-at
+mul-name-at c = search needs
+
+add-name-at : tie.Need-add-name-at
+add-name-at c = search needs
+
+name-at-requires : tie.Need-name-at-requires
+name-at-requires c κs = search needs
+
 mul-has-any : tie.Need-mul-has-any
 mul-has-any c = search needs
 
 add-has-any : tie.Need-add-has-any
 add-has-any c = search needs
 
-has-any-requires : tie.Need-has-any-requires
-has-any-requires c κs = search needs
-
-mul-has-any-2 : tie.Need-mul-has-any-2
-mul-has-any-2 c = search needs
-
-add-has-any-2 : tie.Need-add-has-any-2
-add-has-any-2 c = search needs
-
 sub-has-any : tie.Need-sub-has-any
 sub-has-any c = search needs
 
-has-any-requires-2 : tie.Need-has-any-requires-2
-has-any-requires-2 c κs = search needs
+has-any-requires : tie.Need-has-any-requires
+has-any-requires c κs = search needs
 
 -- the others are 0
 returns-2 : tie.Need-returns-2
@@ -46,7 +49,7 @@ returns-2 c =
     let past-first = at-others .before .before .before in
     let at-mark-slots = past-first .before in
     let at-entry = at-mark-slots .before .before .before in
-    marked-over _ _ 4 12 _ _ _ (at-entry .pre .0) (sym (at-others .has-any2 .ensures) ∙ not-true (at-others .has-any2 .result) (c .if3 .taken))
+    marked-over _ _ 4 12 _ _ _ (at-entry .pre .0) (sym (at-others .has-any .ensures) ∙ not-true (at-others .has-any .result) (c .if3 .taken))
     (rw (not-false (at-mark-slots .mark-slots .result) (past-first .if1 .left)) at (at-mark-slots .mark-slots .ensures .onward _ (marked-none _ _ _ (at-entry .pre .2))))
 
 mark-slots-requires-2 : tie.Need-mark-slots-requires-2
@@ -67,13 +70,14 @@ mark-page-spec =
     (tie.spec
     mark-slots-requires
     returns
+    sub-name-at
+    mul-name-at
+    add-name-at
+    name-at-requires
     mul-has-any
     add-has-any
-    has-any-requires
-    mul-has-any-2
-    add-has-any-2
     sub-has-any
-    has-any-requires-2
+    has-any-requires
     returns-2
     mark-slots-requires-2
     returns-3)
