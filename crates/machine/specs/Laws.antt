@@ -9,5 +9,6 @@ pub mod SweepLaws
 pub mod MoveLaws
 pub mod Ready
 pub mod RuleLaws
+pub mod Outcomes
 pub mod ResidentWords
 pub mod ByName

@@ -20,7 +20,6 @@ pub mod KeepsLoad
 pub mod KeepsSettle
 pub mod KeepsOpen
 pub mod Keeps
-pub mod Outcomes
 pub mod TestReads
 pub mod InvariantReads
 pub mod CallCases

@@ -3,7 +3,7 @@ use mathlib.Core.Path.{_≡_, sym, ap}
 use Prim.Native.Nat.{ℕ, _<_}
 use native.Mathlib.Omega.{arith}
 use Rattle.page.specs.Figures.{mostPages, wordRadix}
-use Rattle.page.specs.Word.{nameOf, Number, frameWord, yes-number, no-number, name-renamed-number, renamed-same, renamed-lt}
+use Rattle.page.specs.Word.{nameOf, Number, Swizzled, frameIn, frameWord, yes-number, no-number, name-renamed-number, renamed-same, renamed-lt}
 use Rattle.machine.specs.Tests.{pick}
 use Rattle.machine.specs.Moves.{plain, imaged}
 
@@ -14,6 +14,10 @@ plain-low page w h = rw (yes-number w h)
 pub plain-high : (page : ℕ → ℕ) (g : ℕ) → plain page (frameWord g) ≡ page g
 unfolding plain pick
 plain-high page g = rw (no-number (frameWord g) (omega arith)) (ap page (omega arith))
+
+pub plain-swizzled : (page : ℕ → ℕ) (w : ℕ) → Swizzled w → plain page w ≡ page (frameIn w)
+unfolding plain pick
+plain-swizzled page w h = rw (no-number w h)
 
 -- a word of an image names the page, where that is one, and nothing only where it named nothing
 pub name-imaged : (page : ℕ → ℕ) (w : ℕ) → plain page (nameOf w) < mostPages → (plain page (nameOf w) ≡ 0 → nameOf w ≡ 0) → nameOf (imaged page w) ≡ plain page (nameOf w)

@@ -20,7 +20,7 @@ use Rattle.machine.specs.Calls.{fixEntryRules}
 use Rattle.machine.specs.Laws.TestLaws.{first-kept}
 use Rattle.machine.specs.Laws.AgreementFacts.{Agreed}
 use Rattle.machine.specs.Laws.FoundLaws.{holds-found, none-found}
-use Rattle.machine.specs.Laws.PlainLaws.{plain-low, plain-high}
+use Rattle.machine.specs.Laws.PlainLaws.{plain-low, plain-swizzled}
 use Rattle.machine.specs.Laws.RuleLaws.{held-occupied, slot-parts}
 
 -- the page that a word stands for is in no frame
@@ -36,7 +36,7 @@ number-exactly p fs A f k o l n = elim (reading (name fs f k)) [
   | high g e ↦
       let w : ℕ = name fs f k in
       let o : occupied p (frameIn w) ≡ true = A .back f k o l (omega arith) .at in
-      let q : plain (pageIn (p .records)) w ≡ pageIn (p .records) (frameIn w) = ap (plain (pageIn (p .records))) e ∙ plain-high (pageIn (p .records)) g ∙ ap (pageIn (p .records)) (omega arith) in
+      let q : plain (pageIn (p .records)) w ≡ pageIn (p .records) (frameIn w) = plain-swizzled (pageIn (p .records)) w (omega arith) in
       no-number w (omega arith) ∙ sym (ap not (lt-ltb (found p (plain (pageIn (p .records)) w)) (p .count) (holds-found p _ (frameIn w) o (sym q))))
 ]
 

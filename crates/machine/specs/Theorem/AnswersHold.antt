@@ -19,7 +19,7 @@ use Rattle.machine.specs.History.{Point, accepted}
 use Rattle.machine.specs.Demand3.{GivesPayload}
 use Rattle.machine.specs.Theorem.View.{view, Absent}
 use Rattle.machine.specs.Theorem.Invariant.{Invariant}
-use Rattle.machine.specs.Theorem.Outcomes.{Usual, granted-of, no-refusal, one-refusal, denied-of}
+use Rattle.machine.specs.Laws.Outcomes.{Usual, granted-of, no-refusal, one-refusal, denied-of}
 use Rattle.machine.specs.Theorem.Holders.{Holder, place, held, unheld, found-absent}
 use Rattle.machine.specs.Theorem.CallCases.{handle-case, word-case, peek-case}
 use Rattle.machine.specs.Theorem.FixCases.{pins, fills, sweeps, refuses, fix-case}

@@ -25,7 +25,7 @@ use Rattle.machine.specs.Calls.{decide, changeRecord, openRules, opened,
 use Rattle.machine.specs.Theorem.View.{view}
 use Rattle.machine.specs.History.{Point}
 use Rattle.machine.specs.Theorem.Invariant.{Invariant}
-use Rattle.machine.specs.Theorem.Outcomes.{Outcome, outcome, usual, Cases, cases, lacks}
+use Rattle.machine.specs.Laws.Outcomes.{Outcome, outcome, usual, Cases, cases, lacks}
 use Rattle.machine.specs.Theorem.Holders.{Holder, holder-found}
 use Rattle.machine.specs.Theorem.TestReads.{Handled, handled, Open, open-of}
 use Rattle.machine.specs.Theorem.InvariantReads.{lengths-fit-open, unbroken, unnamed}

@@ -20,7 +20,7 @@ use Rattle.machine.specs.Theorem.View.{first-root}
 use Rattle.machine.specs.Theorem.Invariant.{Invariant}
 use Rattle.machine.specs.Theorem.Keeps.{pin-keeps, unpin-keeps, load-keeps, open-keeps}
 use Rattle.machine.specs.Theorem.SweepStep.{swept-keeps}
-use Rattle.machine.specs.Theorem.Outcomes.{Cases, granted, denied}
+use Rattle.machine.specs.Laws.Outcomes.{Cases, granted, denied}
 use Rattle.machine.specs.Theorem.InvariantReads.{lengths-fit-open}
 use Rattle.machine.specs.Theorem.CallCases.{root-case, unfix-case, handle-case}
 use Rattle.machine.specs.Theorem.FixCases.{pins, fills, sweeps, refuses, fix-case}

@@ -16,7 +16,7 @@ use Rattle.machine.specs.History.{Call, Point, start, next, run, AllByte
 use Rattle.machine.specs.Demand3.{Holds, Demand3}
 use Rattle.machine.specs.Theorem.Invariant.{Invariant}
 use Rattle.machine.specs.Theorem.Keeps.{open-keeps}
-use Rattle.machine.specs.Theorem.Outcomes.{Outcome, kept, broken, outcome}
+use Rattle.machine.specs.Laws.Outcomes.{Outcome, kept, broken, outcome}
 use Rattle.machine.specs.Theorem.PointHolds.{pages-apart, other-empty, kept-frame, root-resident, named-by, named-once, leads-to-root, same-payload, swizzled-whole, number-whole, store-plain}
 use Rattle.machine.specs.Theorem.AnswersHold.{show-gives, peek-gives, word-gives}
 use Rattle.machine.specs.Theorem.DeniedHolds.{denied-15-exactly}

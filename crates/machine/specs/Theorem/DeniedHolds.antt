@@ -22,7 +22,7 @@ use Rattle.machine.specs.Laws.PlainLaws.{plain-low}
 use Rattle.machine.specs.Theorem.View.{view, first-root, first-page, not-first}
 use Rattle.machine.specs.Theorem.Invariant.{Invariant}
 use Rattle.machine.specs.Laws.SweepLaws.{Denied, rule15-denied, of-denied}
-use Rattle.machine.specs.Theorem.Outcomes.{Outcome, kept, broken, lacks, lacking, kept-part, parts, first, second, broken-of}
+use Rattle.machine.specs.Laws.Outcomes.{Outcome, kept, broken, lacks, lacking, kept-part, parts, first, second, broken-of}
 use Rattle.machine.specs.Theorem.Holders.{Holder}
 use Rattle.machine.specs.Theorem.TestReads.{Open, open-of, shut-of}
 use Rattle.machine.specs.Theorem.InvariantReads.{agreed, unbroken}

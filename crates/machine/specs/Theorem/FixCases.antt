@@ -22,7 +22,7 @@ use Rattle.machine.specs.Theorem.View.{view, Absent}
 use Rattle.machine.specs.History.{Point, accepted}
 use Rattle.machine.specs.Theorem.Invariant.{Invariant}
 use Rattle.machine.specs.Laws.SweepLaws.{empty, full, first-empty}
-use Rattle.machine.specs.Theorem.Outcomes.{Outcome, kept, broken, parts, first, second, Usual, usual, usual-breach, lacks}
+use Rattle.machine.specs.Laws.Outcomes.{Outcome, kept, broken, parts, first, second, Usual, usual, usual-breach, lacks}
 use Rattle.machine.specs.Theorem.InvariantReads.{may-load}
 use Rattle.machine.specs.Theorem.CallCases.{AtName, name-rules, after-pool}
 

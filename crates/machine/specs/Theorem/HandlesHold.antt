@@ -23,7 +23,7 @@ use Rattle.machine.specs.Theorem.Invariant.{Invariant}
 use Rattle.machine.specs.Theorem.RecordChange.{change-here, record-lt}
 use Rattle.machine.specs.Theorem.Keeps.{settle-store}
 use Rattle.machine.specs.Laws.SweepLaws.{sweep-cooled, sweep-sound}
-use Rattle.machine.specs.Theorem.Outcomes.{granted-of}
+use Rattle.machine.specs.Laws.Outcomes.{granted-of}
 use Rattle.machine.specs.Theorem.Holders.{Holder}
 use Rattle.machine.specs.Theorem.CallCases.{AtName, root-case, settle-case}
 use Rattle.machine.specs.Theorem.FixCases.{pins, fills, sweeps, refuses, fix-case}

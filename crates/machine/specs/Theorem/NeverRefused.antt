@@ -5,7 +5,7 @@ use mathlib.Core.Logic.{_≢_}
 use Rattle.machine.specs.Answers.{refused}
 use Rattle.machine.specs.History.{Call, reopen, root, fix, unfix, show, peek, word, write, link, unlink, evict, settle, find, Point, row}
 use Rattle.machine.specs.Theorem.Invariant.{Invariant}
-use Rattle.machine.specs.Theorem.Outcomes.{Usual, denied-of}
+use Rattle.machine.specs.Laws.Outcomes.{Usual, denied-of}
 use Rattle.machine.specs.Theorem.CallCases.{open-case, root-case, unfix-case, word-case, write-case, peek-case, find-case, link-case, unlink-case, evict-case, settle-case}
 use Rattle.machine.specs.Theorem.AnswersHold.{fix-usual, show-usual, place-accepted, found-accepted}
 

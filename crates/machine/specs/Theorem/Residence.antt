@@ -14,7 +14,7 @@ use Rattle.machine.specs.History.{Point}
 use Rattle.machine.specs.Demand3.{InFrame, Resident, Pinned}
 use Rattle.machine.specs.Theorem.View.{view, Absent}
 use Rattle.machine.specs.Theorem.Invariant.{Invariant}
-use Rattle.machine.specs.Theorem.Outcomes.{kept, broken, granted, denied}
+use Rattle.machine.specs.Laws.Outcomes.{kept, broken, granted, denied}
 use Rattle.machine.specs.Theorem.Holders.{Holder, place, held, unheld, found-holder, found-absent}
 use Rattle.machine.specs.Theorem.CallCases.{after-pool, find-case}
 
