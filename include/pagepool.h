@@ -43,11 +43,11 @@ extern "C" {
 /*
  * ---- version
  *
- * Raised by each change of a signature or a struct: MINOR where programs that were written and compiled for the version before
- * go on working with the new archive, otherwise MAJOR.
+ * Raised by each change of a signature, a struct or an answer: MINOR where programs that were written and compiled for the
+ * version before go on working with the new archive, otherwise MAJOR.
  */
 #define PAGEPOOL_VERSION_MAJOR 1
-#define PAGEPOOL_VERSION_MINOR 0
+#define PAGEPOOL_VERSION_MINOR 1
 #define PAGEPOOL_VERSION (1000 * PAGEPOOL_VERSION_MAJOR + PAGEPOOL_VERSION_MINOR)
 
 /* ---- figures */
@@ -64,7 +64,7 @@ extern "C" {
 #define POOL_MAX_USAGE 3
 #define POOL_MAX_PINS 65535
 
-/* ---- refusals, in checking order */
+/* ---- refusals, in checking order: 9 is tested before 8 */
 
 enum pool_refusal {
     POOL_ACCEPTED = 0,
@@ -82,10 +82,10 @@ enum pool_refusal {
     POOL_BAD_PAGE = 6,
     /* Fix or unlink meets a word of 0. */
     POOL_EMPTY_SLOT = 7,
-    /* Link meets a word that isn't 0. */
-    POOL_FULL_SLOT = 8,
     /* Link's page is named already, by a word of any page. */
     POOL_ALREADY_NAMED = 9,
+    /* Link meets a word that isn't 0. */
+    POOL_FULL_SLOT = 8,
     /* Unlink's page is resident. */
     POOL_RESIDENT = 10,
     /* Evict's page isn't resident. */
@@ -226,7 +226,12 @@ struct pool_named pool_word(struct pool pool, const uint8_t *frames, size_t fram
 struct pool_done pool_write(struct pool pool, uint8_t *frames, size_t frames_size, const uint8_t *store, size_t store_size,
                             struct pool_handle handle, size_t offset, const uint8_t *bytes, size_t bytes_size);
 
-/* Stores a page number in an empty slot of the handle's page, which is then dirty. Refused: 1, 2, 3, 4, 6, 8, 9. */
+/*
+ * Stores a page number in an empty slot of the handle's page, which is then dirty. Refused: 1, 2, 3, 4, 6, 9, 8.
+ *
+ * A page that is named already is refused by 9 whether the slot is taken or not, also where that very slot names it. So after 8
+ * the page can go into an empty slot, and after 9 into none until the word that names it is unlinked.
+ */
 struct pool_done pool_link(struct pool pool, uint8_t *frames, size_t frames_size, const uint8_t *store, size_t store_size,
                            struct pool_handle handle, size_t slot, pool_page_number page);
 

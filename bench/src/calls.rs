@@ -3,25 +3,30 @@ use crate::boundary;
 use crate::timing::{repeat, Variants};
 use pagepool::{Refusal, MAX_PINS, PAGE_SIZE};
 use pool_bench::baseline;
-use pool_bench::shapes::{absent, last_resident, pinned, unnamed, State, EMPTY_SLOT, ROOT};
+use pool_bench::shapes::{absent, last_named, last_resident, pinned, unnamed, State, EMPTY_SLOT, ROOT};
 use std::hint::black_box;
 
 pub fn accept<T>(answer: Result<T, Refusal>) {
     assert!(black_box(answer).is_ok());
 }
 
-/// The four variants of a call with what copies its records and what undoes it.
+/// A link's refusal by 8 or 9: an archive that tests them in the other order can be timed too.
+fn refuse_link<T>(answer: Result<T, Refusal>) {
+    assert!(matches!(black_box(answer), Err(Refusal::FullSlot | Refusal::AlreadyNamed)));
+}
+
+/// The four variants of a call with what it must answer, what copies its records and what undoes it.
 macro_rules! variants {
-    ($copy:path, $undo:expr, $call:ident($($argument:expr),*)) => {{
+    ($expect:path, $copy:path, $undo:expr, $call:ident($($argument:expr),*)) => {{
         let undo = $undo;
         let (undo_library, undo_baseline, undo_copy) = (undo.clone(), undo.clone(), undo.clone());
         Variants {
             library: repeat(move |s| {
-                accept(s.$call($($argument),*));
+                $expect(s.$call($($argument),*));
                 undo_library(black_box(s));
             }),
             baseline: repeat(move |s| {
-                accept(baseline::$call(&mut s.records, &mut s.frames, &mut s.store $(, $argument)*));
+                $expect(baseline::$call(&mut s.records, &mut s.frames, &mut s.store $(, $argument)*));
                 undo_baseline(black_box(s));
             }),
             copy: repeat(move |s| {
@@ -36,7 +41,14 @@ macro_rules! variants {
 /// The variants of a call that can be repeated as it is.
 macro_rules! repeated {
     ($state:expr, $copy:path, $call:ident($($argument:expr),*)) => {
-        ($state, variants!($copy, |_: &mut State| (), $call($($argument),*)))
+        ($state, variants!(accept, $copy, |_: &mut State| (), $call($($argument),*)))
+    };
+}
+
+/// The variants of a link that is refused. The records go in and out.
+macro_rules! refused_link {
+    ($state:expr, $call:ident($($argument:expr),*)) => {
+        ($state, variants!(refuse_link, boundary::in_and_out, |_: &mut State| (), $call($($argument),*)))
     };
 }
 
@@ -47,7 +59,7 @@ macro_rules! undone {
         let mut after = state.clone();
         accept(after.$call($($argument),*));
         let undo = undo(&state, &after);
-        (state, variants!(boundary::in_and_out, undo, $call($($argument),*)))
+        (state, variants!(accept, boundary::in_and_out, undo, $call($($argument),*)))
     }};
 }
 
@@ -127,6 +139,18 @@ pub fn write(state: &State) -> (State, Variants) {
 pub fn link(state: &State) -> (State, Variants) {
     let (page, named) = (pinned(state), unnamed(state));
     undone!(state.clone(), link(page, EMPTY_SLOT, named))
+}
+
+/// A page that no word names, into a slot that is taken: rule 9's pass goes over the whole store before 8 is answered.
+pub fn link_taken(state: &State) -> (State, Variants) {
+    let page = unnamed(state);
+    refused_link!(state.clone(), link(ROOT, 0, page))
+}
+
+/// A page that is named, into a slot that another page has: the pass ends at the stored page that names it.
+pub fn link_named(state: &State) -> (State, Variants) {
+    let page = last_named(state);
+    refused_link!(state.clone(), link(ROOT, 0, page))
 }
 
 pub fn unlink(state: &State) -> (State, Variants) {

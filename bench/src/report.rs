@@ -111,11 +111,10 @@ fn stack_of(figure: &Figure, depths: &[Depth]) -> usize {
 
 /// What of the goal a row misses and why, or that it is met.
 fn goal(figure: &Figure, stack: usize, figures: &[Figure]) -> String {
-    let whole_buffer = figure.grows == Grows::Pages && figure.pages > figure.count;
     let tests = [
         (figure.ratio_without_copy() <= MOST, "1.10 without the copy"),
         (figure.count < 64 || figure.ratio() <= MOST, "1.10 at F = 64"),
-        (!whole_buffer || figure.ratio() <= MOST_WHOLE_BUFFER, "1.00 for a whole buffer"),
+        (!figure.whole_store() || figure.ratio() <= MOST_WHOLE_BUFFER, "1.00 for a whole buffer"),
         (stack < MOST_STACK, "stack"),
     ];
     let misses: Vec<&str> = tests.iter().filter(|(met, _)| !met).map(|(_, name)| *name).collect();

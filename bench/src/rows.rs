@@ -1,7 +1,7 @@
 //! The rows of the table, and their figures.
 use crate::calls::{
-    evict_dirty, find, fix_clean, fix_dirty, fix_hit, link, open, peek, root, settle_dirty, show, unfix,
-    unlink, word, write,
+    evict_dirty, find, fix_clean, fix_dirty, fix_hit, link, link_named, link_taken, open, peek, root,
+    settle_dirty, show, unfix, unlink, word, write,
 };
 use crate::timing::{deeper, Race, Times, Variants};
 use pool_bench::shapes::{Shape, State};
@@ -78,6 +78,12 @@ const OF_EVERY_USER: &[Call] = &[
     ("write, 8 bytes", write),
 ];
 
+/// A call whose pass over the store ends before the store does.
+const NAMED_PAGE: &str = "link, named page";
+
+const OVER_THE_STORE: &[Call] =
+    &[("link", link), ("link, slot taken", link_taken), (NAMED_PAGE, link_named), ("open", open)];
+
 const fn by_frames(shape: Shape, calls: &'static [Call]) -> Block {
     Block { shape, grows: Grows::Frames, sizes: BY_FRAMES, calls }
 }
@@ -88,7 +94,7 @@ const fn by_pages(shape: Shape, calls: &'static [Call]) -> Block {
 
 static BLOCKS: [Block; 7] = [
     by_frames(Shape::Full, WITH_FULL_FRAMES),
-    by_pages(Shape::Full, &[("link", link), ("open", open)]),
+    by_pages(Shape::Full, OVER_THE_STORE),
     by_frames(Shape::Leaves, WITH_FULL_FRAMES),
     by_frames(Shape::Opened, ON_THE_ROOT),
     Block { shape: Shape::Few, grows: Grows::Frames, sizes: SMALL, calls: OF_EVERY_USER },
@@ -109,6 +115,11 @@ impl Figure {
     /// The call's name, without what it meets.
     pub fn call(&self) -> &str {
         call_of(self.label)
+    }
+
+    /// Whether the checks of a whole store dominate the row.
+    pub fn whole_store(&self) -> bool {
+        self.grows == Grows::Pages && self.pages > self.count && self.label != NAMED_PAGE
     }
 
     /// F or N, whichever the row is there to show.

@@ -111,7 +111,7 @@ fn release_all_but_two(state: &mut State) {
     }
 }
 
-/// The page that was pinned last: the first one after the root, or the root where it is alone.
+/// The page in frame 1, which is pinned, or the root where it is alone.
 pub fn pinned(state: &State) -> Handle {
     let frame = FrameIndex(state.records.records[1].used);
     Handle { frame, page: state.records.record(frame).page }
@@ -131,6 +131,11 @@ pub fn absent(state: &State) -> (Handle, usize) {
 pub fn last_resident(state: &State) -> PageNumber {
     let used = state.records.records.iter().rev().find(|record| record.is_used());
     used.expect("the root is resident").page
+}
+
+/// The last page that a word names, in every shape but `Leaves`.
+pub fn last_named(state: &State) -> PageNumber {
+    PageNumber(state.records.pages - 2)
 }
 
 /// A page that isn't resident and that no word names.

@@ -135,7 +135,9 @@ pub fn write(
         .answer(pool)
 }
 
-/// Stores a page number in an empty slot of the handle's page, which is then dirty. Refused: 1, 2, 3, 4, 6, 8, 9.
+/// Stores a page number in an empty slot of the handle's page, which is then dirty. After [`FullSlot`](Refusal::FullSlot) the
+/// page can go into an empty slot, after [`AlreadyNamed`](Refusal::AlreadyNamed) into none until the word that names it is
+/// unlinked. Refused: 1, 2, 3, 4, 6, 9, 8.
 pub fn link(
     pool: &mut Pool,
     frames: &mut [u8],

@@ -5,7 +5,8 @@ use std::fmt;
 /// Declares the rules, each with its number and its sentence.
 macro_rules! rules {
     ($($name:ident = $number:literal, $sentence:literal;)*) => {
-        /// The first rule that a call breaks, in checking order. `enum pool_refusal` of `include/pagepool.h` has the same.
+        /// The first rule that a call breaks. The rules stand in checking order, and compare by their numbers. `enum pool_refusal`
+        /// of `include/pagepool.h` has the same.
         ///
         /// ```
         /// use pagepool::Refusal;
@@ -41,8 +42,8 @@ rules! {
     BadRange = 5, "The offset is above 192, or the length above 192 - offset.";
     BadPage = 6, "The page number isn't below N, or is 0 in link.";
     EmptySlot = 7, "Fix or unlink meets a word of 0.";
-    FullSlot = 8, "Link meets a word that isn't 0.";
     AlreadyNamed = 9, "Link's page is named already, by a word of any page.";
+    FullSlot = 8, "Link meets a word that isn't 0.";
     Resident = 10, "Unlink's page is resident.";
     NotResident = 11, "Evict's page isn't resident.";
     NotOpen = 12, "Evict's page is the root, is pinned, or names a resident page.";

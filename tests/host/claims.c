@@ -160,6 +160,22 @@ static void no_frame(void)
     claim("an unfix makes room", three.refusal == 0 && three.handle.frame == one.handle.frame && three.looks > 0);
 }
 
+/* After 8 an empty slot takes the page, after 9 none does until the word that names it is unlinked. */
+static void taken_slots(void)
+{
+    struct pool pool = begin();
+    claim("a named page into another's slot", done_refused(pool_link(pool, LENT, root, 1, 2), POOL_ALREADY_NAMED, pool));
+    claim("a named page into its own slot", done_refused(pool_link(pool, LENT, root, 1, 1), POOL_ALREADY_NAMED, pool));
+    claim("a named page into an empty slot", done_refused(pool_link(pool, LENT, root, 0, 1), POOL_ALREADY_NAMED, pool));
+    claim("page 0 into a taken slot", done_refused(pool_link(pool, LENT, root, 1, 0), POOL_BAD_PAGE, pool));
+    claim("an unnamed page into a taken slot", done_refused(pool_link(pool, LENT, root, 1, 4), POOL_FULL_SLOT, pool));
+    struct pool_done done = pool_link(pool, LENT, root, 0, 4);
+    claim("which an empty slot takes", done.refusal == POOL_ACCEPTED);
+    pool = pool_unlink(done.pool, LENT, root, 1).pool;
+    claim("an unlinked page into a taken slot", done_refused(pool_link(pool, LENT, root, 0, 1), POOL_FULL_SLOT, pool));
+    claim("which an empty slot takes", pool_link(pool, LENT, root, 5, 1).refusal == POOL_ACCEPTED);
+}
+
 static void payloads(void)
 {
     struct pool_fixed one = pool_fix(begin(), LENT, root, 1);
@@ -194,6 +210,7 @@ int main(void)
     refused_answers();
     handles();
     no_frame();
+    taken_slots();
     payloads();
     open_forgets();
     return failures != 0;

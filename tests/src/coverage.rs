@@ -1,5 +1,6 @@
-//! How often each call met each answer.
+//! How often each call met each answer, and a link into a taken slot each namer of its page.
 use crate::calls::{Answer, Call, NAMES};
+use crate::model::taken::Namer;
 use std::collections::BTreeMap;
 use std::fmt;
 use words::rules::Table;
@@ -10,6 +11,7 @@ pub type Pair = (&'static str, u8);
 #[derive(Clone, Default)]
 pub struct Coverage {
     counts: BTreeMap<Pair, u64>,
+    namers: BTreeMap<Namer, u64>,
     sweeps: u64,
     most_looks: u16,
 }
@@ -23,6 +25,13 @@ impl Coverage {
         }
     }
 
+    /// Counts a link: what names its page where the slot is taken.
+    pub fn count_namer(&mut self, namer: Option<Namer>) {
+        if let Some(namer) = namer {
+            *self.namers.entry(namer).or_default() += 1;
+        }
+    }
+
     pub fn calls(&self) -> u64 {
         self.counts.values().sum()
     }
@@ -31,6 +40,11 @@ impl Coverage {
     pub fn missing(&self, table: &Table, wanted: &[u8]) -> Vec<Pair> {
         let possible = table.rules.iter().flat_map(|rule| rule.calls.iter().map(|call| (*call, rule.number)));
         possible.filter(|pair| wanted.contains(&pair.1) && !self.counts.contains_key(pair)).collect()
+    }
+
+    /// The namers that no link into a taken slot met.
+    pub fn missing_namers(&self) -> Vec<Namer> {
+        Namer::ALL.into_iter().filter(|namer| !self.namers.contains_key(namer)).collect()
     }
 
     /// The pairs that occurred and are not in the table.
@@ -50,7 +64,11 @@ impl fmt::Display for Coverage {
             }
             writeln!(f)?;
         }
-        writeln!(f, "{} calls, {} pairs of call and answer", self.calls(), self.counts.len())?;
+        write!(f, "links into a taken slot, by what names the page:")?;
+        for (namer, count) in &self.namers {
+            write!(f, " {namer:?}:{count}")?;
+        }
+        writeln!(f, "\n{} calls, {} pairs of call and answer", self.calls(), self.counts.len())?;
         write!(f, "{} sweeps took a frame, in up to {} looks", self.sweeps, self.most_looks)
     }
 }

@@ -2,9 +2,9 @@
 use crate::calls::{Answer, Call};
 use crate::coverage::Coverage;
 use crate::ensure;
-use crate::model::Model;
+use crate::model::{taken, Model};
 use crate::pool::Machine;
-use crate::records::State;
+use crate::records::{PageNumber, State};
 
 /// Makes a call, which must answer what is wanted and leave what is expected.
 fn compare(
@@ -23,7 +23,8 @@ fn compare(
     Ok(answer)
 }
 
-/// All must answer and leave the same, and a refused call must leave all as found.
+/// All must answer and leave the same, a refused call must leave all as found, and link must answer as document 01's order
+/// does but where request A.9 changes it.
 pub fn step(
     machine: &impl Machine,
     state: &mut State,
@@ -39,6 +40,11 @@ pub fn step(
     let answer = compare(machine, state, call, &wanted, &expected)?;
     if !answer.accepted() && *state != before {
         return Err(format!("{call:?}, {answer:?}, changes something"));
+    }
+    if let Call::Link(handle, slot, page) = call {
+        let namer = taken::compare(&before, *handle, *slot, PageNumber(*page), answer.number())
+            .map_err(|fault| format!("{call:?}: {fault}"))?;
+        coverage.count_namer(namer);
     }
     coverage.count(call, &answer);
     Ok(answer)

@@ -1,7 +1,8 @@
-//! Document 01 as a program, naive on purpose: each rule and each call reads like its sentence.
+//! Document 01 as a program, with document 02's changes, naive on purpose: each rule and each call reads like its sentence.
 mod agreement;
 mod moves;
 mod rules;
+pub mod taken;
 
 use crate::pool::{Buffer, Fixed, Machine, Place, Refusal};
 use crate::records::{
@@ -167,8 +168,8 @@ impl Machine for Model {
         rules::slot(slot)?;
         rule(6, page != PageNumber(0))?;
         rules::page(&state.pool, page)?;
-        rule(8, frame_word(&state.frames, handle.frame, slot) == 0)?;
         rules::unnamed(state, page)?;
+        rule(8, frame_word(&state.frames, handle.frame, slot) == 0)?;
         put_link(state, handle, slot, page.into());
         Ok(())
     }

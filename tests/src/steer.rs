@@ -68,10 +68,7 @@ pub fn call(random: &mut Random, state: &State, index: usize) -> Call {
         5 => Call::Peek(page(random, state)),
         6 => Call::Word(handle, named_slot(random, state, handle)),
         7 => write(random, state, handle),
-        8 => {
-            let slot = free_slot(random, state, handle);
-            Call::Link(handle, slot, link_page(random, state))
-        }
+        8 => link(random, state, handle),
         9 => Call::Unlink(handle, named_slot(random, state, handle)),
         10 => Call::Evict(evict_page(random, state)),
         11 => Call::Settle,
@@ -123,17 +120,56 @@ fn slots_where(state: &State, frame: FrameIndex, test: fn(u32) -> bool) -> impl 
     state.words(frame).enumerate().filter(move |(_, word)| test(*word)).map(|(slot, _)| slot)
 }
 
+/// The slots of pinned pages whose words pass a test.
+fn pinned_slots(state: &State, test: fn(u32) -> bool) -> impl Iterator<Item = (Handle, usize)> + '_ {
+    let pinned = state.occupied().filter(|(_, record)| record.pins > 0);
+    pinned.flat_map(move |(frame, record)| {
+        let handle = Handle { frame, page: record.page };
+        slots_where(state, frame, test).map(move |slot| (handle, slot))
+    })
+}
+
 /// A fix: most of the time of a page that isn't resident.
 fn fix(random: &mut Random, state: &State, handle: Handle) -> Call {
-    let pinned = state.occupied().filter(|(_, record)| record.pins > 0);
-    let loads = pinned.flat_map(|(frame, record)| {
-        let handle = Handle { frame, page: record.page };
-        slots_where(state, frame, is_number).map(move |slot| Call::Fix(handle, slot))
-    });
-    match random.choose(loads) {
-        Some(load) if random.percent(60) => load,
+    match random.choose(pinned_slots(state, is_number)) {
+        Some((handle, slot)) if random.percent(60) => Call::Fix(handle, slot),
         _ => Call::Fix(handle, named_slot(random, state, handle)),
     }
+}
+
+/// A link: most of the time into an empty slot, otherwise into one that is taken.
+fn link(random: &mut Random, state: &State, handle: Handle) -> Call {
+    match random.choose(pinned_slots(state, |word| word != 0)) {
+        Some((handle, slot)) if random.percent(30) => {
+            let page = match random.below(5) {
+                0 => named_in(state, handle.frame, slot),
+                1 => random.choose(named_in_store(state)),
+                _ => None,
+            };
+            Call::Link(handle, slot, page.unwrap_or_else(|| link_page(random, state)))
+        }
+        _ => {
+            let slot = free_slot(random, state, handle);
+            Call::Link(handle, slot, link_page(random, state))
+        }
+    }
+}
+
+/// The page that a slot of a frame names.
+fn named_in(state: &State, frame: FrameIndex, slot: usize) -> Option<u16> {
+    let word = state.words(frame).nth(slot)?;
+    match word.checked_sub(SWIZZLE_BIT) {
+        Some(frame) => state.pool.records.get(frame as usize).map(|record| record.page.0),
+        None => Some(word as u16),
+    }
+}
+
+/// The pages that stored pages name which aren't resident themselves.
+fn named_in_store(state: &State) -> Vec<u16> {
+    let resident: Vec<u16> = state.occupied().map(|(_, record)| record.page.0).collect();
+    let stored = (0..).zip(state.store.chunks_exact(PAGE_SIZE)).filter(|(page, _)| !resident.contains(page));
+    let words = stored.flat_map(|(_, page)| (0..SLOTS).map(|slot| word_in(page, slot)));
+    words.filter(|word| *word != 0).map(|word| word as u16).collect()
 }
 
 /// A slot, at times above 15.

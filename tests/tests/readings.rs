@@ -1,10 +1,11 @@
-//! Single consequences of document 01, each with the figures that show it.
-use pool_tests::calls::{Answer, Call};
+//! Single consequences of document 01 and of the requests, each with the figures that show it.
+use pool_tests::calls::{Answer, Call, NAMES};
 use pool_tests::pool::{Buffer, Fixed, Machine, Place, UnderTest};
 use pool_tests::records::{
     handle, FrameIndex, FrameRecord, Handle, PageNumber, Pool, PAGE_SIZE, SWIZZLE_BIT,
 };
 use pool_tests::trial::Trial;
+use words::rules::Table;
 
 /// The store lags behind the map: a page that moved can stand in two stored words.
 #[test]
@@ -95,30 +96,35 @@ fn counts_out_of_range_are_lengths_refused() {
     }
 }
 
-/// Calls that break two rules or more are refused by the first.
+/// A call that breaks several rules is refused by the one that stands first in the table of rules.
 #[test]
 fn the_first_broken_rule_answers() {
+    let table = Table::standing();
+    let first = |call: &Call, broken: &[u8]| {
+        table.answers(NAMES[call.index()]).find(|number| broken.contains(number)).expect("one of its rules")
+    };
     let (mut trial, [root, five, _]) = two_children();
+    trial.put_stored_word(12, 14, 16);
     let stale = handle(3, 7);
-    for (call, number) in [
-        (Call::Fix(stale, 16), 3),
-        (Call::Word(stale, 16), 3),
-        (Call::Write(stale, 193, vec![]), 3),
-        (Call::Link(stale, 16, 0), 3),
-        (Call::Unlink(stale, 16), 3),
-        (Call::Link(root, 16, 0), 4),
-        (Call::Link(root, 1, 16), 6),
-        (Call::Link(root, 1, 6), 8),
-        (Call::Link(five, 1, 6), 9),
-        (Call::Unlink(five, 1), 7),
-        (Call::Evict(16), 6),
-        (Call::Evict(8), 11),
-    ] {
-        assert_eq!(trial.number(call.clone()), number, "{call:?}");
+    let cases: [(Call, &[u8]); 11] = [
+        (Call::Fix(stale, 16), &[3, 4]),
+        (Call::Word(stale, 16), &[3, 4]),
+        (Call::Write(stale, 193, vec![]), &[3, 5]),
+        (Call::Unlink(stale, 16), &[3, 4]),
+        (Call::Link(stale, 16, 0), &[3, 4, 6]),
+        (Call::Link(root, 16, 0), &[4, 6]),
+        (Call::Link(five, 1, 16), &[6, 9]),
+        (Call::Link(root, 1, 16), &[6, 8, 9]),
+        (Call::Link(root, 1, 0), &[6, 8]),
+        (Call::Link(root, 1, 6), &[8, 9]),
+        (Call::Evict(16), &[6, 11]),
+    ];
+    for (call, broken) in cases {
+        assert_eq!(trial.number(call.clone()), first(&call, broken), "{call:?}");
     }
     trial.state.pool.hand = FrameIndex(4);
     for call in [Call::Fix(stale, 16), Call::Show(stale), Call::Peek(16), Call::Evict(16)] {
-        assert_eq!(trial.number(call.clone()), 2, "{call:?}");
+        assert_eq!(trial.number(call.clone()), first(&call, &[2, 3, 4, 6, 11]), "{call:?}");
     }
 }
 
@@ -374,6 +380,30 @@ fn link_asks_images_and_the_rest_of_the_store() {
     assert_eq!(trial.number(Call::Link(five, 1, 8)), 9, "a page out of reach names it");
     trial.put_stored_word(5, 15, 9);
     trial.accept(Call::Link(five, 1, 9));
+}
+
+/// A.9: a page that is named is refused by 9 in a taken slot too, and one that isn't by 8, which an empty slot then takes.
+#[test]
+fn a_named_page_comes_before_a_taken_slot() {
+    let (mut trial, [root, five, _]) = two_children();
+    trial.put_stored_word(7, 0, 8);
+    trial.put_stored_word(12, 15, 9);
+    trial.put_stored_word(12, 14, 16);
+    for (slot, page, number, why) in [
+        (1, 5, 9, "that very slot names it, swizzled"),
+        (3, 7, 9, "that very slot names it by its number"),
+        (1, 6, 9, "another slot names it, swizzled"),
+        (1, 7, 9, "another slot names it by its number"),
+        (1, 8, 9, "a page that isn't resident names it"),
+        (1, 9, 9, "a page out of reach names it"),
+        (1, 10, 8, "nothing names it, and the slot is swizzled"),
+        (3, 10, 8, "nothing names it, and the slot has a number"),
+        (1, 0, 6, "page 0"),
+        (3, 16, 6, "a page not below N, though a stored word has its number"),
+    ] {
+        assert_eq!(trial.number(Call::Link(root, slot, page)), number, "{why}");
+    }
+    trial.accept(Call::Link(five, 0, 10));
 }
 
 /// Rule 14 on each of its grounds.

@@ -1,7 +1,6 @@
-//! The table of rules against the C header and the Rust package: numbers, names, and which call is refused by which.
+//! The table of rules against the C header and the Rust package: numbers, names, and which call is refused by which, in which order.
 use pagepool::Refusal;
 use pool_tests::calls::NAMES;
-use std::collections::BTreeSet;
 use std::fs;
 use words::rules::Table;
 
@@ -22,8 +21,8 @@ fn named_numbers<'a>(source: &'a str, opening: &str) -> Vec<(&'a str, u8)> {
     pairs.map(|(name, number)| (name, number.parse().expect(name))).collect()
 }
 
-/// The numbers after "Refused:" in the comment that ends before a function's declaration.
-fn refused(source: &str, declaration: &str) -> BTreeSet<u8> {
+/// The numbers after "Refused:" in the comment that ends before a function's declaration, as they stand there.
+fn refused(source: &str, declaration: &str) -> Vec<u8> {
     let before = source.split_once(declaration).unwrap_or_else(|| panic!("no '{declaration}'")).0;
     let sentence = before.rsplit_once("Refused:").expect(declaration).1.split('.').next().unwrap_or_default();
     let words = sentence.split(|sign: char| !sign.is_ascii_digit()).filter(|word| !word.is_empty());
@@ -67,12 +66,12 @@ fn the_same_sentences() {
     }
 }
 
-/// What each call is refused by, as the header and the package say beside it.
+/// What each call is refused by, in checking order, as the header and the package say beside it.
 #[test]
 fn refused_by_which() {
     let (table, package) = (Table::standing(), package());
     for call in &table.calls {
-        let rules: BTreeSet<u8> = table.answers(call).filter(|number| *number != 0).collect();
+        let rules: Vec<u8> = table.answers(call).filter(|number| *number != 0).collect();
         assert_eq!(refused(HEADER, &format!(" pool_{call}(")), rules, "include/pagepool.h, pool_{call}");
         let declaration = ["(", "<"].map(|sign| format!("\npub fn {call}{sign}"));
         let declared = declaration.iter().find(|text| package.contains(*text)).expect(call);

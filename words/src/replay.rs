@@ -27,15 +27,26 @@ impl Replay {
                 accepted(&call, line)
             }
             (0, None) => return Err(format!("{said} makes no call, and was accepted")),
-            (number, _) => self.refused(number)?,
+            (number, call) => self.refused(number, call.as_ref())?,
         };
         Ok(format!("{said}: {answer}"))
     }
 
-    fn refused(&self, number: u8) -> Result<String, String> {
+    fn refused(&self, number: u8, call: Option<&Call>) -> Result<String, String> {
         let rule =
             self.table.rule(number).ok_or_else(|| format!("refused by {number}, which rules.txt has not"))?;
-        Ok(format!("refused by rule {number}: {}", rule.sentence))
+        Ok(format!("refused by rule {number}: {}{}", rule.sentence, self.hint(number, call)))
+    }
+
+    /// What helps with a refused link: that an empty slot takes the page, or which slot names it.
+    fn hint(&self, number: u8, call: Option<&Call>) -> String {
+        let Some(Call::Link { page, .. }) = call else { return String::new() };
+        let namer = self.named.iter().find(|(_, named)| *named == page);
+        match (number, namer) {
+            (8, _) => " An empty slot takes it.".to_string(),
+            (9, Some(((parent, slot), _))) => format!(" Slot {slot} of page {parent} names it."),
+            _ => String::new(),
+        }
     }
 
     fn feed(&mut self, call: &Call) {

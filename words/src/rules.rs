@@ -18,6 +18,7 @@ pub struct Rule {
 pub struct Table {
     /// Every call, in the order of the columns.
     pub calls: Vec<&'static str>,
+    /// Every row: 0, the calls' rules in checking order, and the listing's own.
     pub rules: Vec<Rule>,
 }
 
@@ -39,12 +40,8 @@ impl Table {
         let mut table = Table { calls, rules: Vec::new() };
         for (index, line) in lines {
             let rule = row(&table.calls, line).map_err(|why| format!("line {}: {why}", index + 1))?;
-            if table.rules.last().is_some_and(|before| before.number >= rule.number) {
-                return Err(format!(
-                    "line {}: rule {} doesn't follow a smaller number",
-                    index + 1,
-                    rule.number
-                ));
+            if table.rule(rule.number).is_some() {
+                return Err(format!("line {}: rule {} stands twice", index + 1, rule.number));
             }
             table.rules.push(rule);
         }
@@ -55,7 +52,7 @@ impl Table {
         self.rules.iter().find(|rule| rule.number == number)
     }
 
-    /// The numbers that a call can answer.
+    /// The numbers that a call can answer, in checking order.
     pub fn answers<'a>(&'a self, call: &'a str) -> impl Iterator<Item = u8> + 'a {
         self.rules.iter().filter(move |rule| rule.calls.contains(&call)).map(|rule| rule.number)
     }

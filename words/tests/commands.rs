@@ -45,6 +45,8 @@ find 0
 write 190 0102 of 1 7
 write 192 - of 1 7
 link 8 3 of 0 0
+link 7 3 of 0 0
+link 7 5 of 0 0
 unlink 3 of 0 0
 fix 4 of 0 0
 unfix 1 7
@@ -66,23 +68,25 @@ const TOLD: &str = "\
 7  find page 0: in frame 0
 8  write 0102 at 190 of page 7 in frame 1: done
 9  write nothing at 192 of page 7 in frame 1: done
-10  link page 8 at slot 3 (page 7) of page 0 in frame 0: refused by rule 8: Link meets a word that isn't 0.
-11  unlink slot 3 (page 7) of page 0 in frame 0: refused by rule 10: Unlink's page is resident.
-12  fix slot 4 of page 0 in frame 0: refused by rule 7: Fix or unlink meets a word of 0.
-13  unfix page 7 in frame 1: done
-14  unfix page 7 in frame 2: refused by rule 3: The handle's frame index isn't below F, that frame doesn't hold its page, or its pins are 0.
-15  evict page 7: done
-16  unlink slot 3 (page 7) of page 0 in frame 0: done
-17  fix slot 3 of page 0 in frame 0: refused by rule 7: Fix or unlink meets a word of 0.
-18  settle: done
-19  record 0b000000000000000000000000000000: refused by rule 17: The listing program's record has a call outside 1 to 9 or a length above 9 (tested there before all others).
+10  link page 8 at slot 3 (page 7) of page 0 in frame 0: refused by rule 8: Link meets a word that isn't 0. An empty slot takes it.
+11  link page 7 at slot 3 (page 7) of page 0 in frame 0: refused by rule 9: Link's page is already named by a word of any page, resident pages taken by their images and the others from the store. Slot 3 of page 0 names it.
+12  link page 7 at slot 5 of page 0 in frame 0: refused by rule 9: Link's page is already named by a word of any page, resident pages taken by their images and the others from the store. Slot 3 of page 0 names it.
+13  unlink slot 3 (page 7) of page 0 in frame 0: refused by rule 10: Unlink's page is resident.
+14  fix slot 4 of page 0 in frame 0: refused by rule 7: Fix or unlink meets a word of 0.
+15  unfix page 7 in frame 1: done
+16  unfix page 7 in frame 2: refused by rule 3: The handle's frame index isn't below F, that frame doesn't hold its page, or its pins are 0.
+17  evict page 7: done
+18  unlink slot 3 (page 7) of page 0 in frame 0: done
+19  fix slot 3 of page 0 in frame 0: refused by rule 7: Fix or unlink meets a word of 0.
+20  settle: done
+21  record 0b000000000000000000000000000000: refused by rule 17: The listing program's record has a call outside 1 to 9 or a length above 9 (tested there before all others).
 ";
 
 #[test]
 fn a_recording_is_told_from_words_and_from_records() {
     assert_eq!(words(&["replay", LISTING, "-"], CALLS.as_bytes()), (0, TOLD.to_string(), String::new()));
     let records = run(&["records"], CALLS.as_bytes(), Stdio::piped()).stdout;
-    assert_eq!(records.len(), 19 * 16);
+    assert_eq!(records.len(), 21 * 16);
     assert_eq!(words(&["replay", LISTING, "-"], &records).1, TOLD);
     let lines = words(&["lines"], &records).1;
     assert_eq!(words(&["replay", LISTING, "-"], lines.as_bytes()).1, TOLD);

@@ -168,8 +168,8 @@ fn link_with<const MOST: usize>(
     rules::handle(pool, handle)?;
     rules::slot(slot)?;
     rule(Refusal::BadPage, page != PageNumber(0) && page.0 < pool.pages)?;
-    rule(Refusal::FullSlot, page::word(&pages_of(frames)[usize::from(handle.frame)], slot) == 0)?;
     rule(Refusal::AlreadyNamed, !seen.has(page) && !naming::is_stored(pool, pages_of(store), page))?;
+    rule(Refusal::FullSlot, page::word(&pages_of(frames)[usize::from(handle.frame)], slot) == 0)?;
     put_link(pool, frames, handle, slot, page.into());
     Ok(())
 }

@@ -48,7 +48,7 @@ pub fn write_refusal(
     0
 }
 
-// Rules 1 to 4, 6, 8 and 9.
+// Rules 1 to 4, 6, 9 and 8.
 pub fn link_refusal(
     pool: Pool,
     held: FrameRecord,
@@ -74,11 +74,11 @@ pub fn link_refusal(
     if n <= page.0 as usize {
         return 6;
     }
-    if page::slot::slot_name(frames, handle.frame, slot) != page::word::NOTHING {
-        return 8;
-    }
     if naming::is_named(residents, seen, store, n, page) {
         return 9;
+    }
+    if page::slot::slot_name(frames, handle.frame, slot) != page::word::NOTHING {
+        return 8;
     }
     0
 }

@@ -135,8 +135,9 @@ writeCall s h offset bytes = decide s (writeRules s h offset (length bytes)) (ou
 
 -- ---- link: "stores an unswizzled page number in an empty slot"; unlink: "clears one. Both set dirty."
 
+-- request A.9: "Test 9 before 8."
 abbrev pub linkRules : State → Handle → ℕ → PageNumber → List Rule
-linkRules s h k q = wordRules s h k ++ (rule6-link s (q .0) ∷ rule8 (wordOf s h k) ∷ rule9 s (q .0) ∷ [])
+linkRules s h k q = wordRules s h k ++ (rule6-link s (q .0) ∷ rule9 s (q .0) ∷ rule8 (wordOf s h k) ∷ [])
 
 -- the word w in slot k of frame f, whose page is then dirty
 abbrev pub relinked : State → ℕ → ℕ → ℕ → State

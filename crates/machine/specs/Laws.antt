@@ -1,4 +1,4 @@
--- Laws of the definitions, for the code and for the theorem.
+-- Laws of the definitions, for the code and for the theorem, and what requests claim of them.
 pub mod TestLaws
 pub mod PlainLaws
 pub mod AgreementFacts
@@ -11,4 +11,5 @@ pub mod Ready
 pub mod RuleLaws
 pub mod Outcomes
 pub mod ResidentWords
+pub mod LinkOrder
 pub mod ByName

@@ -1,4 +1,4 @@
--- "Numbered denials, in checking order": the table of the rules. A rule's test holds where it is kept.
+-- "Numbered denials, in checking order", but that link tests 9 before 8 (request A.9): the table of the rules. A rule's test holds where it is kept.
 use Prim.Native.Nat.{ℕ, _*_, _-_, _/_}
 use mathlib.Core.Bool.{Bool, not}
 use mathlib.Core.List.{List}

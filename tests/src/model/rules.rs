@@ -73,7 +73,7 @@ fn names(page: &[u8], number: u32) -> bool {
 }
 
 /// The image of the page in a frame names a page.
-fn image_names(state: &State, frame: FrameIndex, number: u32) -> bool {
+pub fn image_names(state: &State, frame: FrameIndex, number: u32) -> bool {
     let page = page_of(&state.frames, frame.into());
     (0..SLOTS).any(|slot| unswizzled(&state.pool, word_in(page, slot)) == number)
 }

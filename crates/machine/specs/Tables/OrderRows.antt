@@ -1,4 +1,4 @@
--- "Numbered denials, in checking order": where one input breaks two rules of a call, the first is answered, and nothing changes.
+-- "Numbered denials, in checking order", but that link tests 9 before 8 (request A.9): where one input breaks two rules of a call, the first is answered, and nothing changes.
 use mathlib.Core.Path.{_≡_, refl}
 use mathlib.Core.Bool.{true}
 use mathlib.Core.List.{List, [], _∷_, _++_}
@@ -35,6 +35,10 @@ stale = pair 0 1 linked 1 (page (swizzledTo 0 ∷ []) 20) (page (swizzledTo 0 �
 -- the root's payload begins with a word that is swizzled to frame 1, where the pins are at their most
 abbrev beyond : State
 beyond = pair 0 1 (swizzledTo 1 ++ replicate 60 0 ++ swizzledTo 1 ++ replicate 188 0) 65535 (page [] 20) (page [] 22)
+
+-- the same frames over five pages: page 3, which no page names, names page 4, and 5, which isn't below N
+abbrev unreached : State
+unreached = machine 0 ((resident 0 1 0, linked) ∷ (resident 1 1 0, page [] 11) ∷ []) (page [] 20 ∷ page [] 21 ∷ page [] 22 ∷ page (names 4 ∷ names 5 ∷ []) 23 ∷ page [] 24 ∷ [])
 
 pub ordered : List Case
 ordered =
@@ -88,11 +92,18 @@ ordered-after =
     -- fix: 7 and 14, 14 and 15
     ∷ refuses (λ s. fixCall s (handleOf 0 0) 2) stale 7
     ∷ refuses (λ s. fixCall s (handleOf 0 0) 1) stale 14
-    -- link: 4 and 6, 6 and 8, 8 and 9
+    -- link: 4 and 6; 6 and 9: a stored page names page N, and the word of an empty slot is 0; 6 and 8
     ∷ refuses (λ s. linkCall s (handleOf 0 0) 16 (pageNumber 3)) sane 4
+    ∷ refuses (λ s. linkCall s (handleOf 0 0) 2 (pageNumber 5)) unreached 6
+    ∷ refuses (λ s. linkCall s (handleOf 0 0) 2 (pageNumber 0)) sane 6
     ∷ refuses (λ s. linkCall s (handleOf 0 0) 0 (pageNumber 3)) sane 6
     ∷ refuses (λ s. linkCall s (handleOf 0 0) 0 (pageNumber 0)) sane 6
-    ∷ refuses (λ s. linkCall s (handleOf 0 0) 0 (pageNumber 2)) sane 8
+    -- 9 and 8 (request A.9: "Test 9 before 8."): the page is named in another slot, in that very slot, as a number and swizzled, and by a page out of reach; one that isn't named is 8
+    ∷ refuses (λ s. linkCall s (handleOf 0 0) 0 (pageNumber 2)) sane 9
+    ∷ refuses (λ s. linkCall s (handleOf 0 0) 1 (pageNumber 2)) sane 9
+    ∷ refuses (λ s. linkCall s (handleOf 0 0) 0 (pageNumber 1)) sane 9
+    ∷ refuses (λ s. linkCall s (handleOf 0 0) 0 (pageNumber 4)) unreached 9
+    ∷ refuses (λ s. linkCall s (handleOf 0 0) 0 (pageNumber 3)) unreached 8
     -- evict: 6 and 11
     ∷ refuses (λ s. evictCall s (pageNumber 3)) sane 6
     ∷ []

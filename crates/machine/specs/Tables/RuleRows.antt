@@ -43,8 +43,11 @@ ruleTable =
 
 pub naming : List Case
 naming =
+    -- 8. "Link meets a word that isn't 0." With 9 before it (request A.9), for a page that isn't named.
+    refuses (λ s. linkCall s (handleOf 0 0) 0 (pageNumber 3)) (three 1 [] [] []) 8
+    ∷ refuses (λ s. linkCall s (handleOf 0 0) 1 (pageNumber 3)) (three 1 [] (names 3 ∷ []) []) 8
     -- 9. "Link's page is already named by a word of any page, resident pages taken by their images and the others from the store."
-    refuses (λ s. linkCall s (handleOf 1 1) 0 (pageNumber 1)) (three 1 [] [] []) 9
+    ∷ refuses (λ s. linkCall s (handleOf 1 1) 0 (pageNumber 1)) (three 1 [] [] []) 9
     ∷ refuses (λ s. linkCall s (handleOf 1 1) 0 (pageNumber 2)) (three 1 [] [] []) 9
     ∷ refuses (λ s. linkCall s (handleOf 1 1) 0 (pageNumber 3)) (three 1 [] [] (names 3 ∷ [])) 9
     ∷ leaves (linkCall (three 1 [] (names 3 ∷ []) []) (handleOf 0 0) 2 (pageNumber 3)) done

@@ -136,17 +136,17 @@ module _ (x : Point) (I : Invariant x) where
   -- ---- link, unlink, evict, settle
   pub link-case : (h : Handle) (k : ℕ) (q : PageNumber) → Cases (x .now) (MayLink x h k (q .0)) (out done (relinked (x .now) (h .frame .0) k (numberWord (q .0)))) (linkCall (x .now) h k q)
   unfolding linkCall usual lacks _and_
-  link-case h k q = by-rules (rule3 (x .now) h ∷ rule4 k ∷ rule6-link (x .now) (q .0) ∷ rule8 (wordOf (x .now) h k) ∷ rule9 (x .now) (q .0) ∷ []) _ _ refl (λ e.
-      let a = slot-rules (x .now) h k (rule6-link (x .now) (q .0) ∷ rule8 (wordOf (x .now) h k) ∷ rule9 (x .now) (q .0) ∷ []) e in
-      let b = first-kept 5 _ (rule8 (wordOf (x .now) h k) ∷ rule9 (x .now) (q .0) ∷ []) (a .1) in
-      let c = first-kept 7 (eqb (wordOf (x .now) h k) 0) (rule9 (x .now) (q .0) ∷ []) (b .1) in
-      let d = first-kept 8 (not (named (x .now) (q .0))) [] (c .1) in
+  link-case h k q = by-rules (rule3 (x .now) h ∷ rule4 k ∷ rule6-link (x .now) (q .0) ∷ rule9 (x .now) (q .0) ∷ rule8 (wordOf (x .now) h k) ∷ []) _ _ refl (λ e.
+      let a = slot-rules (x .now) h k (rule6-link (x .now) (q .0) ∷ rule9 (x .now) (q .0) ∷ rule8 (wordOf (x .now) h k) ∷ []) e in
+      let b = first-kept 5 _ (rule9 (x .now) (q .0) ∷ rule8 (wordOf (x .now) h k) ∷ []) (a .1) in
+      let c = first-kept 8 (not (named (x .now) (q .0))) (rule8 (wordOf (x .now) h k) ∷ []) (b .1) in
+      let d = first-kept 7 (eqb (wordOf (x .now) h k) 0) [] (c .1) in
       record {
         handle = a .0 .handle;
         inPage = a .0 .inPage;
-        vacant = eqb-true _ 0 (c .0);
+        vacant = eqb-true _ 0 (d .0);
         below = ltb-true _ _ (and-true (ltb 0 (q .0)) (ltb (q .0) (x .now .pool .pages)) (b .0) .1);
-        fresh = unnamed x I (q .0) (d .0);
+        fresh = unnamed x I (q .0) (c .0);
       })
 
   pub unlink-case : (h : Handle) (k : ℕ) → Cases (x .now) (MayUnlink (x .now) h k) (out done (relinked (x .now) (h .frame .0) k 0)) (unlinkCall (x .now) h k)

@@ -1,4 +1,4 @@
--- `changes::refusals::link_refusal` meets its contract: the rules of the slot, and then rules 6, 8 and 9, the last by the tables. Assumes nothing.
+-- `changes::refusals::link_refusal` meets its contract: the rules of the slot, and then rules 6, 9, by the tables, and 8. Assumes nothing.
 use Prim.Native.Nat.{ℕ, _/_, _≤_, _<_}
 use mathlib.Core.Path.{_≡_, sym, ap, _∙_}
 use mathlib.Core.Bool.{Bool, true, false, not}
@@ -22,19 +22,25 @@ use borrow.Author.Needs.{needs}
 use Rattle.changes.proofs.refusals.link_refusal.Statement.{statement}
 use Rattle.changes.proofs.refusals.link_refusal.Tie as tie
 
--- the points that are gone by: the start, past the rules of the slot, past rule 6, the slot's name read, it is empty
+-- the points that are gone by: the start, past the rules of the slot, past rule 6
 abbrev start : tie.Else1 → tie.Start
 start c = c .before .before .before .before .before .before
 
 abbrev past-slot : tie.Else3 → tie.Else1
 past-slot c = c .before .before .before .before
 
+abbrev past-number : tie.After-is-named → tie.Else3
+past-number c = c .before .before .before
+
 abbrev given : tie.Start → State
 given c = let a = c .args in state (a .pool) (a .frames .now) (a .store .now)
 
--- what comes after the rules of the slot
+-- what comes after rule 6, and after the rules of the slot
+abbrev last : tie.Start → List Rule
+last c = let s = given c in rule9 s (c .args .page .0) ∷ rule8 (wordOf s (c .args .handle) (c .args .slot)) ∷ []
+
 abbrev rest : tie.Start → List Rule
-rest c = let s = given c in let q = c .args .page .0 in rule6-link s q ∷ rule8 (wordOf s (c .args .handle) (c .args .slot)) ∷ rule9 s q ∷ []
+rest c = rule6-link (given c) (c .args .page .0) ∷ last c
 
 -- rule 6: the page number is 0; it isn't below N; it is a page's
 no-page : (q n : ℕ) → q ≡ 0 → (ltb 0 q and ltb q n) ≡ false
@@ -64,6 +70,9 @@ below c = omega (arith, stored (past-slot c), c .if3 .left)
 numbered : (c : tie.Else3) → let a = start (past-slot c) .args in (ltb 0 (a .page .0) and ltb (a .page .0) (a .pool .pages)) ≡ true
 numbered c = a-page _ _ (c .before .before .if2 .left) (below c)
 
+passed-number : (c : tie.Else3) {m : ℕ} → m ≡ firstBroken (last (start (past-slot c))) → let a = start (past-slot c) .args in m ≡ firstBroken (linkRules (given (start (past-slot c))) (a .handle) (a .slot) (a .page))
+passed-number c e = passed (past-slot c) (e ∙ sym (kept-then 6 _ (numbered c)))
+
 -- what the tables tell is what rule 9 asks
 told : (c : tie.Else3) {residents : List ℕ} {seen : Seen} → let a = start (past-slot c) .args in Handed (a .pool) (a .frames .now) residents seen
     → namedBy residents seen (a .store .now) (length (a .store .now) / pageSize) (a .page .0) ≡ named (given (start (past-slot c))) (a .page .0)
@@ -73,11 +82,8 @@ told c {residents} {seen} h =
     ap (λ (n : ℕ). namedBy residents seen (a .store .now) n (a .page .0)) (stored (past-slot c)) ∙ named-by-tables (given (start (past-slot c))) (kept (past-slot c) .kept) h (a .page .0) (omega arith) (below c)
 
 -- what rule 9's test answered is whether the page is named
-asked : (c : tie.After-is-named) → let past-numbered = c .before .before .before .before .before in c .is-named .result ≡ named (given (start (past-slot past-numbered))) (start (past-slot past-numbered) .args .page .0)
-asked c =
-    let past-numbered = c .before .before .before .before .before in
-    let handed = past-slot past-numbered in
-    c .is-named .ensures ∙ told past-numbered (handed .before .slot-refusal .ensures .1 (handed .if1 .left))
+asked : (c : tie.After-is-named) → let at-start = start (past-slot (past-number c)) in c .is-named .result ≡ named (given at-start) (at-start .args .page .0)
+asked c = let handed = past-slot (past-number c) in c .is-named .ensures ∙ told (past-number c) (handed .before .slot-refusal .ensures .1 (handed .if1 .left))
 
 slot-refusal-requires : tie.Need-slot-refusal-requires
 slot-refusal-requires c κs = search needs
@@ -105,41 +111,40 @@ returns-3 c =
     let l : a .pool .pages ≤ a .page .0 = omega (arith, stored past-handle, c .if3 .taken) in
     passed past-handle (sym (broken-here 6 _ (past-pages _ _ (past-zero .if2 .left) l)))
 
-slot-name-requires : tie.Need-slot-name-requires
-slot-name-requires c κs = let k = kept (past-slot c) in (omega arith, k .slot)
-
--- rule 8
-returns-4 : tie.Need-returns-4
-returns-4 c =
-    let at-name = c .before in
-    let past-numbered = at-name .before in
-    passed (past-slot past-numbered) (sym (kept-then 6 _ (numbered past-numbered) ∙ broken-here 8 _ (ne-eqb _ 0 (λ z. c .if4 .taken (at-name .slot-name .ensures ∙ z)))))
-
 is-named-requires : tie.Need-is-named-requires
 is-named-requires c κs =
-    let past-numbered = c .before .before .before .before in
+    let past-numbered = c .before .before in
     let z = kept (past-slot past-numbered) .kept .sized in
     let e = stored (past-slot past-numbered) in
     let l = below past-numbered in
     (omega arith, omega arith, omega arith)
 
 -- rule 9
+returns-4 : tie.Need-returns-4
+returns-4 c =
+    let at-is-named = c .before in
+    passed-number (past-number at-is-named) (sym (broken-here 9 _ (ap not (sym (asked at-is-named) ∙ c .if4 .taken))))
+
+slot-name-requires : tie.Need-slot-name-requires
+slot-name-requires c κs = let k = kept (past-slot (past-number (c .before))) in (omega arith, k .slot)
+
+-- rule 8
 returns-5 : tie.Need-returns-5
 returns-5 c =
-    let past-empty = c .before .before .before .before in
-    let at-name = past-empty .before in
-    let past-numbered = at-name .before in
-    passed (past-slot past-numbered)
-    (sym (kept-then 6 _ (numbered past-numbered) ∙ kept-then 8 _ (eq-eqb _ 0 (sym (at-name .slot-name .ensures) ∙ past-empty .if4 .left)) ∙ broken-here 9 [] (ap not (sym (asked (c .before)) ∙ c .if5 .taken))))
+    let at-name = c .before in
+    let past-unnamed = at-name .before in
+    let at-is-named = past-unnamed .before in
+    passed-number (past-number at-is-named)
+    (sym (kept-then 9 _ (ap not (sym (asked at-is-named) ∙ past-unnamed .if4 .left)) ∙ broken-here 8 [] (ne-eqb _ 0 (λ z. c .if5 .taken (at-name .slot-name .ensures ∙ z)))))
 
 -- no rule is broken
 returns-6 : tie.Need-returns-6
 returns-6 c =
-    let past-empty = c .before .before .before .before in
-    let at-name = past-empty .before in
-    let past-numbered = at-name .before in
-    passed (past-slot past-numbered)
-    (sym (kept-then 6 _ (numbered past-numbered) ∙ kept-then 8 _ (eq-eqb _ 0 (sym (at-name .slot-name .ensures) ∙ past-empty .if4 .left)) ∙ kept-then 9 [] (ap not (sym (asked (c .before)) ∙ c .if5 .left)) ∙ none-broken))
+    let at-name = c .before in
+    let past-unnamed = at-name .before in
+    let at-is-named = past-unnamed .before in
+    passed-number (past-number at-is-named)
+    (sym (kept-then 9 _ (ap not (sym (asked at-is-named) ∙ past-unnamed .if4 .left)) ∙ kept-then 8 [] (eq-eqb _ 0 (sym (at-name .slot-name .ensures) ∙ c .if5 .left)) ∙ none-broken))
 
 pub link-refusal-spec : {M : Type 1} → statement M
 link-refusal-spec =
@@ -150,8 +155,8 @@ link-refusal-spec =
     returns-2
     cast-if3
     returns-3
-    slot-name-requires
-    returns-4
     is-named-requires
+    returns-4
+    slot-name-requires
     returns-5
     returns-6)
