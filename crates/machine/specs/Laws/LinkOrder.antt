@@ -12,7 +12,7 @@ use Rattle.page.specs.Figures.{slotCount}
 use Rattle.page.specs.Word.{Swizzled, numberWord, namesNothing, high, low, reading}
 use Rattle.page.specs.Page.{name}
 use Rattle.machine.specs.declared.Handle.{Handle}
-use Rattle.machine.specs.Tests.{pick, _and_, Rule, firstBroken, verdict}
+use Rattle.machine.specs.Tests.{pick, _and_, Rule, firstBroken}
 use Rattle.machine.specs.Machine.{State, pageIn, occupied, found}
 use Rattle.machine.specs.Moves.{plain}
 use Rattle.machine.specs.Naming.{currentWord, named}
@@ -24,8 +24,8 @@ use Rattle.machine.specs.Laws.PlainLaws.{plain-low, plain-swizzled}
 use Rattle.machine.specs.Laws.AgreementFacts.{occupied-lt}
 use Rattle.machine.specs.Laws.FoundLaws.{holds-found, found-is}
 use Rattle.machine.specs.Laws.Ready.{Kept}
-use Rattle.machine.specs.Laws.RuleLaws.{held-occupied, slot-kept, slot-passes, decide-no}
-use Rattle.machine.specs.Laws.Outcomes.{kept, broken, outcome, lacks, one-refusal, broken-of}
+use Rattle.machine.specs.Laws.RuleLaws.{held-occupied, slot-kept, slot-passes}
+use Rattle.machine.specs.Laws.Outcomes.{kept, broken, outcome, lacks, one-refusal, refused-by, broken-by, same-by, answers-as, leaves-as}
 
 -- ---- document 01's order, 8 before 9: a definition for these laws alone, which no call cites
 
@@ -122,12 +122,6 @@ module _ (s : State) (K : Kept s) (f k : ℕ) (o : occupied (s .pool) f ≡ true
 
 -- ---- the claim
 
-answers-as : {a b : Out} → a ≡ b → a .answer ≡ b .answer
-answers-as e = ap (λ (x : Out). x .answer) e
-
-leaves-as : {a b : Out} → a ≡ b → a .left ≡ b .left
-leaves-as e = ap (λ (x : Out). x .left) e
-
 one-number : {a b : ℕ} → number a ≡ number b → a ≡ b
 one-number e = cc
 
@@ -158,19 +152,19 @@ module _ (s : State) (h : Handle) (k : ℕ) (q : PageNumber) where
   -- what is answered and left, by the number of the first broken rule; and the number, by the answer
   before-is : (n : ℕ) → n ≢ 0 → numberBefore shared vacant known ≡ n → linkCallBefore s h k q ≡ out (refused n) s
   unfolding linkCallBefore
-  before-is n z e = sym (decide-no s (linkRulesBefore s h k q) whenKept (sym e) z)
+  before-is = refused-by s (linkRulesBefore s h k q) whenKept
 
   now-is : (n : ℕ) → n ≢ 0 → numberNow shared vacant known ≡ n → linkCall s h k q ≡ out (refused n) s
   unfolding linkCall
-  now-is n z e = sym (decide-no s (linkRules s h k q) whenKept (sym e) z)
+  now-is = refused-by s (linkRules s h k q) whenKept
 
   same-call : numberNow shared vacant known ≡ numberBefore shared vacant known → linkCall s h k q ≡ linkCallBefore s h k q
-  unfolding linkCall linkCallBefore decide
-  same-call e = ap (λ (n : ℕ). verdict n (λ m. out (refused m) s) whenKept) e
+  unfolding linkCall linkCallBefore
+  same-call = same-by s (linkRules s h k q) whenKept (linkRulesBefore s h k q)
 
   before-broken : (n : ℕ) → linkCallBefore s h k q .answer ≡ refused n → numberBefore shared vacant known ≡ n
   unfolding linkCallBefore
-  before-broken n e = let rules = linkRulesBefore s h k q in broken-of s rules whenKept _ (outcome s rules rules whenKept refl) refl n e
+  before-broken = broken-by s (linkRulesBefore s h k q) whenKept refl
 
   -- ---- exactly
 

@@ -8,12 +8,13 @@ use native.Mathlib.Omega.{arith}
 use native.Mathlib.Decide.{ℕ-discrete}
 use borrow.Author.Tests.{eqb-false, not-true}
 use lib.Dec.{eqb}
-use Rattle.machine.specs.Tests.{_and_, pick, Rule, firstBroken}
-use Rattle.machine.specs.Laws.TestLaws.{clash, and-true, verdict-yes, verdict-no, numbered, broken-then}
+use Rattle.machine.specs.Tests.{_and_, pick, Rule, firstBroken, verdict}
+use Rattle.machine.specs.Laws.TestLaws.{clash, and-true, pick-either, verdict-yes, verdict-no, numbered, broken-then}
 use Rattle.machine.specs.Machine.{State}
-use Rattle.machine.specs.Answers.{refused, Out, out}
-use Rattle.machine.specs.Calls.{decide}
+use Rattle.machine.specs.Answers.{Answer, refused, Out, out}
+use Rattle.machine.specs.Calls.{decide, missOut, payloadPlace, foundAnswer}
 use Rattle.machine.specs.History.{accepted}
+use Rattle.machine.specs.Laws.RuleLaws.{decide-no}
 
 -- ---- by the rules
 
@@ -106,3 +107,41 @@ denied-of s Facts a o (denied m u q) t n e = rw (one-refusal s o m n q e) at u
 pub broken-of : (s : State) (rules : List Rule) (a o : Out) → Outcome s rules a o → accepted (a .answer) ≡ true → (n : ℕ) → o .answer ≡ refused n → firstBroken rules ≡ n
 broken-of s rules a o (kept k q) t n e = absurd (no-refusal a o n q t e)
 broken-of s rules a o (broken m z k q) t n e = k ∙ one-refusal s o m n q e
+
+-- ---- a call by its list of rules
+
+module _ (s : State) (rules : List Rule) (a : Out) where
+  pub refused-by : (n : ℕ) → n ≢ 0 → firstBroken rules ≡ n → decide s rules a ≡ out (refused n) s
+  refused-by n z e = sym (decide-no s rules a (sym e) z)
+
+  pub broken-by : accepted (a .answer) ≡ true → (n : ℕ) → decide s rules a .answer ≡ refused n → firstBroken rules ≡ n
+  broken-by = broken-of s rules a _ (outcome s rules rules a refl)
+
+  -- rules that lack a number don't answer it
+  pub never-by : accepted (a .answer) ≡ true → (n : ℕ) → n ≢ 0 → lacks n rules ≡ true → decide s rules a .answer ≢ refused n
+  never-by t n z l e = lacking n rules l z (broken-by t n e)
+
+  pub same-by : (others : List Rule) → firstBroken rules ≡ firstBroken others → decide s rules a ≡ decide s others a
+  unfolding decide
+  same-by others e = ap (λ (n : ℕ). verdict n (λ m. out (refused m) s) a) e
+
+pub answers-as : {a b : Out} → a ≡ b → a .answer ≡ b .answer
+answers-as e = ap (λ (o : Out). o .answer) e
+
+pub leaves-as : {a b : Out} → a ≡ b → a .left ≡ b .left
+leaves-as e = ap (λ (o : Out). o .left) e
+
+-- ---- what a call answers where it is accepted
+
+module _ (s : State) where
+  pub place-accepted : (q : ℕ) → accepted (payloadPlace s q) ≡ true
+  unfolding payloadPlace
+  place-accepted q = pick-either (λ (a : Answer). accepted a ≡ true) _ _ _ refl refl
+
+  pub found-accepted : (q : ℕ) → accepted (foundAnswer s q) ≡ true
+  unfolding foundAnswer
+  found-accepted q = pick-either (λ (a : Answer). accepted a ≡ true) _ _ _ refl refl
+
+  pub miss-accepted : (f k q : ℕ) → accepted (missOut s f k q .answer) ≡ true
+  unfolding missOut
+  miss-accepted f k q = pick-either (λ (o : Out). accepted (o .answer) ≡ true) _ _ _ refl refl

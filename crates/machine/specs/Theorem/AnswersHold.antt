@@ -10,11 +10,10 @@ use lib.Seq.{getD-take, getD-drop, ext-getD}
 use Rattle.page.specs.Figures.{pageSize, payloadStart, payloadSize}
 use Rattle.page.specs.Page.{name, byte, bytesFrom, payloadAt, payloadOf}
 use Rattle.machine.specs.declared.Handle.{Handle}
-use Rattle.machine.specs.Laws.TestLaws.{pick-either}
 use Rattle.machine.specs.Tests.{pick}
 use Rattle.machine.specs.Machine.{pageNumber, found}
 use Rattle.machine.specs.Answers.{Answer, refused, payload, inFrames, inStore, number, frame, Out, cut}
-use Rattle.machine.specs.Calls.{showCall, payloadPlace, peekCall, wordCall, foundAnswer, fixCall}
+use Rattle.machine.specs.Calls.{showCall, payloadPlace, peekCall, wordCall, fixCall}
 use Rattle.machine.specs.History.{Point, accepted}
 use Rattle.machine.specs.Demand3.{GivesPayload}
 use Rattle.machine.specs.Theorem.View.{view, Absent}
@@ -109,11 +108,3 @@ module _ (x : Point) (I : Invariant x) where
   pub show-usual : (h : Handle) (n : ℕ) → showCall (x .now) h .answer ≡ refused n → Usual n
   unfolding showCall
   show-usual h n e = denied-of _ _ _ _ (handle-case x I h _) refl n e
-
-  pub place-accepted : (p : ℕ) → accepted (payloadPlace (x .now) p) ≡ true
-  unfolding payloadPlace
-  place-accepted p = pick-either (λ (a : Answer). accepted a ≡ true) _ _ _ refl refl
-
-  pub found-accepted : (p : ℕ) → accepted (foundAnswer (x .now) p) ≡ true
-  unfolding foundAnswer
-  found-accepted p = pick-either (λ (a : Answer). accepted a ≡ true) _ _ _ refl refl

@@ -22,12 +22,12 @@ use Rattle.machine.specs.Laws.PlainLaws.{plain-low}
 use Rattle.machine.specs.Theorem.View.{view, first-root, first-page, not-first}
 use Rattle.machine.specs.Theorem.Invariant.{Invariant}
 use Rattle.machine.specs.Laws.SweepLaws.{Denied, rule15-denied, of-denied}
-use Rattle.machine.specs.Laws.Outcomes.{Outcome, kept, broken, lacks, lacking, kept-part, parts, first, second, broken-of}
+use Rattle.machine.specs.Laws.Outcomes.{Outcome, kept, broken, lacks, lacking, kept-part, parts, first, second, broken-of, miss-accepted}
 use Rattle.machine.specs.Theorem.Holders.{Holder}
 use Rattle.machine.specs.Theorem.TestReads.{Open, open-of, shut-of}
 use Rattle.machine.specs.Theorem.InvariantReads.{agreed, unbroken}
 use Rattle.machine.specs.Theorem.CallCases.{AtName, name-rules}
-use Rattle.machine.specs.Theorem.FixCases.{nameRules, loadRules, miss-accepted, number-outcome, stays-away, loads, swizzled-outcome}
+use Rattle.machine.specs.Theorem.FixCases.{nameRules, loadRules, number-outcome, stays-away, loads, swizzled-outcome}
 use Rattle.machine.specs.Theorem.Residence.{in-frame, resident-of, holder, not-resident, pinned-holder, pinned-of}
 use Rattle.machine.specs.Theorem.PointHolds.{number, swizzledTo, meets, swizzled-word}
 use Rattle.machine.specs.Theorem.Reads.{held-word}

@@ -19,7 +19,7 @@ use Rattle.machine.specs.Rules.{wordOf, rule3, rule4, rule7, rule13, rul
 use Rattle.machine.specs.Answers.{Out, out, refused}
 use Rattle.machine.specs.Calls.{decide, pinnedOut, loadedOut, sweptOut, missOut, fixEntryRules, fixCall}
 use Rattle.machine.specs.Theorem.View.{view, Absent}
-use Rattle.machine.specs.History.{Point, accepted}
+use Rattle.machine.specs.History.{Point}
 use Rattle.machine.specs.Theorem.Invariant.{Invariant}
 use Rattle.machine.specs.Laws.SweepLaws.{empty, full, first-empty}
 use Rattle.machine.specs.Laws.Outcomes.{Outcome, kept, broken, parts, first, second, Usual, usual, usual-breach, lacks}
@@ -44,10 +44,6 @@ pub fix-swizzled : (s : State) (h : Handle) (k : ℕ) → isNumber (wordOf s h k
     → fixCall s h k ≡ decide s (fixEntryRules s h k ++ (rule13 s (frameIn (wordOf s h k)) ∷ [])) (pinnedOut s (frameIn (wordOf s h k)))
 unfolding fixCall pick
 fix-swizzled s h k t = rw t
-
-pub miss-accepted : (s : State) (f k q : ℕ) → accepted (missOut s f k q .answer) ≡ true
-unfolding missOut pick
-miss-accepted s f k q = elim (case (ltb (firstEmpty (s .pool)) (s .pool .count))) [ on t ↦ rw t | off t ↦ rw t ]
 
 -- ---- the cases
 
