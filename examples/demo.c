@@ -71,11 +71,26 @@ static void write_text(struct pool_handle handle, const char *text)
     printf("write to page %d: %s\n", handle.page, text);
 }
 
+/* Why an evict was refused, and what to do. */
+static const char *reason(uint8_t refusal)
+{
+    switch (refusal) {
+    case POOL_IS_ROOT:
+        return "Evict's page is the root. It never leaves its frame.";
+    case POOL_IS_PINNED:
+        return "Evict's page is pinned. Unfix it until its pins are gone.";
+    case POOL_IS_PARENT:
+        return "Evict's page names a resident page. First evict the resident pages that it names.";
+    default:
+        return "See enum pool_refusal.";
+    }
+}
+
 static void evict_page(pool_page_number page)
 {
     struct pool_done answer = pool_evict(pool, frames, sizeof frames, store, sizeof store, page);
     if (answer.refusal != POOL_ACCEPTED) {
-        printf("evict page %d: refused by rule %d\n", page, answer.refusal);
+        printf("evict page %d: refused by rule %d: %s\n", page, answer.refusal, reason(answer.refusal));
         return;
     }
     pool = answer.pool;
@@ -140,11 +155,18 @@ int main(void)
     write_text(child, "its child");
     print_word(root, 3);
     find_page(9);
-    evict_page(9);
+
+    /* The root never goes, a pinned page goes once it is unfixed, and a parent after its child. */
+    evict_page(0);
+    evict_page(7);
+    unfix_page(parent);
+    evict_page(7);
     unfix_page(child);
     evict_page(9);
+    evict_page(7);
     find_page(9);
     peek_page(9);
+    parent = fix_slot(root, 3);
 
     /* More pages than frames: the third of them has to be swept for. */
     for (pool_page_number page = 10; page < 13; page++) {

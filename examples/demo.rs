@@ -66,7 +66,7 @@ impl Demo {
     fn evict(&mut self, page: PageNumber) {
         match self.0.evict(page) {
             Ok(()) => println!("evict page {page}"),
-            Err(refusal) => println!("evict page {page}: refused by rule {}", refusal.number()),
+            Err(refusal) => println!("evict page {page}: {refusal}"),
         }
     }
 
@@ -114,11 +114,18 @@ fn main() -> Result<(), Refusal> {
     demo.write(child, "its child")?;
     demo.word(root, 3)?;
     demo.find(PageNumber(9))?;
-    demo.evict(PageNumber(9));
+
+    // The root never goes, a pinned page goes once it is unfixed, and a parent after its child.
+    demo.evict(PageNumber(0));
+    demo.evict(PageNumber(7));
+    demo.unfix(parent)?;
+    demo.evict(PageNumber(7));
     demo.unfix(child)?;
     demo.evict(PageNumber(9));
+    demo.evict(PageNumber(7));
     demo.find(PageNumber(9))?;
     demo.peek(PageNumber(9))?;
+    let parent = demo.fix(root, 3)?;
 
     // More pages than frames: the third of them has to be swept for.
     for page in 10..13 {

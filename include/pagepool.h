@@ -46,8 +46,8 @@ extern "C" {
  * Raised by each change of a signature, a struct or an answer: MINOR where programs that were written and compiled for the
  * version before go on working with the new archive, otherwise MAJOR.
  */
-#define PAGEPOOL_VERSION_MAJOR 1
-#define PAGEPOOL_VERSION_MINOR 1
+#define PAGEPOOL_VERSION_MAJOR 2
+#define PAGEPOOL_VERSION_MINOR 0
 #define PAGEPOOL_VERSION (1000 * PAGEPOOL_VERSION_MAJOR + PAGEPOOL_VERSION_MINOR)
 
 /* ---- figures */
@@ -64,7 +64,7 @@ extern "C" {
 #define POOL_MAX_USAGE 3
 #define POOL_MAX_PINS 65535
 
-/* ---- refusals, in checking order: 9 is tested before 8 */
+/* ---- refusals, in checking order: 9 is tested before 8, and 20 to 22 after 11 */
 
 enum pool_refusal {
     POOL_ACCEPTED = 0,
@@ -90,8 +90,12 @@ enum pool_refusal {
     POOL_RESIDENT = 10,
     /* Evict's page isn't resident. */
     POOL_NOT_RESIDENT = 11,
-    /* Evict's page is the root, is pinned, or names a resident page. */
-    POOL_NOT_OPEN = 12,
+    /* Evict's page is the root. It never leaves its frame. */
+    POOL_IS_ROOT = 20,
+    /* Evict's page is pinned. Unfix it until its pins are gone. */
+    POOL_IS_PINNED = 21,
+    /* Evict's page names a resident page. First evict the resident pages that it names. */
+    POOL_IS_PARENT = 22,
     /* A resident page to be pinned has 65,535 pins. */
     POOL_TOO_MANY_PINS = 13,
     /* The stored page to be loaded has words that it can't have: only after the store was altered from outside. */
@@ -200,8 +204,8 @@ struct pool_fixed pool_root(struct pool pool, const uint8_t *frames, size_t fram
  * 15 if not.
  *
  * After 15 every frame holds the root, a pinned page or a page with a resident child. Unfix a page that has none until its
- * pins are gone, and fix again; before that, evict would be refused for every page too. A host that keeps so many pages
- * pinned at once needs more frames: settle, and open with a larger F.
+ * pins are gone, and fix again; before that, evict would be refused for every resident page too, by 20, 21 or 22. A host that
+ * keeps so many pages pinned at once needs more frames: settle, and open with a larger F.
  */
 struct pool_fixed pool_fix(struct pool pool, uint8_t *frames, size_t frames_size, uint8_t *store, size_t store_size,
                            struct pool_handle handle, size_t slot);
@@ -239,7 +243,14 @@ struct pool_done pool_link(struct pool pool, uint8_t *frames, size_t frames_size
 struct pool_done pool_unlink(struct pool pool, uint8_t *frames, size_t frames_size, const uint8_t *store, size_t store_size,
                              struct pool_handle handle, size_t slot);
 
-/* Takes a page out of its frame, to the store if it is dirty. Refused: 1, 2, 6, 11, 12. */
+/*
+ * Takes a page out of its frame, to the store if it is dirty. Refused: 1, 2, 6, 11, 20, 21, 22.
+ *
+ * A resident page that has to stay is refused by the first of three reasons that holds. After 20 nothing helps: the root stays,
+ * pinned or not. After 21 unfix the page until its pins are gone; one that names resident pages too is refused by 22 then. After
+ * 22 first evict the resident pages that it names: the used records whose parent is its frame have their numbers. Where one of
+ * them is refused by 21 or 22 in turn, do there what is said here.
+ */
 struct pool_done pool_evict(struct pool pool, uint8_t *frames, size_t frames_size, uint8_t *store, size_t store_size,
                             pool_page_number page);
 

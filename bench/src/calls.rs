@@ -1,7 +1,7 @@
 //! The calls that are timed, each with the state that it is made on.
 use crate::boundary;
 use crate::timing::{repeat, Variants};
-use pagepool::{Refusal, MAX_PINS, PAGE_SIZE};
+use pagepool::{raw, NoRule, PageNumber, Refusal, MAX_PINS, PAGE_SIZE};
 use pool_bench::baseline;
 use pool_bench::shapes::{absent, last_named, last_resident, pinned, unnamed, State, EMPTY_SLOT, ROOT};
 use std::hint::black_box;
@@ -13,6 +13,18 @@ pub fn accept<T>(answer: Result<T, Refusal>) {
 /// A link's refusal by 8 or 9: an archive that tests them in the other order can be timed too.
 fn refuse_link<T>(answer: Result<T, Refusal>) {
     assert!(matches!(black_box(answer), Err(Refusal::FullSlot | Refusal::AlreadyNamed)));
+}
+
+/// An evict of a page that names a resident one, as the package makes it; but an archive from before request A.4 can be timed
+/// too, whose number is no rule of the package.
+fn evict_refused(state: &mut State, page: PageNumber) {
+    let State { records, frames, store } = state;
+    // SAFETY: each pointer is that of a buffer of the length beside it, lent for the call alone.
+    let done = unsafe {
+        raw::pool_evict(*records, frames.as_mut_ptr(), frames.len(), store.as_mut_ptr(), store.len(), page)
+    };
+    *records = done.pool;
+    assert!(matches!(black_box(Refusal::try_from(done.refusal)), Ok(Refusal::IsParent) | Err(NoRule(1..))));
 }
 
 /// The four variants of a call with what it must answer, what copies its records and what undoes it.
@@ -161,6 +173,26 @@ pub fn unlink(state: &State) -> (State, Variants) {
 pub fn evict_dirty(state: &State) -> (State, Variants) {
     let page = last_resident(state);
     undone!(dirtied(state), evict(page))
+}
+
+/// The page in frame 1 without its pin, and with the page that was left out below it: refused once all its words were looked at.
+/// In `Full` alone.
+pub fn evict_parent(state: &State) -> (State, Variants) {
+    let (mut state, (parent, slot)) = (state.clone(), absent(state));
+    let child = state.fix(parent, slot).expect("a frame is open").handle;
+    state.unfix(child).expect("it was pinned");
+    state.unfix(parent).expect("it was pinned");
+    let page = parent.page;
+    let variants = Variants {
+        library: repeat(move |s| evict_refused(s, page)),
+        baseline: repeat(move |s| {
+            let answer = baseline::evict(&mut s.records, &mut s.frames, &mut s.store, page);
+            assert_eq!(black_box(answer), Err(Refusal::IsParent));
+        }),
+        copy: repeat(boundary::in_and_out),
+        undo: repeat(|_| ()),
+    };
+    (state, variants)
 }
 
 pub fn settle_dirty(state: &State) -> (State, Variants) {

@@ -1,7 +1,7 @@
 //! The rows of the table, and their figures.
 use crate::calls::{
-    evict_dirty, find, fix_clean, fix_dirty, fix_hit, link, link_named, link_taken, open, peek, root,
-    settle_dirty, show, unfix, unlink, word, write,
+    evict_dirty, evict_parent, find, fix_clean, fix_dirty, fix_hit, link, link_named, link_taken, open, peek,
+    root, settle_dirty, show, unfix, unlink, word, write,
 };
 use crate::timing::{deeper, Race, Times, Variants};
 use pool_bench::shapes::{Shape, State};
@@ -92,8 +92,9 @@ const fn by_pages(shape: Shape, calls: &'static [Call]) -> Block {
     Block { shape, grows: Grows::Pages, sizes: BY_PAGES, calls }
 }
 
-static BLOCKS: [Block; 7] = [
+static BLOCKS: [Block; 8] = [
     by_frames(Shape::Full, WITH_FULL_FRAMES),
+    by_frames(Shape::Full, &[("evict, parent", evict_parent)]),
     by_pages(Shape::Full, OVER_THE_STORE),
     by_frames(Shape::Leaves, WITH_FULL_FRAMES),
     by_frames(Shape::Opened, ON_THE_ROOT),

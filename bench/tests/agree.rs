@@ -3,6 +3,7 @@ use pagepool::{FrameIndex, Handle, PageNumber, Refusal, PAGE_SIZE, PAYLOAD_SIZE,
 use pool_bench::baseline;
 use pool_bench::random::Random;
 use pool_bench::shapes::{opened, Shape, State};
+use std::collections::BTreeMap;
 use std::fmt::Debug;
 
 /// Makes a call in both, each on its own state, and compares the answers.
@@ -38,13 +39,13 @@ fn place(part: &[u8], state: &State) -> (bool, usize, usize) {
 
 struct Trial {
     random: Random,
-    /// How often each refusal was given.
-    given: [usize; 17],
+    /// How often each refusal was given, 0 for accepted.
+    given: BTreeMap<u8, usize>,
 }
 
 impl Trial {
     fn new(seed: u64) -> Trial {
-        Trial { random: Random::new(seed), given: [0; 17] }
+        Trial { random: Random::new(seed), given: BTreeMap::new() }
     }
 
     /// So many calls from a state on, some of them on a damaged one that is then dropped.
@@ -64,7 +65,7 @@ impl Trial {
     fn call(&mut self, a: &mut State, b: &mut State) {
         let refusal = self.any_call(a, b);
         assert!(a == b, "states differ after refusal {refusal}");
-        self.given[usize::from(refusal)] += 1;
+        *self.given.entry(refusal).or_default() += 1;
     }
 
     fn any_call(&mut self, a: &mut State, b: &mut State) -> u8 {
@@ -129,8 +130,23 @@ impl Trial {
         match self.random.below(20) {
             0 => PageNumber(self.random.below(65_536) as u16),
             1..=3 => PageNumber(state.records.pages.wrapping_sub(1)),
-            4..=10 => state.records.records[self.random.below(64)].page,
+            4..=10 => self.resident(state),
             _ => PageNumber(self.random.below(pages.max(1)) as u16),
+        }
+    }
+
+    /// A resident page, page 0 where there is none.
+    fn resident(&mut self, state: &State) -> PageNumber {
+        let used: Vec<PageNumber> = state
+            .records
+            .records
+            .iter()
+            .filter(|record| record.is_used())
+            .map(|record| record.page)
+            .collect();
+        match used.len() {
+            0 => PageNumber(0),
+            most => used[self.random.below(most)],
         }
     }
 
@@ -215,7 +231,8 @@ fn small_pools() {
         trial.run(opened(count, Shape::ALL[turn % 5].store(count, pages)), 1000);
     }
     println!("{:?}", trial.given);
-    let never: Vec<usize> = (1..17).filter(|refusal| trial.given[*refusal] == 0).collect();
+    let refusals = Refusal::ALL.iter().map(|refusal| refusal.number());
+    let never: Vec<u8> = refusals.filter(|number| !trial.given.contains_key(number)).collect();
     assert!(never.is_empty(), "refusals never given: {never:?}");
 }
 
@@ -240,5 +257,5 @@ fn turned_frames() {
         }
     }
     println!("{:?}", trial.given);
-    assert!(trial.given[0] > 1000 && trial.given[2] > 100, "accepted, and records that disagree");
+    assert!(trial.given[&0] > 1000 && trial.given[&2] > 100, "accepted, and records that disagree");
 }

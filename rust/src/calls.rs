@@ -160,7 +160,12 @@ pub fn unlink(
     call!(pool_unlink(*pool, frames.as_mut_ptr, store.as_ptr, handle, slot)).answer(pool)
 }
 
-/// Takes a page out of its frame, to the store if it is dirty. Refused: 1, 2, 6, 11, 12.
+/// Takes a page out of its frame, to the store if it is dirty. A resident page that has to stay is refused by the first of three
+/// reasons that holds. After [`IsRoot`](Refusal::IsRoot) nothing helps: the root stays, pinned or not. After
+/// [`IsPinned`](Refusal::IsPinned) unfix the page until its pins are gone; one that names resident pages too is refused by
+/// [`IsParent`](Refusal::IsParent) then. After `IsParent` first evict the resident pages that it names: the used records whose
+/// parent is its frame have their numbers. Where one of them is refused by `IsPinned` or `IsParent` in turn, do there what is
+/// said here. Refused: 1, 2, 6, 11, 20, 21, 22.
 pub fn evict(pool: &mut Pool, frames: &mut [u8], store: &mut [u8], page: PageNumber) -> Result<(), Refusal> {
     call!(pool_evict(*pool, frames.as_mut_ptr, store.as_mut_ptr, page)).answer(pool)
 }

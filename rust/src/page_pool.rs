@@ -21,7 +21,7 @@ use crate::refusal::Refusal;
 /// assert_eq!(&pool.show(seven)?[..5], b"seven");
 ///
 /// // A pinned page stays where it is. A released one can go to the store, where peek still finds it.
-/// assert_eq!(pool.evict(PageNumber(7)), Err(Refusal::NotOpen));
+/// assert_eq!(pool.evict(PageNumber(7)), Err(Refusal::IsPinned));
 /// pool.unfix(seven)?;
 /// pool.evict(PageNumber(7))?;
 /// assert_eq!(pool.find(PageNumber(7))?, None);

@@ -46,7 +46,9 @@ rules! {
     FullSlot = 8, "Link meets a word that isn't 0.";
     Resident = 10, "Unlink's page is resident.";
     NotResident = 11, "Evict's page isn't resident.";
-    NotOpen = 12, "Evict's page is the root, is pinned, or names a resident page.";
+    IsRoot = 20, "Evict's page is the root. It never leaves its frame.";
+    IsPinned = 21, "Evict's page is pinned. Unfix it until its pins are gone.";
+    IsParent = 22, "Evict's page names a resident page. First evict the resident pages that it names.";
     TooManyPins = 13, "A resident page to be pinned has 65,535 pins.";
     BadStoredPage = 14, "The stored page to be loaded has words that it can't have: only after the store was altered from outside.";
     NoFrame = 15, "No frame is empty, and a sweep could take none.";

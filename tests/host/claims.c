@@ -154,7 +154,8 @@ static void no_frame(void)
     struct pool_fixed three = pool_fix(two.pool, LENT, root, 3);
     claim("all frames are pinned", fixed_refused(three, POOL_NO_FRAME, two.pool));
     for (pool_page_number page = 0; page < 3; page++)
-        claim("evict is refused too", pool_evict(three.pool, LENT, page).refusal == POOL_NOT_OPEN);
+        claim("evict is refused too",
+              pool_evict(three.pool, LENT, page).refusal == (page == 0 ? POOL_IS_ROOT : POOL_IS_PINNED));
     struct pool_done done = pool_unfix(three.pool, LENT, one.handle);
     three = pool_fix(done.pool, LENT, root, 3);
     claim("an unfix makes room", three.refusal == 0 && three.handle.frame == one.handle.frame && three.looks > 0);
@@ -174,6 +175,38 @@ static void taken_slots(void)
     pool = pool_unlink(done.pool, LENT, root, 1).pool;
     claim("an unlinked page into a taken slot", done_refused(pool_link(pool, LENT, root, 0, 1), POOL_FULL_SLOT, pool));
     claim("which an empty slot takes", pool_link(pool, LENT, root, 5, 1).refusal == POOL_ACCEPTED);
+}
+
+/* After 20 nothing helps, after 21 as many unfixes as there were pins, after 22 an evict of the page that it names. */
+static void staying_pages(void)
+{
+    struct pool pool = pool_unfix(begin(), LENT, root).pool;
+    claim("the root without pins", done_refused(pool_evict(pool, LENT, 0), POOL_IS_ROOT, pool));
+    pool = pool_root(pool, LENT).pool;
+    claim("the pinned root", done_refused(pool_evict(pool, LENT, 0), POOL_IS_ROOT, pool));
+    claim("a page that isn't resident", done_refused(pool_evict(pool, LENT, 1), POOL_NOT_RESIDENT, pool));
+    claim("a page beyond N", done_refused(pool_evict(pool, LENT, PAGES), POOL_BAD_PAGE, pool));
+
+    struct pool_fixed fixed = pool_fix(pool, LENT, root, 1);
+    struct pool_handle one = fixed.handle;
+    fixed = pool_fix(fixed.pool, LENT, root, 1);
+    claim("a pinned page", done_refused(pool_evict(fixed.pool, LENT, 1), POOL_IS_PINNED, fixed.pool));
+    pool = pool_link(fixed.pool, LENT, one, 15, 4).pool;
+    fixed = pool_fix(pool, LENT, one, 15);
+    struct pool_handle four = fixed.handle;
+    claim("a pinned parent", done_refused(pool_evict(fixed.pool, LENT, 1), POOL_IS_PINNED, fixed.pool));
+    pool = pool_unfix(fixed.pool, LENT, one).pool;
+    claim("unfixed once of two", done_refused(pool_evict(pool, LENT, 1), POOL_IS_PINNED, pool));
+    pool = pool_unfix(pool, LENT, one).pool;
+    claim("a parent without pins", done_refused(pool_evict(pool, LENT, 1), POOL_IS_PARENT, pool));
+    claim("whose child is pinned", done_refused(pool_evict(pool, LENT, 4), POOL_IS_PINNED, pool));
+    pool = pool_unfix(pool, LENT, four).pool;
+    claim("and not yet evicted", done_refused(pool_evict(pool, LENT, 1), POOL_IS_PARENT, pool));
+    struct pool_done done = pool_evict(pool, LENT, 4);
+    claim("the child can go", done.refusal == POOL_ACCEPTED);
+    done = pool_evict(done.pool, LENT, 1);
+    claim("and then its parent", done.refusal == POOL_ACCEPTED);
+    claim("but never the root", done_refused(pool_evict(done.pool, LENT, 0), POOL_IS_ROOT, done.pool));
 }
 
 static void payloads(void)
@@ -211,6 +244,7 @@ int main(void)
     handles();
     no_frame();
     taken_slots();
+    staying_pages();
     payloads();
     open_forgets();
     return failures != 0;

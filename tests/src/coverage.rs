@@ -1,5 +1,6 @@
-//! How often each call met each answer, and a link into a taken slot each namer of its page.
+//! How often each call met each answer, a link into a taken slot each namer of its page, and an evict each reason to stay.
 use crate::calls::{Answer, Call, NAMES};
+use crate::model::stays::Stay;
 use crate::model::taken::Namer;
 use std::collections::BTreeMap;
 use std::fmt;
@@ -12,6 +13,7 @@ pub type Pair = (&'static str, u8);
 pub struct Coverage {
     counts: BTreeMap<Pair, u64>,
     namers: BTreeMap<Namer, u64>,
+    stays: BTreeMap<Stay, u64>,
     sweeps: u64,
     most_looks: u16,
 }
@@ -32,6 +34,13 @@ impl Coverage {
         }
     }
 
+    /// Counts an evict: why its page stays.
+    pub fn count_stay(&mut self, stay: Option<Stay>) {
+        if let Some(stay) = stay {
+            *self.stays.entry(stay).or_default() += 1;
+        }
+    }
+
     pub fn calls(&self) -> u64 {
         self.counts.values().sum()
     }
@@ -45,6 +54,11 @@ impl Coverage {
     /// The namers that no link into a taken slot met.
     pub fn missing_namers(&self) -> Vec<Namer> {
         Namer::ALL.into_iter().filter(|namer| !self.namers.contains_key(namer)).collect()
+    }
+
+    /// The reasons to stay that no evict met.
+    pub fn missing_stays(&self) -> Vec<Stay> {
+        Stay::ALL.into_iter().filter(|stay| !self.stays.contains_key(stay)).collect()
     }
 
     /// The pairs that occurred and are not in the table.
@@ -67,6 +81,10 @@ impl fmt::Display for Coverage {
         write!(f, "links into a taken slot, by what names the page:")?;
         for (namer, count) in &self.namers {
             write!(f, " {namer:?}:{count}")?;
+        }
+        write!(f, "\nevicts of a page that stays:")?;
+        for (stay, count) in &self.stays {
+            write!(f, " {stay:?}:{count}")?;
         }
         writeln!(f, "\n{} calls, {} pairs of call and answer", self.calls(), self.counts.len())?;
         write!(f, "{} sweeps took a frame, in up to {} looks", self.sweeps, self.most_looks)

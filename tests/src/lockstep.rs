@@ -2,7 +2,7 @@
 use crate::calls::{Answer, Call};
 use crate::coverage::Coverage;
 use crate::ensure;
-use crate::model::{taken, Model};
+use crate::model::{stays, taken, Model};
 use crate::pool::Machine;
 use crate::records::{PageNumber, State};
 
@@ -23,8 +23,8 @@ fn compare(
     Ok(answer)
 }
 
-/// All must answer and leave the same, a refused call must leave all as found, and link must answer as document 01's order
-/// does but where request A.9 changes it.
+/// All must answer and leave the same, and a refused call must leave all as found. Link must answer as document 01's order does
+/// but where request A.9 changes it, and evict be refused by the reason for which the page stays.
 pub fn step(
     machine: &impl Machine,
     state: &mut State,
@@ -41,11 +41,20 @@ pub fn step(
     if !answer.accepted() && *state != before {
         return Err(format!("{call:?}, {answer:?}, changes something"));
     }
-    if let Call::Link(handle, slot, page) = call {
-        let namer = taken::compare(&before, *handle, *slot, PageNumber(*page), answer.number())
-            .map_err(|fault| format!("{call:?}: {fault}"))?;
-        coverage.count_namer(namer);
-    }
     coverage.count(call, &answer);
+    requests(&before, call, &answer, coverage).map_err(|fault| format!("{call:?}: {fault}"))?;
     Ok(answer)
+}
+
+/// What the requests say of an answer.
+fn requests(before: &State, call: &Call, answer: &Answer, coverage: &mut Coverage) -> Result<(), String> {
+    let number = answer.number();
+    match call {
+        Call::Link(handle, slot, page) => {
+            coverage.count_namer(taken::compare(before, *handle, *slot, PageNumber(*page), number)?);
+        }
+        Call::Evict(page) => coverage.count_stay(stays::compare(before, PageNumber(*page), number)?),
+        _ => (),
+    }
+    Ok(())
 }

@@ -2,12 +2,13 @@
 mod agreement;
 mod moves;
 mod rules;
+pub mod stays;
 pub mod taken;
 
 use crate::pool::{Buffer, Fixed, Machine, Place, Refusal};
 use crate::records::{
     page_of, page_of_mut, put_word, word_in, FrameIndex, FrameRecord, Handle, PageNumber, Pool, State,
-    MAX_USAGE, PAGE_SIZE, PAYLOAD_SIZE, PAYLOAD_START, SWIZZLE_BIT,
+    MAX_USAGE, PAGE_SIZE, PAYLOAD_SIZE, PAYLOAD_START, SLOTS, SWIZZLE_BIT,
 };
 use rules::rule;
 
@@ -38,6 +39,11 @@ fn swizzled_to(frame: FrameIndex) -> u32 {
 /// The word in a slot of a frame.
 fn frame_word(frames: &[u8], frame: FrameIndex, slot: usize) -> u32 {
     word_in(page_of(frames, usize::from(frame)), slot)
+}
+
+/// The page in a frame has a swizzled word.
+fn has_swizzled(state: &State, frame: FrameIndex) -> bool {
+    (0..SLOTS).any(|slot| matches!(read(frame_word(&state.frames, frame, slot)), Reading::Frame(_)))
 }
 
 /// The frames that hold a page.
@@ -190,7 +196,9 @@ impl Machine for Model {
         rules::state(state)?;
         rules::page(&state.pool, page)?;
         let frame = frame_of(&state.pool, page).ok_or(11)?;
-        rule(12, moves::evictable(state, frame))?;
+        rule(20, page != PageNumber(0))?;
+        rule(21, state.pool.record(frame).pins == 0)?;
+        rule(22, !has_swizzled(state, frame))?;
         moves::evict(state, frame);
         Ok(())
     }

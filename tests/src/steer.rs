@@ -218,13 +218,15 @@ fn page(random: &mut Random, state: &State) -> u16 {
     }
 }
 
-/// A page that can be evicted, most of the time.
+/// A page that can be evicted, as often as not, a resident one that can't, or any.
 fn evict_page(random: &mut Random, state: &State) -> u16 {
-    let open = state.occupied().filter(|(frame, record)| {
-        *frame != FrameIndex(0) && record.pins == 0 && state.words(*frame).all(|word| word < SWIZZLE_BIT)
-    });
-    match random.choose(open.map(|(_, record)| record.page.0)) {
-        Some(page) if random.percent(60) => page,
+    let open = |frame: FrameIndex, record: &FrameRecord| {
+        frame != FrameIndex(0) && record.pins == 0 && state.words(frame).all(|word| word < SWIZZLE_BIT)
+    };
+    let wanted = random.percent(65);
+    let pages = state.occupied().filter(|(frame, record)| open(*frame, record) == wanted);
+    match random.choose(pages.map(|(_, record)| record.page.0)) {
+        Some(page) if random.percent(80) => page,
         _ => page(random, state),
     }
 }

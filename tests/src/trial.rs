@@ -10,6 +10,7 @@ use crate::records::{
 /// A word of a stored page: the page, the slot, and the page that it names.
 pub type Link = (usize, usize, u32);
 
+#[derive(Clone)]
 pub struct Trial {
     pub state: State,
 }

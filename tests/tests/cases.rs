@@ -164,7 +164,7 @@ fn the_calls_of_the_listing() {
     assert_eq!(trial.number(Call::Link(root, 3, 7)), 0);
     let child = trial.fix(root, 3);
     assert_eq!(child, handle(1, 7));
-    assert_eq!(trial.number(Call::Evict(7)), 12);
+    assert_eq!(trial.number(Call::Evict(7)), 21);
     assert_eq!(trial.number(Call::Unfix(child)), 0);
     assert_eq!(trial.number(Call::Evict(7)), 0);
 }

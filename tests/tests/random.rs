@@ -36,8 +36,8 @@ fn say(text: String) {
 }
 
 /// Runs a test's lists, each with a generator of its own, and shows how often each call met each answer.
-/// Every call must have met those of the wanted ones that it can give and, where 9 is wanted, a link into a taken slot every
-/// namer of its page.
+/// Every call must have met those of the wanted ones that it can give; where 9 is wanted, a link into a taken slot every namer of
+/// its page, and where 22 is, an evict every reason to stay.
 fn run(name: &str, lists: u64, wanted: &[u8], list: impl Fn(&mut Random, &mut Coverage) -> Outcome) {
     let seed = setting("POOL_SEED", 1);
     let mut coverage = Coverage::default();
@@ -59,6 +59,9 @@ fn run(name: &str, lists: u64, wanted: &[u8], list: impl Fn(&mut Random, &mut Co
     assert_eq!(coverage.impossible(&table), [], "pairs that cannot occur");
     if wanted.contains(&9) {
         assert_eq!(coverage.missing_namers(), [], "namers that no link into a taken slot met");
+    }
+    if wanted.contains(&22) {
+        assert_eq!(coverage.missing_stays(), [], "reasons to stay that no evict met");
     }
 }
 

@@ -105,8 +105,11 @@ fn the_first_broken_rule_answers() {
     };
     let (mut trial, [root, five, _]) = two_children();
     trial.put_stored_word(12, 14, 16);
+    trial.accept(Call::Link(five, 0, 8));
+    let eight = trial.fix(five, 0);
+    trial.accept(Call::Unfix(eight));
     let stale = handle(3, 7);
-    let cases: [(Call, &[u8]); 11] = [
+    let cases: [(Call, &[u8]); 13] = [
         (Call::Fix(stale, 16), &[3, 4]),
         (Call::Word(stale, 16), &[3, 4]),
         (Call::Write(stale, 193, vec![]), &[3, 5]),
@@ -118,13 +121,19 @@ fn the_first_broken_rule_answers() {
         (Call::Link(root, 1, 0), &[6, 8]),
         (Call::Link(root, 1, 6), &[8, 9]),
         (Call::Evict(16), &[6, 11]),
+        (Call::Evict(0), &[20, 21, 22]),
+        (Call::Evict(5), &[21, 22]),
     ];
     for (call, broken) in cases {
         assert_eq!(trial.number(call.clone()), first(&call, broken), "{call:?}");
     }
+    trial.accept(Call::Unfix(five));
+    trial.accept(Call::Unfix(root));
+    assert_eq!(trial.number(Call::Evict(0)), first(&Call::Evict(0), &[20, 22]));
     trial.state.pool.hand = FrameIndex(4);
-    for call in [Call::Fix(stale, 16), Call::Show(stale), Call::Peek(16), Call::Evict(16)] {
-        assert_eq!(trial.number(call.clone()), first(&call, &[2, 3, 4, 6, 11]), "{call:?}");
+    let evicts = [16, 0, 6, 5].map(Call::Evict);
+    for call in [Call::Fix(stale, 16), Call::Show(stale), Call::Peek(16)].into_iter().chain(evicts) {
+        assert_eq!(trial.number(call.clone()), first(&call, &[2, 3, 4, 6, 11, 20, 21, 22]), "{call:?}");
     }
 }
 
@@ -250,7 +259,7 @@ fn a_stale_handle_is_good_again() {
 fn page_0_is_refused_in_link_alone() {
     let (mut trial, [root, ..]) = two_children();
     assert_eq!(trial.number(Call::Link(root, 5, 0)), 6);
-    assert_eq!(trial.number(Call::Evict(0)), 12);
+    assert_eq!(trial.number(Call::Evict(0)), 20);
     assert_eq!(trial.call(Call::Find(0)), Answer::Frame(Some(0)));
     for call in [Call::Peek(16), Call::Find(16), Call::Evict(16), Call::Link(root, 5, 16)] {
         assert_eq!(trial.number(call), 6);
@@ -329,7 +338,7 @@ fn a_page_with_a_resident_child_stays() {
     let one = trial.fix(root, 0);
     let two = trial.fix(one, 0);
     trial.accept(Call::Unfix(one));
-    assert_eq!(trial.number(Call::Evict(1)), 12);
+    assert_eq!(trial.number(Call::Evict(1)), 22);
     assert_eq!(trial.number(Call::Fix(root, 1)), 15);
     trial.accept(Call::Unfix(two));
     assert_eq!(trial.fix(root, 1).frame, two.frame);
@@ -404,6 +413,56 @@ fn a_named_page_comes_before_a_taken_slot() {
         assert_eq!(trial.number(Call::Link(root, slot, page)), number, "{why}");
     }
     trial.accept(Call::Link(five, 0, 10));
+}
+
+/// A.4: the root is refused by 20 pinned or not, a pinned page by 21 also where it is a parent, a parent without pins by 22, and
+/// 6 and 11 come before. Where what the rule says has been done, the page goes.
+#[test]
+fn evict_tells_why_a_page_stays() {
+    let mut trial = Trial::open(4, 16, &[(0, 1, 5), (5, 0, 6), (5, 15, 7)]);
+    assert_eq!(trial.number(Call::Evict(0)), 20, "the root");
+    let root = trial.root();
+    assert_eq!(trial.number(Call::Evict(0)), 20, "the root, pinned");
+    assert_eq!(trial.number(Call::Evict(5)), 11, "not resident");
+    assert_eq!(trial.number(Call::Evict(16)), 6, "not below N");
+    let five = trial.fix(root, 1);
+    assert_eq!(trial.number(Call::Evict(5)), 21, "a pinned page");
+    assert_eq!(trial.number(Call::Evict(0)), 20, "the root, pinned and a parent");
+    let [six, seven] = [0, 15].map(|slot| trial.fix(five, slot));
+    trial.fix(five, 0);
+    assert_eq!(trial.number(Call::Evict(5)), 21, "a pinned parent");
+    for handle in [root, five, seven] {
+        trial.accept(Call::Unfix(handle));
+    }
+    assert_eq!(trial.number(Call::Evict(0)), 20, "the root, a parent");
+    assert_eq!(trial.number(Call::Evict(5)), 22, "a parent of two");
+    for _ in 0..2 {
+        assert_eq!(trial.number(Call::Evict(6)), 21, "a pin is left");
+        trial.accept(Call::Unfix(six));
+    }
+    trial.accept(Call::Evict(6));
+    assert_eq!(trial.number(Call::Evict(5)), 22, "a parent by its last slot");
+    trial.accept(Call::Evict(7));
+    trial.accept(Call::Evict(5));
+    assert_eq!(trial.number(Call::Evict(5)), 11, "gone");
+    assert_eq!(trial.number(Call::Evict(0)), 20, "the root alone");
+}
+
+/// The sweep passes over what evict refuses by 20, 21 and 22, and takes what it doesn't.
+#[test]
+fn the_sweep_takes_what_evict_takes() {
+    let mut trial = Trial::open(4, 16, &[(0, 1, 5), (5, 0, 6), (0, 2, 7), (0, 3, 8)]);
+    let root = trial.root();
+    let five = trial.fix(root, 1);
+    let [six, seven] = [trial.fix(five, 0), trial.fix(root, 2)];
+    trial.accept(Call::Unfix(five));
+    trial.accept(Call::Unfix(six));
+    assert_eq!([0, 5, 7].map(|page| trial.number(Call::Evict(page))), [20, 22, 21]);
+    assert_eq!(trial.fix(root, 3).frame, six.frame);
+    assert_eq!([0, 7, 8].map(|page| trial.number(Call::Evict(page))), [20, 21, 21]);
+    trial.accept(Call::Evict(5));
+    trial.accept(Call::Unfix(seven));
+    trial.accept(Call::Evict(7));
 }
 
 /// Rule 14 on each of its grounds.

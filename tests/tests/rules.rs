@@ -1,5 +1,6 @@
 //! The table of rules against the C header and the Rust package: numbers, names, and which call is refused by which, in which order.
-use pagepool::Refusal;
+//! And that a number which the table's head calls a hole stays one.
+use pagepool::{NoRule, Refusal};
 use pool_tests::calls::NAMES;
 use std::fs;
 use words::rules::Table;
@@ -76,5 +77,17 @@ fn refused_by_which() {
         let declaration = ["(", "<"].map(|sign| format!("\npub fn {call}{sign}"));
         let declared = declaration.iter().find(|text| package.contains(*text)).expect(call);
         assert_eq!(refused(&package, declared), rules, "rust/src, {call}");
+    }
+}
+
+/// A number that is a hole is no rule, in the table, the header or the package.
+#[test]
+fn holes_stay_empty() {
+    let (table, named) = (Table::standing(), named_numbers(HEADER, "enum pool_refusal {"));
+    assert!(!table.holes.is_empty());
+    for (hole, _) in table.holes.clone() {
+        assert_eq!(table.rule(hole), None);
+        assert!(named.iter().all(|(_, number)| *number != hole), "include/pagepool.h, {hole}");
+        assert_eq!(Refusal::try_from(hole), Err(NoRule(hole)));
     }
 }

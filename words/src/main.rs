@@ -8,7 +8,7 @@ use words::rules::Table;
 use words::{line, listing, recording, refusal};
 
 const USAGE: &str = "\
-usage: words replay LISTING FILE   each call of a recording in words, its answer, and the rule where it was refused;
+usage: words replay LISTING FILE   each call of a recording in words, its answer, and where it was refused the rule and what helps;
                                    LISTING is the command that lists it, ./listing; FILE has words or records, - is standard input
        words records               lines of words to the listing's records
        words lines                 records to lines of words

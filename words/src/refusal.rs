@@ -1,10 +1,11 @@
-//! What each refusal's number means, in document 01's words.
+//! What each refusal's number means, in the words of `rules.txt`.
 use crate::rules::Table;
 
-/// What a number in the second column of a listing means: 0 is accepted. The error says which numbers there are.
+/// What a number in the second column of a listing means, also in a listing from before a request; 0 is accepted. The error says
+/// which numbers there are.
 pub fn meaning(table: &Table, number: &str) -> Result<&'static str, String> {
-    let rule = number.parse().ok().and_then(|number| table.rule(number));
-    rule.map(|rule| rule.sentence).ok_or_else(|| format!("expected a number of rules.txt, found '{number}'"))
+    let told = number.parse().ok().and_then(|number| table.sentence(number));
+    told.ok_or_else(|| format!("expected a number of rules.txt, found '{number}'"))
 }
 
 /// A line of a listing with the meaning of its refusal behind it; the line alone where it was accepted.

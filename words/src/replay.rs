@@ -1,20 +1,19 @@
-//! Each call of a recording in words, with its answer, and the rule where it was refused.
+//! Each call of a recording in words, with its answer, and where it was refused the rule and what helps.
+use crate::known::Known;
 use crate::line::hex;
 use crate::listing::Line;
 use crate::record::{call_of, Call, Handle, Record};
 use crate::rules::Table;
-use std::collections::BTreeMap;
 
 /// Tells a recording from its start, on the listing's pool of zero pages.
 pub struct Replay {
     table: Table,
-    /// The page in each slot of each page, by the links and unlinks that were accepted.
-    named: BTreeMap<(u16, u8), u16>,
+    known: Known,
 }
 
 impl Replay {
     pub fn new(table: Table) -> Replay {
-        Replay { table, named: BTreeMap::new() }
+        Replay { table, known: Known::opened() }
     }
 
     /// The next record and its answer.
@@ -23,7 +22,7 @@ impl Replay {
         let said = call.as_ref().map_or_else(|| format!("record {}", hex(record)), |call| self.say(call));
         let answer = match (line.refusal, call) {
             (0, Some(call)) => {
-                self.feed(&call);
+                self.known.feed(&call, line);
                 accepted(&call, line)
             }
             (0, None) => return Err(format!("{said} makes no call, and was accepted")),
@@ -33,28 +32,41 @@ impl Replay {
     }
 
     fn refused(&self, number: u8, call: Option<&Call>) -> Result<String, String> {
-        let rule =
-            self.table.rule(number).ok_or_else(|| format!("refused by {number}, which rules.txt has not"))?;
-        Ok(format!("refused by rule {number}: {}{}", rule.sentence, self.hint(number, call)))
+        let sentence = self.table.sentence(number);
+        let sentence = sentence.ok_or_else(|| format!("refused by {number}, which rules.txt has not"))?;
+        Ok(format!("refused by rule {number}: {sentence}{}", self.hint(number, call)))
     }
 
-    /// What helps with a refused link: that an empty slot takes the page, or which slot names it.
+    /// What helps with a refused link or evict, with the numbers of the case.
     fn hint(&self, number: u8, call: Option<&Call>) -> String {
-        let Some(Call::Link { page, .. }) = call else { return String::new() };
-        let namer = self.named.iter().find(|(_, named)| *named == page);
-        match (number, namer) {
-            (8, _) => " An empty slot takes it.".to_string(),
-            (9, Some(((parent, slot), _))) => format!(" Slot {slot} of page {parent} names it."),
+        match (number, call) {
+            (8, Some(Call::Link { .. })) => " An empty slot takes it.".to_string(),
+            (9, Some(Call::Link { page, .. })) => self.namer(*page),
+            (21, Some(Call::Evict { page })) => self.pins(*page),
+            (22, Some(Call::Evict { page })) => self.children(*page),
             _ => String::new(),
         }
     }
 
-    fn feed(&mut self, call: &Call) {
-        match call {
-            Call::Link { page, slot, handle } => self.named.insert((handle.page, *slot), *page),
-            Call::Unlink { slot, handle } => self.named.remove(&(handle.page, *slot)),
-            _ => None,
-        };
+    /// Which slot names a page.
+    fn namer(&self, page: u16) -> String {
+        let namer = self.known.namer(page);
+        namer.map_or(String::new(), |(parent, slot)| format!(" Slot {slot} of page {parent} names it."))
+    }
+
+    /// How often a page has to be unfixed, and in which frame.
+    fn pins(&self, page: u16) -> String {
+        match (self.known.pins(page), self.known.frame(page)) {
+            (1, Some(frame)) => format!(" It has 1 pin in frame {frame}."),
+            (pins, Some(frame)) => format!(" It has {pins} pins in frame {frame}."),
+            (_, None) => String::new(),
+        }
+    }
+
+    /// Which pages have to be evicted before their parent.
+    fn children(&self, page: u16) -> String {
+        let told = |(slot, child)| format!(" Its slot {slot} names page {child}.");
+        self.known.children(page).into_iter().map(told).collect()
     }
 
     /// The call with each number named, and the page that its slot names.
@@ -77,7 +89,7 @@ impl Replay {
 
     fn slot(&self, slot: u8, handle: Handle) -> String {
         let named =
-            self.named.get(&(handle.page, slot)).map_or(String::new(), |page| format!(" (page {page})"));
+            self.known.named(handle.page, slot).map_or(String::new(), |page| format!(" (page {page})"));
         format!("slot {slot}{named} of {}", held(handle))
     }
 }

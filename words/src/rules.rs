@@ -10,7 +10,7 @@ pub struct Rule {
     pub calls: Vec<&'static str>,
     /// Whether the listing can answer it.
     pub listed: bool,
-    /// Document 01's sentence.
+    /// What was broken, and for a request's rules what to do.
     pub sentence: &'static str,
 }
 
@@ -20,6 +20,8 @@ pub struct Table {
     pub calls: Vec<&'static str>,
     /// Every row: 0, the calls' rules in checking order, and the listing's own.
     pub rules: Vec<Rule>,
+    /// The numbers that are given no more, each with what it says in an older listing.
+    pub holes: Vec<(u8, &'static str)>,
 }
 
 impl Table {
@@ -37,7 +39,7 @@ impl Table {
             ["number", "name", calls @ .., "listing", "sentence"] => calls.to_vec(),
             _ => return Err(format!("expected number, name, the calls, listing, sentence, found '{head}'")),
         };
-        let mut table = Table { calls, rules: Vec::new() };
+        let mut table = Table { calls, rules: Vec::new(), holes: text.lines().filter_map(hole).collect() };
         for (index, line) in lines {
             let rule = row(&table.calls, line).map_err(|why| format!("line {}: {why}", index + 1))?;
             if table.rule(rule.number).is_some() {
@@ -52,10 +54,22 @@ impl Table {
         self.rules.iter().find(|rule| rule.number == number)
     }
 
+    /// What a number says: a row's sentence, or what a hole says in an older listing.
+    pub fn sentence(&self, number: u8) -> Option<&'static str> {
+        let hole = || self.holes.iter().find(|(hole, _)| *hole == number).map(|(_, said)| *said);
+        self.rule(number).map(|rule| rule.sentence).or_else(hole)
+    }
+
     /// The numbers that a call can answer, in checking order.
     pub fn answers<'a>(&'a self, call: &'a str) -> impl Iterator<Item = u8> + 'a {
         self.rules.iter().filter(move |rule| rule.calls.contains(&call)).map(|rule| rule.number)
     }
+}
+
+/// A line of the head that begins with `# hole` and a number.
+fn hole(line: &'static str) -> Option<(u8, &'static str)> {
+    let (number, said) = line.strip_prefix("# hole ")?.split_once(' ')?;
+    Some((number.parse().ok()?, said.trim_start()))
 }
 
 fn row(calls: &[&'static str], line: &'static str) -> Result<Rule, String> {

@@ -4,6 +4,7 @@ use std::io::Write;
 use std::os::unix::fs::PermissionsExt;
 use std::path::PathBuf;
 use std::process::{Command, Output, Stdio};
+use words::rules::Table;
 
 const LISTING: &str = concat!(env!("CARGO_MANIFEST_DIR"), "/../listing");
 
@@ -62,7 +63,7 @@ const TOLD: &str = "\
 1  root: page 0 in frame 0
 2  link page 7 at slot 3 of page 0 in frame 0: done
 3  fix slot 3 (page 7) of page 0 in frame 0: page 7 in frame 1
-4  evict page 7: refused by rule 12: Evict's page is the root, pinned, or has a swizzled word.
+4  evict page 7: refused by rule 21: Evict's page is pinned. Unfix it until its pins are gone. It has 1 pin in frame 1.
 5  find page 7: in frame 1
 6  find page 9: absent
 7  find page 0: in frame 0
@@ -90,6 +91,71 @@ fn a_recording_is_told_from_words_and_from_records() {
     assert_eq!(words(&["replay", LISTING, "-"], &records).1, TOLD);
     let lines = words(&["lines"], &records).1;
     assert_eq!(words(&["replay", LISTING, "-"], lines.as_bytes()).1, TOLD);
+}
+
+/// A page that stays, for each reason, and what helps, done.
+const STAYING: &str = "\
+evict 0
+root
+evict 0
+link 7 3 of 0 0
+fix 3 of 0 0
+link 9 0 of 1 7
+link 11 4 of 1 7
+fix 0 of 1 7
+fix 0 of 1 7
+evict 9
+evict 7
+fix 4 of 1 7
+unfix 1 7
+evict 7
+evict 0
+unfix 3 11
+evict 11
+evict 7
+unfix 2 9
+evict 9
+unfix 2 9
+evict 9
+evict 7
+unfix 0 0
+evict 0
+";
+
+const STAYING_TOLD: &str = "\
+1  evict page 0: refused by rule 20: Evict's page is the root. It never leaves its frame.
+2  root: page 0 in frame 0
+3  evict page 0: refused by rule 20: Evict's page is the root. It never leaves its frame.
+4  link page 7 at slot 3 of page 0 in frame 0: done
+5  fix slot 3 (page 7) of page 0 in frame 0: page 7 in frame 1
+6  link page 9 at slot 0 of page 7 in frame 1: done
+7  link page 11 at slot 4 of page 7 in frame 1: done
+8  fix slot 0 (page 9) of page 7 in frame 1: page 9 in frame 2
+9  fix slot 0 (page 9) of page 7 in frame 1: page 9 in frame 2
+10  evict page 9: refused by rule 21: Evict's page is pinned. Unfix it until its pins are gone. It has 2 pins in frame 2.
+11  evict page 7: refused by rule 21: Evict's page is pinned. Unfix it until its pins are gone. It has 1 pin in frame 1.
+12  fix slot 4 (page 11) of page 7 in frame 1: page 11 in frame 3
+13  unfix page 7 in frame 1: done
+14  evict page 7: refused by rule 22: Evict's page has a swizzled word. First evict the resident pages that it names. Its slot 0 names page 9. Its slot 4 names page 11.
+15  evict page 0: refused by rule 20: Evict's page is the root. It never leaves its frame.
+16  unfix page 11 in frame 3: done
+17  evict page 11: done
+18  evict page 7: refused by rule 22: Evict's page has a swizzled word. First evict the resident pages that it names. Its slot 0 names page 9.
+19  unfix page 9 in frame 2: done
+20  evict page 9: refused by rule 21: Evict's page is pinned. Unfix it until its pins are gone. It has 1 pin in frame 2.
+21  unfix page 9 in frame 2: done
+22  evict page 9: done
+23  evict page 7: done
+24  unfix page 0 in frame 0: done
+25  evict page 0: refused by rule 20: Evict's page is the root. It never leaves its frame.
+";
+
+#[test]
+fn a_page_that_stays_is_told_with_what_to_do() {
+    assert_eq!(
+        words(&["replay", LISTING, "-"], STAYING.as_bytes()),
+        (0, STAYING_TOLD.to_string(), String::new())
+    );
 }
 
 #[test]
@@ -153,6 +219,16 @@ fn a_listing_that_lost_its_output_is_told_by_the_status() {
     }
     let whole = stand_in("whole", "cat >/dev/null; printf '1 0 0 0\\n8 0 0 0\\n'");
     assert_eq!(words(&["replay", &whole, "-"], b"root\nsettle\n").0, 0);
+}
+
+/// A listing from before a request has a number that is a hole now.
+#[test]
+fn an_older_listing_is_told_too() {
+    for (hole, said) in Table::standing().holes {
+        let older = stand_in("older", &format!("cat >/dev/null; echo 7 {hole} 0 0"));
+        let told = format!("1  evict page 7: refused by rule {hole}: {said}\n");
+        assert_eq!(words(&["replay", &older, "-"], b"evict 7\n"), (0, told, String::new()));
+    }
 }
 
 #[test]

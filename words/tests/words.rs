@@ -77,11 +77,15 @@ fn a_bad_line_says_what_was_expected() {
 #[test]
 fn refusals_are_explained() {
     let table = Table::standing();
-    let twelve = meaning(&table, "12").unwrap();
-    assert_eq!(explain(&table, "7 12 0 0").unwrap(), format!("7 12 0 0  # 12: {twelve}"));
+    let pinned = meaning(&table, "21").unwrap();
+    assert_eq!(pinned, "Evict's page is pinned. Unfix it until its pins are gone.");
+    assert_eq!(explain(&table, "7 21 0 0").unwrap(), format!("7 21 0 0  # 21: {pinned}"));
     assert_eq!(explain(&table, "2 0 1 7").unwrap(), "2 0 1 7");
     assert!(explain(&table, "7 255 0 0").is_err());
-    assert!(explain(&table, "7 12 0").is_err());
+    assert!(explain(&table, "7 21 0").is_err());
     assert_eq!(meaning(&table, "4"), Ok("The slot is above 15."));
+    let [(hole, said)] = table.holes[..] else { panic!("{:?}", table.holes) };
+    assert_eq!(explain(&table, &format!("7 {hole} 0 0")), Ok(format!("7 {hole} 0 0  # {hole}: {said}")));
+    assert!(said.starts_with("Evict's page is the root, pinned, or has a swizzled word."));
     assert!(meaning(&table, "255").is_err());
 }

@@ -197,8 +197,9 @@ pub fn evict(pool: &mut Pool, frames: &mut [u8], store: &mut [u8], page: PageNum
     rules::state(pool, frames, store)?;
     rules::page(pool, page)?;
     let frame = frame_of(pool, page).ok_or(Refusal::NotResident)?;
-    let closed = frame == FrameIndex(0) || pool.record(frame).pins > 0;
-    rule(Refusal::NotOpen, !closed && !page::has_swizzled(&pages_of(frames)[usize::from(frame)]))?;
+    rule(Refusal::IsRoot, frame != FrameIndex(0))?;
+    rule(Refusal::IsPinned, pool.record(frame).pins == 0)?;
+    rule(Refusal::IsParent, !page::has_swizzled(&pages_of(frames)[usize::from(frame)]))?;
     moves::evict(pool, frames, store, frame);
     Ok(())
 }

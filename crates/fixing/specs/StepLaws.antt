@@ -26,7 +26,8 @@ use Rattle.machine.specs.Rules.{wordOf, rule7, rule13, rule14, rule15}
 use Rattle.machine.specs.Calls.{decide, poolRules, wordRules, loadedOut, missOut, rootCall, fixCall}
 use Rattle.machine.specs.Laws.Ready.{Kept, Ready, Sized, ready}
 use Rattle.machine.specs.Laws.RuleLaws.{SlotKept, held-occupied, decide-no, decide-yes, pool-stops, pool-passes, slot-stops, slot-passes}
-use Rattle.machine.specs.Laws.SweepLaws.{open-childless, sweep-sound, swept-ready}
+use Rattle.machine.specs.Laws.SweepLaws.{sweep-sound, swept-ready}
+use Rattle.machine.specs.Laws.Standings.{open-childless}
 use Rattle.machine.specs.Laws.MoveLaws.{evicted-sized}
 use Rattle.seen.specs.Seen.{Seen}
 use Rattle.residents.specs.Handed.{Handed}

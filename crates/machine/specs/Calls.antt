@@ -13,7 +13,7 @@ use Rattle.machine.specs.Tests.{pick, firstBroken, verdict, Rule}
 use Rattle.machine.specs.Machine.{State, state, withPool, recordAt, pageIn, withRecord, pinned, unpinned, dirtied, zeroPool, openedPool, found}
 use Rattle.machine.specs.Moves.{plain, settled, evicted, loaded}
 use Rattle.machine.specs.Sweep.{Swept, firstEmpty, sweep, withSwept}
-use Rattle.machine.specs.Rules.{wordOf, rule1, rule1-open, rule2, rule3, rule4, rule5, rule6, rule6-link, rule7, rule8, rule9, rule10, rule11, rule12, rule13, rule14, rule15, rule16}
+use Rattle.machine.specs.Rules.{wordOf, rule1, rule1-open, rule2, rule3, rule4, rule5, rule6, rule6-link, rule7, rule8, rule9, rule10, rule11, rule13, rule14, rule15, rule16, rule20, rule21, rule22}
 use Rattle.machine.specs.Answers.{Answer, refused, done, handle, payload, number, frame, nowhere, inFrames, inStore, Out, out}
 
 -- "A refused call answers its number alone. Nothing else changes."
@@ -154,8 +154,12 @@ unlinkCall s h k = decide s (unlinkRules s h k) (out done (relinked s (h .frame 
 
 -- ---- evict, by page number
 
+-- why a page stays, request A.4: "20: the root; 21: pinned; 22: a swizzled word; in this order"
+abbrev pub stayRules : State → ℕ → List Rule
+stayRules s q = rule20 s q ∷ rule21 s q ∷ rule22 s q ∷ []
+
 abbrev pub evictRules : State → PageNumber → List Rule
-evictRules s q = pageRules s q ++ (rule11 s (q .0) ∷ rule12 s (q .0) ∷ [])
+evictRules s q = pageRules s q ++ (rule11 s (q .0) ∷ stayRules s (q .0))
 
 unfoldable pub evictCall : State → PageNumber → Out
 evictCall s q = decide s (evictRules s q) (out done (evicted s (found (s .pool) (q .0))))

@@ -6,10 +6,12 @@ pub mod Flags
 pub mod Parents
 pub mod FoundLaws
 pub mod SweepLaws
+pub mod Standings
 pub mod MoveLaws
 pub mod Ready
 pub mod RuleLaws
 pub mod Outcomes
 pub mod ResidentWords
 pub mod LinkOrder
+pub mod EvictReasons
 pub mod ByName

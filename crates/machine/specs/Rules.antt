@@ -1,4 +1,4 @@
--- "Numbered denials, in checking order", but that link tests 9 before 8 (request A.9): the table of the rules. A rule's test holds where it is kept.
+-- "Numbered denials, in checking order", but that link tests 9 before 8 (request A.9), and 20 to 22 stand after 11 (request A.4): the table of the rules. A rule's test holds where it is kept.
 use Prim.Native.Nat.{ℕ, _*_, _-_, _/_}
 use mathlib.Core.Bool.{Bool, not}
 use mathlib.Core.List.{List}
@@ -10,10 +10,10 @@ use Rattle.page.specs.Page.{name}
 use Rattle.machine.specs.declared.Pool.{Pool}
 use Rattle.machine.specs.declared.Handle.{Handle}
 use Rattle.machine.specs.Tests.{_and_, _or_, Rule}
-use Rattle.machine.specs.Machine.{State, isUsed, recordAt, found}
+use Rattle.machine.specs.Machine.{State, isUsed, recordAt, isRoot, found}
 use Rattle.machine.specs.Agreement.{agree}
 use Rattle.machine.specs.Soundness.{sound}
-use Rattle.machine.specs.Sweep.{firstEmpty, isOpen, sweep}
+use Rattle.machine.specs.Sweep.{firstEmpty, childless, sweep}
 use Rattle.machine.specs.Naming.{named, loadable}
 
 -- F and N are in their ranges, and frames and store have F and N pages
@@ -88,9 +88,15 @@ rule10 w = (10, isNumber w)
 abbrev pub rule11 : State → ℕ → Rule
 rule11 s q = (11, ltb (found (s .pool) q) (s .pool .count))
 
--- 12. "Evict's page is the root, pinned, or has a swizzled word."
-abbrev pub rule12 : State → ℕ → Rule
-rule12 s q = let f = found (s .pool) q in (12, isOpen (recordAt (s .pool .records) f) (s .frames) f)
+-- request A.4, of evict's page: "20: the root; 21: pinned; 22: a swizzled word"
+abbrev pub rule20 : State → ℕ → Rule
+rule20 s q = (20, not (isRoot (found (s .pool) q)))
+
+abbrev pub rule21 : State → ℕ → Rule
+rule21 s q = (21, eqb (recordAt (s .pool .records) (found (s .pool) q) .pins) 0)
+
+abbrev pub rule22 : State → ℕ → Rule
+rule22 s q = (22, childless (s .frames) (found (s .pool) q))
 
 -- 13. "A resident page to be pinned has 65,535 pins."
 abbrev pub rule13 : State → ℕ → Rule

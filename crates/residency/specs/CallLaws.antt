@@ -1,8 +1,8 @@
 -- How the tests of open, unfix and evict, in their order, make up the calls. Assumes nothing.
 use Prim.Native.Nat.{ℕ, _/_, _≤_, _<_}
 use mathlib.Core.Path.{_≡_, refl, sym, _∙_, ap}
-use mathlib.Core.Bool.{Bool, true, false}
-use mathlib.Core.List.{List, [], _∷_}
+use mathlib.Core.Bool.{true, false}
+use mathlib.Core.List.{List, _∷_}
 use native.Mathlib.Omega.{arith}
 use borrow.Author.Tests.{lt-ltb, le-ltb}
 use lib.Dec.{ltb}
@@ -17,12 +17,12 @@ use Rattle.machine.specs.Tests.{Rule, firstBroken}
 use Rattle.machine.specs.Laws.TestLaws.{kept-then, broken-here, none-broken}
 use Rattle.machine.specs.Machine.{State, state, withPool, blank, rootRecord, unpinned, recordAt, withRecord, zeroPool, openedPool, found}
 use Rattle.machine.specs.Soundness.{sound}
-use Rattle.machine.specs.Sweep.{isOpen}
-use Rattle.machine.specs.Laws.SweepLaws.{open-childless}
+use Rattle.machine.specs.Sweep.{standing}
+use Rattle.machine.specs.Laws.Standings.{open-childless, stayNumber, none-stays, stays-first}
 use Rattle.machine.specs.Moves.{evicted}
 use Rattle.machine.specs.Answers.{out, doneAnswer}
-use Rattle.machine.specs.Rules.{lengthsFit, rule11, rule12}
-use Rattle.machine.specs.Calls.{changeRecord, openCall, handleRules, unfixCall, pageRules, evictCall}
+use Rattle.machine.specs.Rules.{lengthsFit, rule11}
+use Rattle.machine.specs.Calls.{changeRecord, openCall, handleRules, unfixCall, pageRules, stayRules, evictCall}
 use Rattle.machine.specs.Laws.Ready.{ready}
 use Rattle.machine.specs.Laws.RuleLaws.{done-no, done-yes, HandleKept, handle-kept, page-passes}
 use Rattle.seen.specs.Seen.{Seen}
@@ -69,7 +69,7 @@ module _ (s : State) (h : Handle) {n a : ℕ} (e : n ≡ firstBroken (handleRule
 
 module _ (s : State) (q : PageNumber) {residents : List ℕ} {seen : Seen} {n F : ℕ} (e : (n ≡ firstBroken (pageRules s q)) × (n ≡ 0 → Handed (s .pool) (s .frames) residents seen)) (z : n ≡ 0) (c : F ≡ length (s .frames) / pageSize) where
   rest : List Rule
-  rest = rule11 s (q .0) ∷ rule12 s (q .0) ∷ []
+  rest = rule11 s (q .0) ∷ stayRules s (q .0)
 
   module _ {f : ℕ} (i : f ≡ foundBy residents (q .0) F 0) where
     here : f ≡ found (s .pool) (q .0)
@@ -86,16 +86,20 @@ module _ (s : State) (q : PageNumber) {residents : List ℕ} {seen : Seen} {n F 
       resident : ltb (found (s .pool) (q .0)) (s .pool .count) ≡ true
       resident = rw (← here) (lt-ltb f _ below)
 
-      pub evict-shut : isOpen (recordAt (s .pool .records) f) (s .frames) f ≡ false → out (doneAnswer 12) s ≡ evictCall s q
-      unfolding evictCall rest
-      evict-shut h = done-no s _ _ (page-passes s q rest (e .0) z (sym (kept-then 11 _ resident ∙ broken-here 12 _ (rw (← here) h)))) (λ y. omega arith)
+      -- m is the number that the code found for where the page stands
+      module _ {m : ℕ} (j : m ≡ stayNumber (standing (recordAt (s .pool .records) f) (s .frames) f)) where
+        by-rest : m ≡ firstBroken rest
+        unfolding rest
+        by-rest = j ∙ ap (λ (g : ℕ). stayNumber (standing (recordAt (s .pool .records) g) (s .frames) g)) here ∙ sym (kept-then 11 _ resident ∙ stays-first s (q .0))
 
-      module _ (h : isOpen (recordAt (s .pool .records) f) (s .frames) f ≡ true) where
-        pub evict-removable : Removable (recordAt (s .pool .records) f) (s .frames) (s .store) f
-        evict-removable = removable s f (ready s (kept s q e z c)) below (open-childless _ _ _ h)
-
-        pub evict-done : {r : FrameRecord} {gs ts : List ℕ} → r ≡ blank → TakenOut (recordAt (s .pool .records) f) (s .frames) (s .store) f gs ts → out (doneAnswer 0) (state (withRecord (s .pool) f r) gs ts) ≡ evictCall s q
+        pub evict-stays : (m ≡ 0 → ⊥) → out (doneAnswer m) s ≡ evictCall s q
         unfolding evictCall rest
-        evict-done b t =
-            done-yes s _ (page-passes s q rest (e .0) z (sym (kept-then 11 _ resident ∙ kept-then 12 _ (rw (← here) h) ∙ none-broken))) refl
-            (is-evicted s f (ap (withRecord (s .pool) f) b) t ∙ ap (evicted s) here)
+        evict-stays h = done-no s _ _ (page-passes s q rest (e .0) z by-rest) h
+
+        module _ (h : m ≡ 0) where
+          pub evict-removable : Removable (recordAt (s .pool .records) f) (s .frames) (s .store) f
+          evict-removable = removable s f (ready s (kept s q e z c)) below (open-childless _ _ _ (none-stays _ _ f (sym j ∙ h)))
+
+          pub evict-done : {r : FrameRecord} {gs ts : List ℕ} → r ≡ blank → TakenOut (recordAt (s .pool .records) f) (s .frames) (s .store) f gs ts → out (doneAnswer 0) (state (withRecord (s .pool) f r) gs ts) ≡ evictCall s q
+          unfolding evictCall rest
+          evict-done b t = done-yes s _ (page-passes s q rest (e .0) z by-rest) h (is-evicted s f (ap (withRecord (s .pool) f) b) t ∙ ap (evicted s) here)

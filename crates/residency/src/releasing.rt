@@ -1,13 +1,20 @@
 // Unfix and evict: a page loses a pin, or its frame.
 use machine::Done;
+use machine::FrameRecord;
 use machine::Handle;
 use machine::Pool;
+use machine::Standing;
 use page::FrameIndex;
 use page::PageNumber;
 ghost use mathlib.Core.Path.{_≡_};
+ghost use Prim.Native.Nat.{_+_, _*_, _≤_};
+ghost use lib.ListN.{length};
+ghost use Rattle.page.specs.Figures.{pageSize};
 ghost use Rattle.machine.specs.Machine.{state};
 ghost use Rattle.machine.specs.Answers.{out, doneAnswer};
 ghost use Rattle.machine.specs.Calls.{unfixCall, evictCall};
+ghost use Rattle.machine.specs.Sweep.{standing};
+ghost use Rattle.machine.specs.Laws.Standings.{stayNumber};
 
 // Takes one pin off a handle's page.
 pub fn unfix(pool: Pool, frames: &[u8], store: &[u8], handle: Handle) -> Done
@@ -37,6 +44,20 @@ pub fn unfix(pool: Pool, frames: &[u8], store: &[u8], handle: Handle) -> Done
     }
 }
 
+// The rule by which a frame's page stays, or 0 where it may go: 20 for the root, 21 for a pinned page, 22 for one with a swizzled word.
+fn staying(rec: FrameRecord, frames: &[u8], frame: FrameIndex) -> u8
+    requires { ⌜ pageSize * frame .0 + pageSize ≤ length (now frames) ⌝ }
+    ensures { λ r. ⌜ r ≡ stayNumber (standing rec (now (frames .entry)) (frame .0)) ⌝ }
+{
+    let reason = scan::standing::of(rec, frames, frame);
+    match reason {
+        Standing::Root => 20,
+        Standing::Pinned => 21,
+        Standing::Parent => 22,
+        Standing::Evictable => 0,
+    }
+}
+
 // Takes a page out of its frame, if that is open to eviction.
 pub fn evict(pool: Pool, frames: &mut [u8], store: &mut [u8], page: PageNumber) -> Done
     ensures { λ r. ⌜ out (doneAnswer (r .refusal)) (state (r .pool) (now (frames .exit)) (now (store .exit))) ≡ evictCall (state pool (now (frames .entry)) (now (store .entry))) page ⌝ }
@@ -55,8 +76,12 @@ pub fn evict(pool: Pool, frames: &mut [u8], store: &mut [u8], page: PageNumber) 
     }
     let rec = next.records[f];
     let frame = FrameIndex(f as u8);
-    if !scan::standing::is_open(rec, frames, frame) {
-        return Done { pool, refusal: 12 };
+    let stays = staying(rec, frames, frame);
+    if stays != 0 {
+        return Done {
+            pool,
+            refusal: stays,
+        };
     }
     moves::take_out(rec, frames, store, frame);
     next.records[f] = records::empty();

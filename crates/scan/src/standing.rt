@@ -7,7 +7,7 @@ ghost use mathlib.Core.Path.{_≡_};
 ghost use Prim.Native.Nat.{_+_, _*_, _≤_};
 ghost use lib.ListN.{length};
 ghost use Rattle.page.specs.Figures.{pageSize};
-ghost use Rattle.machine.specs.Sweep.{standing, isOpen};
+ghost use Rattle.machine.specs.Sweep.{standing};
 
 // The reason why the page of a frame stays, the first that holds.
 pub fn of(rec: FrameRecord, frames: &[u8], frame: FrameIndex) -> Standing
@@ -24,18 +24,4 @@ pub fn of(rec: FrameRecord, frames: &[u8], frame: FrameIndex) -> Standing
         return Standing::Evictable;
     }
     Standing::Parent
-}
-
-// Is the frame open to eviction.
-pub fn is_open(rec: FrameRecord, frames: &[u8], frame: FrameIndex) -> bool
-    requires { ⌜ pageSize * frame .0 + pageSize ≤ length (now frames) ⌝ }
-    ensures { λ r. ⌜ r ≡ isOpen rec (now (frames .entry)) (frame .0) ⌝ }
-{
-    let reason = of(rec, frames, frame);
-    match reason {
-        Standing::Root => false,
-        Standing::Pinned => false,
-        Standing::Parent => false,
-        Standing::Evictable => true,
-    }
 }

@@ -1,5 +1,5 @@
 //! Images, pages that leave a frame or come into one, and the sweep.
-use super::{frame_word, occupied, read, swizzled_to, unswizzled, Reading};
+use super::{has_swizzled, occupied, swizzled_to, unswizzled};
 use crate::pool::Refusal;
 use crate::records::{
     page_of, page_of_mut, put_word, word_in, FrameIndex, FrameRecord, PageNumber, State, SLOTS,
@@ -27,8 +27,7 @@ pub fn write_out(state: &mut State, frame: FrameIndex) {
 
 /// The page in an occupied frame isn't the root, isn't pinned, and has no swizzled word.
 pub fn evictable(state: &State, frame: FrameIndex) -> bool {
-    let swizzled = |slot| matches!(read(frame_word(&state.frames, frame, slot)), Reading::Frame(_));
-    frame != FrameIndex(0) && state.pool.record(frame).pins == 0 && !(0..SLOTS).any(swizzled)
+    frame != FrameIndex(0) && state.pool.record(frame).pins == 0 && !has_swizzled(state, frame)
 }
 
 pub fn evict(state: &mut State, frame: FrameIndex) {

@@ -1,4 +1,4 @@
-//! Document 01, "Numbered denials": what each rule tests. A rule broken is its number.
+//! Document 01, "Numbered denials", with document 02's: what each rule tests. A rule broken is its number.
 use super::agreement::{agree, all_distinct};
 use super::{frame_of, occupied, read, unswizzled, Reading};
 use crate::pool::Refusal;

@@ -1,4 +1,4 @@
--- The two cases of a call: no rule is broken and it does as it says, or it is refused and leaves all as it was. Assumes nothing.
+-- The two cases of a call: no rule is broken and it does as it says, or it is refused and leaves all as it was. And what it answers by its list of rules. Assumes nothing.
 use Prim.Native.Nat.{ℕ}
 use mathlib.Core.Path.{_≡_, refl, sym, _∙_, ap}
 use mathlib.Core.Logic.{_≢_}
@@ -111,9 +111,11 @@ broken-of s rules a o (broken m z k q) t n e = k ∙ one-refusal s o m n q e
 -- ---- a call by its list of rules
 
 module _ (s : State) (rules : List Rule) (a : Out) where
+  -- the first broken rule's number is what it answers, with all as it was
   pub refused-by : (n : ℕ) → n ≢ 0 → firstBroken rules ≡ n → decide s rules a ≡ out (refused n) s
   refused-by n z e = sym (decide-no s rules a (sym e) z)
 
+  -- and a refusal's number is that of the first broken rule
   pub broken-by : accepted (a .answer) ≡ true → (n : ℕ) → decide s rules a .answer ≡ refused n → firstBroken rules ≡ n
   broken-by = broken-of s rules a _ (outcome s rules rules a refl)
 
@@ -131,7 +133,7 @@ answers-as e = ap (λ (o : Out). o .answer) e
 pub leaves-as : {a b : Out} → a ≡ b → a .left ≡ b .left
 leaves-as e = ap (λ (o : Out). o .left) e
 
--- ---- what a call answers where it is accepted
+-- ---- what peek, find and a fix that loads answer is no refusal
 
 module _ (s : State) where
   pub place-accepted : (q : ℕ) → accepted (payloadPlace s q) ≡ true

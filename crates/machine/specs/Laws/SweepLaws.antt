@@ -19,9 +19,9 @@ use Rattle.machine.specs.declared.Standing.the-variants.{Root, Pinned, P
 use Rattle.machine.specs.Tests.{pick, _and_, _or_, some}
 use Rattle.machine.specs.Laws.Flags.{same-flag}
 use Rattle.machine.specs.Laws.TestLaws.{clash, case, on, off, is-off, same, and-left, both, or-none, or-off, true-some, some-true, pick-either}
-use Rattle.machine.specs.Machine.{State, withPool, isRoot, blank, isUsed, recordAt}
+use Rattle.machine.specs.Machine.{State, withPool, blank, isUsed, recordAt}
 use Rattle.machine.specs.Laws.AgreementFacts.{InRange}
-use Rattle.machine.specs.Sweep.{Class, rest, warm, yield, yields, Kind, classOf, kind, Swept, after, emptyFrom, firstEmpty, childless, standing, evictable, isOpen, lookLeaves, lookTakes, sweepFrom, mostLooks, sweep, withSwept}
+use Rattle.machine.specs.Sweep.{Class, rest, warm, yield, yields, Kind, classOf, kind, Swept, after, emptyFrom, firstEmpty, standing, evictable, isOpen, lookLeaves, lookTakes, sweepFrom, mostLooks, sweep, withSwept}
 use Rattle.machine.specs.Rules.{rule15}
 use Rattle.machine.specs.Laws.Ready.{Ready}
 
@@ -72,23 +72,6 @@ away-left F h d hF e = elim (decLt (h + 1) F) [
 ]
 
 -- ---- one look
-
--- a frame is open to eviction where it is not the root's, not pinned, and has no swizzled word
-pub open-where : (r : FrameRecord) (fs : List ℕ) (f : ℕ) → isOpen r fs f ≡ pick (isRoot f) false (pick (eqb (r .pins) 0) (childless fs f) false)
-unfolding standing pick
-open-where r fs f = by-tests (isRoot f) (eqb (r .pins) 0) (childless fs f)
-  where
-    by-tests : (root free leaf : Bool) → evictable (pick root Root (pick free (pick leaf Evictable Parent) Pinned)) ≡ pick root false (pick free leaf false)
-    by-tests true free leaf = refl
-    by-tests false true true = refl
-    by-tests false true false = refl
-    by-tests false false leaf = refl
-
-pub open-childless : (r : FrameRecord) (fs : List ℕ) (f : ℕ) → isOpen r fs f ≡ true → childless fs f ≡ true
-open-childless r fs f =
-    let P : Bool → Type 0 = λ b. b ≡ true → childless fs f ≡ true in
-    rw (open-where r fs f)
-    (pick-either P (isRoot f) false _ (λ e. absurd (clash (sym e))) (pick-either P (eqb (r .pins) 0) (childless fs f) false (λ e. e) (λ e. absurd (clash (sym e)))))
 
 -- q is r with another usage count: in its range, and not more where there are no pins
 pub record Cooler (r q : FrameRecord) : Type 0 where

@@ -1,4 +1,4 @@
--- "Numbered denials, in checking order", but that link tests 9 before 8 (request A.9): where one input breaks two rules of a call, the first is answered, and nothing changes.
+-- "Numbered denials, in checking order", but that link tests 9 before 8 (request A.9): where one input breaks two rules of a call, the first is answered, and nothing changes. 20 to 22 of evict stand in EvictRows.
 use mathlib.Core.Path.{_≡_, refl}
 use mathlib.Core.Bool.{true}
 use mathlib.Core.List.{List, [], _∷_, _++_}
@@ -68,7 +68,7 @@ ordered =
     ∷ refuses (λ s. writeCall s (handleOf 2 0) 0 []) astray 2
     ∷ refuses (λ s. linkCall s (handleOf 2 0) 2 (pageNumber 1)) astray 2
     ∷ refuses (λ s. unlinkCall s (handleOf 2 0) 1) astray 2
-    -- 2 and 6; evict: 2 and 12
+    -- 2 and 6; evict: 2 and 20
     ∷ refuses (λ s. peekCall s (pageNumber 3)) astray 2
     ∷ refuses (λ s. evictCall s (pageNumber 3)) astray 2
     ∷ refuses (λ s. findCall s (pageNumber 3)) astray 2

@@ -19,15 +19,15 @@ use Rattle.machine.specs.Machine.{State, state, zeroPool, pageIn, found,
 use Rattle.machine.specs.Moves.{plain, settled, evicted}
 use Rattle.machine.specs.Naming.{named}
 use Rattle.machine.specs.Soundness.{sound}
-use Rattle.machine.specs.Rules.{handleFits, rangeFits, wordOf, rule1, rule2, rule3, rule4, rule5, rule6, rule6-link, rule7, rule8, rule9, rule10, rule11, rule12, rule13, rule16}
+use Rattle.machine.specs.Rules.{handleFits, rangeFits, wordOf, rule1, rule2, rule3, rule4, rule5, rule6, rule6-link, rule7, rule8, rule9, rule10, rule11, rule13, rule16}
 use Rattle.machine.specs.Answers.{done, number, Out, out}
-use Rattle.machine.specs.Calls.{decide, changeRecord, openRules, opened, openCall, pinnedOut, rootCall, unfixCall, payloadPlace, peekCall, wordCall, written, writeCall, relinked, linkCall, unlinkCall, evictCall, settleCall, foundAnswer, findCall}
+use Rattle.machine.specs.Calls.{decide, changeRecord, openRules, opened, openCall, pinnedOut, rootCall, unfixCall, payloadPlace, peekCall, wordCall, written, writeCall, relinked, linkCall, unlinkCall, stayRules, evictCall, settleCall, foundAnswer, findCall}
 use Rattle.machine.specs.Theorem.View.{view}
 use Rattle.machine.specs.History.{Point}
 use Rattle.machine.specs.Theorem.Invariant.{Invariant}
 use Rattle.machine.specs.Laws.Outcomes.{Outcome, outcome, usual, Cases, cases, lacks}
 use Rattle.machine.specs.Theorem.Holders.{Holder, holder-found}
-use Rattle.machine.specs.Theorem.TestReads.{Handled, handled, Open, open-of}
+use Rattle.machine.specs.Theorem.TestReads.{Handled, handled, Open, open-kept}
 use Rattle.machine.specs.Theorem.InvariantReads.{lengths-fit-open, unbroken, unnamed}
 
 -- ---- what the rules of a call say where none is broken
@@ -157,10 +157,12 @@ module _ (x : Point) (I : Invariant x) where
 
   pub evict-case : (q : PageNumber) → Cases (x .now) (MayEvict (x .now) (q .0)) (out done (evicted (x .now) (found (x .now .pool) (q .0)))) (evictCall (x .now) q)
   unfolding evictCall usual lacks _and_
-  evict-case q = by-rules (rule6 (x .now) (q .0) ∷ rule11 (x .now) (q .0) ∷ rule12 (x .now) (q .0) ∷ []) _ _ refl (λ e.
-      let a = first-kept 5 (ltb (q .0) (x .now .pool .pages)) (rule11 (x .now) (q .0) ∷ rule12 (x .now) (q .0) ∷ []) e in
-      let b = first-kept 10 (ltb (found (x .now .pool) (q .0)) (x .now .pool .count)) (rule12 (x .now) (q .0) ∷ []) (a .1) in
-      record { holder = holder-found (x .now) (q .0) (b .0); isopen = open-of (x .now) (found (x .now .pool) (q .0)) (first-kept 11 _ [] (b .1) .0) })
+  evict-case q =
+      let last : List Rule = stayRules (x .now) (q .0) in
+      by-rules (rule6 (x .now) (q .0) ∷ rule11 (x .now) (q .0) ∷ last) _ _ refl (λ e.
+      let a = first-kept 5 (ltb (q .0) (x .now .pool .pages)) (rule11 (x .now) (q .0) ∷ last) e in
+      let b = first-kept 10 (ltb (found (x .now .pool) (q .0)) (x .now .pool .count)) last (a .1) in
+      record { holder = holder-found (x .now) (q .0) (b .0); isopen = open-kept (x .now) (q .0) (b .1) })
 
   pub settle-case : Cases (x .now) (Unit {0}) (out done (settled (x .now))) (settleCall (x .now))
   unfolding settleCall usual lacks _and_

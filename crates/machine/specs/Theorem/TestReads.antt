@@ -1,19 +1,21 @@
 -- What the tests of a handle and of openness to eviction say of the state. Assumes nothing.
 use Prim.Native.Nat.{ℕ, _<_, _≤_}
-use mathlib.Core.Path.{_≡_, refl, sym, _∙_}
+use mathlib.Core.Path.{_≡_, sym, _∙_, ap}
 use mathlib.Core.Logic.{_≢_}
 use mathlib.Core.Bool.{true, false}
-use borrow.Author.Tests.{eqb-true, eqb-false, eq-eqb, ne-eqb, ltb-true}
+use borrow.Author.Tests.{eqb-true, ltb-true}
 use lib.Dec.{eqb, ltb}
 use Rattle.page.specs.Figures.{slotCount}
-use Rattle.page.specs.Word.{Number, Swizzled, number-yes, number-no}
+use Rattle.page.specs.Word.{Number}
 use Rattle.page.specs.Page.{name}
 use Rattle.machine.specs.declared.Handle.{Handle}
-use Rattle.machine.specs.Laws.TestLaws.{clash, case, on, off, and-true, every-true, false-every, pick-yes, pick-no}
-use Rattle.machine.specs.Machine.{State, isUsed, recordAt, pageIn}
-use Rattle.machine.specs.Sweep.{childless, isOpen}
-use Rattle.machine.specs.Laws.SweepLaws.{open-where}
+use Rattle.machine.specs.Tests.{firstBroken}
+use Rattle.machine.specs.Laws.TestLaws.{clash, and-true}
+use Rattle.machine.specs.Machine.{State, isUsed, recordAt, pageIn, found}
+use Rattle.machine.specs.Sweep.{evictable, isOpen}
+use Rattle.machine.specs.Laws.Standings.{HasSwizzled, numbers-alone, rootStands, pinnedStands, parentStands, openStands, stands, open-stands, none-stays, stays-first}
 use Rattle.machine.specs.Rules.{handleFits}
+use Rattle.machine.specs.Calls.{stayRules}
 use Rattle.machine.specs.Theorem.View.{view, Occupied}
 
 -- the handle's frame is occupied, holds its page, and is pinned
@@ -37,28 +39,17 @@ pub record Open (s : State) (f : ℕ) : Type 0 where
   pub leaf : (k : ℕ) → k < slotCount → Number (name (s .frames) f k)
 
 pub open-of : (s : State) (f : ℕ) → isOpen (recordAt (s .pool .records) f) (s .frames) f ≡ true → Open s f
-unfolding childless
-open-of s f o =
-    let t = sym (open-where (recordAt (s .pool .records) f) (s .frames) f) ∙ o in
-    elim (case (eqb f 0)) [
-      | on a ↦ absurd (clash (sym t ∙ sym (pick-yes _ a refl)))
-      | off a ↦
-          let u = pick-no false a refl ∙ t in
-          elim (case (eqb (recordAt (s .pool .records) f .pins) 0)) [
-            | off b ↦ absurd (clash (sym u ∙ sym (pick-no _ b refl)))
-            | on b ↦ record {
-              notRoot = eqb-false f 0 a;
-              unpinned = eqb-true _ 0 b;
-              leaf = λ k h. number-yes _ (every-true slotCount _ (pick-yes false b refl ∙ u) k h);
-            }
-          ]
-    ]
+open-of s f o = let w = open-stands _ _ f o in record { notRoot = w .0; unpinned = w .1; leaf = numbers-alone (s .frames) f (w .2) }
+
+-- where the last three rules of evict are kept, its page's frame is open
+pub open-kept : (s : State) (q : ℕ) → firstBroken (stayRules s q) ≡ 0 → Open s (found (s .pool) q)
+open-kept s q e = let f = found (s .pool) q in open-of s f (none-stays _ _ f (sym (stays-first s q) ∙ e))
 
 -- an unpinned frame that is not the root's and yet not open has a swizzled word
-pub shut-of : (s : State) (f : ℕ) → isOpen (recordAt (s .pool .records) f) (s .frames) f ≡ false → f ≢ 0 → recordAt (s .pool .records) f .pins ≡ 0 → (k : ℕ) × (k < slotCount) × Swizzled (name (s .frames) f k)
-unfolding childless
-shut-of s f o n z =
-    let t = sym (open-where (recordAt (s .pool .records) f) (s .frames) f) ∙ o in
-    let c = pick-yes false (eq-eqb _ 0 z) refl ∙ pick-no false (ne-eqb f 0 n) refl ∙ t in
-    let r = false-every slotCount _ c in
-    (r .0, r .1, number-no _ (r .2))
+pub shut-of : (s : State) (f : ℕ) → isOpen (recordAt (s .pool .records) f) (s .frames) f ≡ false → f ≢ 0 → recordAt (s .pool .records) f .pins ≡ 0 → HasSwizzled (s .frames) f
+shut-of s f o n z = elim (stands (recordAt (s .pool .records) f) (s .frames) f) [
+  | rootStands e a ↦ absurd (n a)
+  | pinnedStands e a b ↦ absurd (b z)
+  | parentStands e a b c ↦ c
+  | openStands e a b c ↦ absurd (clash (sym (ap evictable e) ∙ o))
+]

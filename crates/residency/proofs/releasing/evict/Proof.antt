@@ -1,11 +1,10 @@
 -- `residency::releasing::evict` meets its contract. Assumes nothing.
 use mathlib.Core.Path.{refl}
 use native.Mathlib.Omega.{arith}
-use Rattle.machine.specs.Laws.TestLaws.{call-no, call-yes}
 use Rattle.machine.specs.Calls.{evictCall}
 use Rattle.machine.specs.Laws.RuleLaws.{page-stops, done-no}
 use Rattle.scan.specs.FoundByTable.{few-frames}
-use Rattle.residency.specs.CallLaws.{evict-absent, evict-shut, evict-removable, evict-done}
+use Rattle.residency.specs.CallLaws.{evict-absent, evict-stays, evict-removable, evict-done}
 use borrow.Author.Needs.{needs}
 use Rattle.residency.proofs.releasing.evict.Statement.{statement}
 use Rattle.residency.proofs.releasing.evict.Tie as tie
@@ -50,14 +49,14 @@ element-copy-out-rec c =
     let at-refusal = past-refusal .before in
     let h = few-frames _ _ (at-refusal .page-refusal .ensures) (past-refusal .if1 .left) refl in omega (arith, h)
 
-cast-t27 : tie.Need-cast-t27
-cast-t27 c =
+cast-t28 : tie.Need-cast-t28
+cast-t28 c =
     let past-refusal = c .before .before .before .before in
     let at-refusal = past-refusal .before in
     let h = few-frames _ _ (at-refusal .page-refusal .ensures) (past-refusal .if1 .left) refl in omega (arith, h)
 
-is-open-requires : tie.Need-is-open-requires
-is-open-requires c κs = search needs
+staying-requires : tie.Need-staying-requires
+staying-requires c κs = search needs
 
 same-length-5 : tie.Need-same-length-5
 same-length-5 c = search needs
@@ -65,34 +64,34 @@ same-length-5 c = search needs
 same-length-6 : tie.Need-same-length-6
 same-length-6 c = search needs
 
--- 12: it is the root, pinned, or has a swizzled word
+-- 20, 21, 22: it is the root, pinned, or has a swizzled word
 returns-3 : tie.Need-returns-3
 returns-3 c =
-    let at-open = c .before in
-    let past-absent = at-open .before .before .before in
+    let at-stays = c .before in
+    let past-absent = at-stays .before .before .before in
     let at-found = past-absent .before in
     let past-refusal = at-found .before .before in
     let at-refusal = past-refusal .before in
-    evict-shut _ _ (at-refusal .page-refusal .ensures) (past-refusal .if1 .left) refl (at-found .find-frame .ensures) (past-absent .if2 .left) (call-no (at-open .is-open .ensures) (c .if3 .taken))
+    evict-stays _ _ (at-refusal .page-refusal .ensures) (past-refusal .if1 .left) refl (at-found .find-frame .ensures) (past-absent .if2 .left) (at-stays .staying .ensures) (c .if3 .taken)
 
 take-out-requires : tie.Need-take-out-requires
 take-out-requires c κs =
-    let past-shut = c .before .before in
-    let at-open = past-shut .before in
-    let past-absent = at-open .before .before .before in
+    let past-stays = c .before .before in
+    let at-stays = past-stays .before in
+    let past-absent = at-stays .before .before .before in
     let at-found = past-absent .before in
     let past-refusal = at-found .before .before in
     let at-refusal = past-refusal .before in
-    evict-removable _ _ (at-refusal .page-refusal .ensures) (past-refusal .if1 .left) refl (at-found .find-frame .ensures) (past-absent .if2 .left) (call-yes (at-open .is-open .ensures) (past-shut .if3 .left))
+    evict-removable _ _ (at-refusal .page-refusal .ensures) (past-refusal .if1 .left) refl (at-found .find-frame .ensures) (past-absent .if2 .left) (at-stays .staying .ensures) (past-stays .if3 .left)
 
 empty-requires : tie.Need-empty-requires
 empty-requires c κs = search needs
 
-mul-t22 : tie.Need-mul-t22
-mul-t22 c =
+mul-t23 : tie.Need-mul-t23
+mul-t23 c =
     let at-take-out = c .before .before .before .before .before in
-    let at-open = at-take-out .before .before .before .before in
-    let at-found = at-open .before .before .before .before in
+    let at-stays = at-take-out .before .before .before .before in
+    let at-found = at-stays .before .before .before .before in
     let past-refusal = at-found .before .before in
     let at-refusal = past-refusal .before in
     let h = few-frames _ _ (at-refusal .page-refusal .ensures) (past-refusal .if1 .left) refl in omega (arith, h)
@@ -100,8 +99,8 @@ mul-t22 c =
 element-set-from-next : tie.Need-element-set-from-next
 element-set-from-next c =
     let at-take-out = c .before .before .before .before .before in
-    let at-open = at-take-out .before .before .before .before in
-    let at-found = at-open .before .before .before .before in
+    let at-stays = at-take-out .before .before .before .before in
+    let at-found = at-stays .before .before .before .before in
     let past-refusal = at-found .before .before in
     let at-refusal = past-refusal .before in
     let h = few-frames _ _ (at-refusal .page-refusal .ensures) (past-refusal .if1 .left) refl in omega (arith, h)
@@ -116,13 +115,13 @@ same-length-8 c = search needs
 returns-4 : tie.Need-returns-4
 returns-4 c =
     let at-take-out = c .before .before .before .before .before in
-    let past-shut = at-take-out .before .before .before in
-    let at-open = past-shut .before in
-    let past-absent = at-open .before .before .before in
+    let past-stays = at-take-out .before .before .before in
+    let at-stays = past-stays .before in
+    let past-absent = at-stays .before .before .before in
     let at-found = past-absent .before in
     let past-refusal = at-found .before .before in
     let at-refusal = past-refusal .before in
-    evict-done _ _ (at-refusal .page-refusal .ensures) (past-refusal .if1 .left) refl (at-found .find-frame .ensures) (past-absent .if2 .left) (call-yes (at-open .is-open .ensures) (past-shut .if3 .left)) (c .empty .ensures) (at-take-out .take-out .ensures)
+    evict-done _ _ (at-refusal .page-refusal .ensures) (past-refusal .if1 .left) refl (at-found .find-frame .ensures) (past-absent .if2 .left) (at-stays .staying .ensures) (past-stays .if3 .left) (c .empty .ensures) (at-take-out .take-out .ensures)
 
 pub evict-spec : {M : Type 1} → statement M
 evict-spec =
@@ -138,14 +137,14 @@ evict-spec =
     returns-2
     mul-rec
     element-copy-out-rec
-    cast-t27
-    is-open-requires
+    cast-t28
+    staying-requires
     same-length-5
     same-length-6
     returns-3
     take-out-requires
     empty-requires
-    mul-t22
+    mul-t23
     element-set-from-next
     same-length-7
     same-length-8

@@ -1,0 +1,154 @@
+//! What `./replay` keeps of a recording, against the records of the pool: by it a refused evict is told with what to do.
+use pool_tests::calls::{Answer, Call};
+use pool_tests::random::Random;
+use pool_tests::records::{handle, FrameIndex, Handle, PageNumber, State, SWIZZLE_BIT};
+use pool_tests::steer::Steer;
+use pool_tests::trial::Trial;
+use words::known::Known;
+use words::listing::Line;
+use words::record;
+
+/// The listing's F and N.
+const FRAMES: usize = 4;
+const PAGES: u16 = 16;
+
+/// The listing's pool, and what is known of it.
+#[derive(Clone)]
+struct Listed {
+    trial: Trial,
+    known: Known,
+}
+
+impl Listed {
+    fn open() -> Listed {
+        Listed { trial: Trial::open(FRAMES, PAGES.into(), &[]), known: Known::opened() }
+    }
+
+    /// Makes a call, and gives the refusal's number.
+    fn call(&mut self, call: &Call) -> u8 {
+        let answer = self.trial.call(call.clone());
+        if let (true, Some(recorded)) = (answer.accepted(), recorded(call)) {
+            self.known.feed(&recorded, line(&answer));
+        }
+        compare(&self.known, &self.trial.state);
+        answer.number()
+    }
+
+    /// Evicts a page as it is told: with so many unfixes, and after its children.
+    fn evict_as_told(&mut self, page: u16) {
+        for _ in 0..self.known.pins(page) {
+            assert_eq!(self.call(&Call::Evict(page)), 21);
+            let frame = self.known.frame(page).expect("a frame");
+            assert_eq!(self.call(&Call::Unfix(handle(frame, page))), 0);
+        }
+        for (_, child) in self.known.children(page) {
+            assert_eq!(self.call(&Call::Evict(page)), 22);
+            self.evict_as_told(child);
+        }
+        assert_eq!(self.call(&Call::Evict(page)), 0);
+    }
+}
+
+/// What evict answers by what is known.
+fn foretold(known: &Known, page: u16) -> u8 {
+    match known.frame(page) {
+        _ if page >= PAGES => 6,
+        None => 11,
+        Some(_) if page == 0 => 20,
+        Some(_) if known.pins(page) > 0 => 21,
+        Some(_) if !known.children(page).is_empty() => 22,
+        Some(_) => 0,
+    }
+}
+
+/// Frames, pins and children of every page are those of the pool.
+fn compare(known: &Known, state: &State) {
+    for page in 0..PAGES {
+        let resident = state.occupied().find(|(_, record)| record.page == PageNumber(page));
+        assert_eq!(known.frame(page), resident.map(|(frame, _)| frame.0), "page {page}");
+        assert_eq!(known.pins(page), resident.map_or(0, |(_, record)| record.pins.into()), "page {page}");
+        let words = resident.into_iter().flat_map(|(frame, _)| (0..).zip(state.words(frame)));
+        let swizzled = words.filter_map(|(slot, word)| Some((slot, word.checked_sub(SWIZZLE_BIT)?)));
+        let children = swizzled.map(|(slot, frame)| (slot, state.pool.records[frame as usize].page.0));
+        assert_eq!(known.children(page), children.collect::<Vec<_>>(), "page {page}");
+    }
+}
+
+/// The listing's record of an accepted call, where it has that call.
+fn recorded(call: &Call) -> Option<record::Call> {
+    let of = |handle: &Handle| record::Handle { frame: handle.frame.0, page: handle.page.0 };
+    Some(match call {
+        Call::Root => record::Call::Root,
+        Call::Fix(handle, slot) => record::Call::Fix { slot: *slot as u8, handle: of(handle) },
+        Call::Unfix(handle) => record::Call::Unfix { handle: of(handle) },
+        Call::Write(handle, ..) => record::Call::Write { offset: 0, data: vec![], handle: of(handle) },
+        Call::Link(handle, slot, page) => {
+            record::Call::Link { page: *page, slot: *slot as u8, handle: of(handle) }
+        }
+        Call::Unlink(handle, slot) => record::Call::Unlink { slot: *slot as u8, handle: of(handle) },
+        Call::Evict(page) => record::Call::Evict { page: *page },
+        Call::Settle => record::Call::Settle,
+        Call::Find(page) => record::Call::Find { page: *page },
+        Call::Open | Call::Show(_) | Call::Peek(_) | Call::Word(..) => return None,
+    })
+}
+
+fn line(answer: &Answer) -> Line {
+    let (frame, page) = match answer {
+        Answer::Fixed(fixed) => (fixed.handle.frame.0, fixed.handle.page.0),
+        _ => (0, 0),
+    };
+    Line { call: 0, refusal: 0, frame, page }
+}
+
+/// A link or fix below a pinned page, below the root only where no other is pinned, so that other pages become parents; an unfix;
+/// or an evict of a resident page.
+fn below_others(random: &mut Random, state: &State) -> Call {
+    let pinned = state.occupied().filter(|(_, record)| record.pins > 0);
+    let handles: Vec<Handle> = pinned.map(|(frame, record)| Handle { frame, page: record.page }).collect();
+    let Some(any) = random.choose(handles.iter().copied()) else { return Call::Root };
+    let others = handles.into_iter().filter(|handle| handle.frame != FrameIndex(0));
+    let (parent, slot) = (random.choose(others).unwrap_or(any), random.below(3));
+    match random.below(10) {
+        0..4 => Call::Link(parent, slot, random.between(1, 15) as u16),
+        4..7 => Call::Fix(parent, slot),
+        7 => Call::Unfix(any),
+        _ => Call::Evict(random.choose(state.occupied().map(|(_, record)| record.page.0)).unwrap_or(0)),
+    }
+}
+
+/// Along random lists, what is known foretells each evict, and a page that stays goes as it is told.
+#[test]
+fn a_page_that_stays_goes_as_told() {
+    let (mut several_pins, mut several_children, mut swept) = (0, 0, 0);
+    for number in 0..200 {
+        let mut random = Random::new(number);
+        let mut listed = Listed::open();
+        let mut steer = Steer::new(&listed.trial.state);
+        for _ in 0..400 {
+            let state = &listed.trial.state;
+            let call = if random.percent(40) {
+                steer.next(&mut random, state)
+            } else {
+                below_others(&mut random, state)
+            };
+            if call == Call::Open {
+                continue;
+            }
+            if let Call::Evict(page) = call {
+                let told = foretold(&listed.known, page);
+                assert_eq!(listed.clone().call(&call), told, "{call:?}");
+                if told == 21 || told == 22 {
+                    several_pins += usize::from(listed.known.pins(page) > 1);
+                    several_children += usize::from(told == 22 && listed.known.children(page).len() > 1);
+                    listed.clone().evict_as_told(page);
+                }
+            }
+            let hand = listed.trial.state.pool.hand;
+            listed.call(&call);
+            swept += usize::from(listed.trial.state.pool.hand != hand);
+        }
+    }
+    let met = [several_pins, several_children, swept];
+    assert!(met.iter().all(|times| *times > 50), "several pins, several children, a sweep: {met:?}");
+}
