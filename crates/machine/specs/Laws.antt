@@ -5,8 +5,9 @@ pub mod AgreementFacts
 pub mod Flags
 pub mod Parents
 pub mod FoundLaws
-pub mod SweepLaws
 pub mod Standings
+pub mod SweepLaws
+pub mod Turns
 pub mod MoveLaws
 pub mod Ready
 pub mod RuleLaws

@@ -2,23 +2,23 @@
 use Prim.Native.Nat.{ℕ, zero, suc, _+_, _-_, _%_, _<_, _≤_}
 use mathlib.Core.Path.{_≡_, refl, sym, _∙_, ap}
 use mathlib.Core.Logic.{_≢_}
-use mathlib.Core.Bool.{Bool, true, false}
+use mathlib.Core.Bool.{true, false}
 use mathlib.Core.List.{List}
 use native.Mathlib.Omega.{arith}
 use native.Mathlib.Decide.{decLt, ℕ-discrete}
 use borrow.Author.Tests.{ne-eqb, lt-ltb, le-ltb}
 use lib.Dec.{eqb, ltb}
-use lib.ListN.{length, getD, set, length-set, List·getD-eq-default}
+use lib.ListN.{length, getD, set, length-set}
 use lib.Seq.{getD-set-same, getD-set-other, set-getD, ext-getD}
 use Rattle.page.specs.Figures.{mostFrames, maxUsage}
 use Rattle.machine.specs.declared.FrameRecord.{FrameRecord}
 use Rattle.machine.specs.declared.Standing.{Standing}
 use Rattle.machine.specs.declared.Pool.{Pool}
 use Rattle.machine.specs.Tests.{pick}
-use Rattle.machine.specs.Laws.TestLaws.{and-yes, and-no, pick-no}
+use Rattle.machine.specs.Laws.TestLaws.{and-yes, and-no, pick-no, pick-two}
 use Rattle.machine.specs.Machine.{blank, frameIndex, withUsage, recordAt}
 use Rattle.machine.specs.Sweep.{Class, rest, warm, yield, Kind, classOf, kind, standing, Swept, after, lookLeaves, lookTakes, mostLooks, sweepFrom, sweep}
-use Rattle.machine.specs.Laws.SweepLaws.{after-in, Cooler, UsageBlind, looked, looked-cooler, kind-usage-blind, cooled-from}
+use Rattle.machine.specs.Laws.SweepLaws.{after-in, Cooler, UsageBlind, looked, looked-cooler, looked-here, looked-other, kind-usage-blind, cooled-from}
 use Rattle.scan.specs.declared.Walk.{Walk}
 
 -- what a sweep sees of a frame, in one number: its class, and its usage in the lower two bits
@@ -69,7 +69,7 @@ pub record Cools (rs ts : List FrameRecord) (vs : List ℕ) (n : ℕ) : Type 0 w
   pub done : (g : ℕ) → g < n → g < length rs → recordAt ts g ≡ cooledTo (recordAt rs g) (getD vs g 0)
   pub kept : (g : ℕ) → n ≤ g → recordAt ts g ≡ recordAt rs g
 
--- ---- seen and cooled frame by frame
+-- ---- seen, and put back, frame by frame
 
 pub sees-none : (k : Kind) (rs : List FrameRecord) (us : List ℕ) → length us ≡ mostFrames → Sees k rs us 0
 sees-none k rs us l = record { size = l; right = λ g h. absurd (omega arith) }
@@ -169,12 +169,6 @@ cooled-to r q v c e = rw (e, ← c .used, ← c .dirty, ← c .slot, ← c .pare
 abbrev pub Few : List FrameRecord → ℕ → Type 0
 Few rs F = (g : ℕ) → g < F → recordAt rs g .usage ≤ maxUsage
 
--- where two pairs are related, so are the picked ones
-pick-two : {A B : Type 0} (R : A → B → Type 0) (t : Bool) (a c : A) (b d : B) → R a b → R c d → R (pick t a c) (pick t b d)
-unfolding pick
-pick-two R true a c b d x y = x
-pick-two R false a c b d x y = y
-
 -- from the records rs the one ended as the other, and its records are seen as what that left
 record Alike (k : Kind) (F : ℕ) (rs : List FrameRecord) (v : Swept) (e : WalkEnd) : Type 0 where
   ended : e .walk ≡ record { taken = v .taken; frame = v .frame; looks = v .looks; hand = v .hand }
@@ -182,22 +176,6 @@ record Alike (k : Kind) (F : ℕ) (rs : List FrameRecord) (v : Swept) (e : WalkE
   kept : (g : ℕ) → F ≤ g → recordAt (v .records) g ≡ recordAt rs g
 
 module _ (k : Kind) (K : UsageBlind k) (F : ℕ) (most : F ≤ mostFrames) where
-  -- past the last record there is the blank one, of which a look leaves what it was
-  blank-left : (c : Class) → (c ≡ warm → blank .pins ≢ 0) → lookLeaves blank c ≡ blank
-  unfolding lookLeaves
-  blank-left rest p = refl
-  blank-left warm p = absurd (p refl refl)
-  blank-left yield p = refl
-
-  looked-here : (rs : List FrameRecord) (h : ℕ) → recordAt (looked k rs h) h ≡ lookLeaves (recordAt rs h) (k (recordAt rs h) h)
-  looked-here rs h = elim (decLt h (length rs)) [
-    | yes l ↦ getD-set-same rs h _ blank l
-    | no l ↦
-        let e : recordAt rs h ≡ blank = List·getD-eq-default rs blank (omega arith) in
-        let s : length (looked k rs h) ≡ length rs = length-set rs h _ in
-        List·getD-eq-default (looked k rs h) blank (omega arith) ∙ sym (rw e (blank-left (k blank h) (K .pinned blank h)))
-  ]
-
   module _ (rs : List FrameRecord) (us : List ℕ) (h : ℕ) (l : h < F) (few : Few rs F) (s : Sees k rs us F) where
     abbrev next : List ℕ
     next = set us h (lookedAt (getD us h 0))
@@ -211,7 +189,7 @@ module _ (k : Kind) (K : UsageBlind k) (F : ℕ) (most : F ≤ mostFrames) where
     sees-at : getD next h 0 ≡ sight (k (recordAt (looked k rs h) h) h) (recordAt (looked k rs h) h .usage)
     sees-at =
         getD-set-same us h _ 0 (omega (arith, s .size)) ∙ ap lookedAt (s .right h l) ∙ leaves-same (recordAt rs h) (k (recordAt rs h) h) (few h l)
-        ∙ sym (rw (K .same (recordAt rs h) (recordAt (looked k rs h) h) h (looked-cooler k K rs h h), looked-here rs h) refl)
+        ∙ sym (rw (K .same (recordAt rs h) (recordAt (looked k rs h) h) h (looked-cooler k K rs h h), looked-here k K rs h) refl)
 
     sees-looked : Sees k (looked k rs h) next F
     sees-looked = record { size = length-set us h _ ∙ s .size; right = right }
@@ -219,11 +197,11 @@ module _ (k : Kind) (K : UsageBlind k) (F : ℕ) (most : F ≤ mostFrames) where
         right : (g : ℕ) → g < F → getD next g 0 ≡ sight (k (recordAt (looked k rs h) g) g) (recordAt (looked k rs h) g .usage)
         right g i = elim (ℕ-discrete g h) [
           | yes q ↦ rw q sees-at
-          | no q ↦ getD-set-other us h g _ 0 q ∙ s .right g i ∙ sym (rw (getD-set-other rs h g (lookLeaves (recordAt rs h) (k (recordAt rs h) h)) blank q))
+          | no q ↦ getD-set-other us h g _ 0 q ∙ s .right g i ∙ sym (rw (looked-other k rs h g q))
         ]
 
     kept-looked : (g : ℕ) → F ≤ g → recordAt (looked k rs h) g ≡ recordAt rs g
-    kept-looked g i = getD-set-other rs h g _ blank (λ q. omega arith)
+    kept-looked g i = looked-other k rs h g (λ q. omega arith)
 
     alike-then : (v : Swept) (e : WalkEnd) → Alike k F (looked k rs h) v e → Alike k F rs v e
     alike-then v e a = record { ended = a .ended; sees = a .sees; kept = λ g i. a .kept g i ∙ kept-looked g i }

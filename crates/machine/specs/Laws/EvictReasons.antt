@@ -17,14 +17,14 @@ use Rattle.machine.specs.Sweep.{standing, evictable, isOpen}
 use Rattle.machine.specs.Moves.{evicted}
 use Rattle.machine.specs.Answers.{refused, done, Out, out}
 use Rattle.machine.specs.Rules.{wordOf, rule11, rule13, rule14, rule15}
-use Rattle.machine.specs.Calls.{decide, pageRules, openCall, rootCall, pinnedOut, missOut, fixEntryRules, fixRules, fixCall, unfixCall, showCall, peekCall, wordCall, writeCall, linkCall, unlinkCall, stayRules, evictRules, evictCall, settleCall, findCall}
-use Rattle.machine.specs.History.{Call, reopen, root, fix, unfix, show, peek, word, write, link, unlink, evict, settle, find, row, accepted}
+use Rattle.machine.specs.Calls.{decide, pageRules, openCall, rootCall, fixEntryRules, fixRules, fixCall, unfixCall, showCall, peekCall, wordCall, writeCall, linkCall, unlinkCall, stayRules, evictRules, evictCall, settleCall, findCall}
+use Rattle.machine.specs.History.{Call, reopen, root, fix, unfix, show, peek, word, write, link, unlink, evict, settle, find, row}
 use Rattle.machine.specs.Laws.TestLaws.{pick-either, first-kept, kept-then, broken-here, none-broken, numbered, parts-kept}
 use Rattle.machine.specs.Laws.FoundLaws.{found-holds, found-is}
 use Rattle.machine.specs.Laws.Ready.{Kept}
 use Rattle.machine.specs.Laws.RuleLaws.{page-kept}
 use Rattle.machine.specs.Laws.Standings.{HasSwizzled, numbers-alone, rootStands, pinnedStands, parentStands, openStands, stands, stayNumber, stays-first}
-use Rattle.machine.specs.Laws.Outcomes.{lacks, kept-part, first, second, parts, one-refusal, refused-by, never-by, same-by, answers-as, leaves-as, place-accepted, found-accepted, miss-accepted}
+use Rattle.machine.specs.Laws.Outcomes.{lacks, kept-part, first, second, parts, one-refusal, refused-by, never-by, same-by, answers-as, leaves-as, place-accepted, found-accepted, fix-accepted}
 
 -- ---- document 01's rule and evict by it: definitions for these laws alone, which no call cites
 
@@ -293,8 +293,7 @@ fix-never : (s : State) (h : Handle) (k : ℕ) → fixCall s h k .answer ≢ ref
 unfolding fixCall lacks _and_
 fix-never s h k =
     let w = wordOf s h k in
-    never-by s (fixRules s h k) _
-    (pick-either (λ (o : Out). accepted (o .answer) ≡ true) (isNumber w) (missOut s (h .frame .0) k w) (pinnedOut s (frameIn w)) (miss-accepted s (h .frame .0) k w) refl)
+    never-by s (fixRules s h k) _ (fix-accepted s h k)
     12 (omega arith) (pick-either (λ (rs : List Rule). lacks 12 (fixEntryRules s h k ++ rs) ≡ true) (isNumber w) (rule14 s w ∷ rule15 s ∷ []) (rule13 s (frameIn w) ∷ []) refl refl)
 
 pub never-twelve : NeverTwelve

@@ -8,11 +8,14 @@ use native.Mathlib.Omega.{arith}
 use native.Mathlib.Decide.{ℕ-discrete}
 use borrow.Author.Tests.{eqb-false, not-true}
 use lib.Dec.{eqb}
+use Rattle.page.specs.Word.{isNumber, frameIn}
+use Rattle.machine.specs.declared.Handle.{Handle}
 use Rattle.machine.specs.Tests.{_and_, pick, Rule, firstBroken, verdict}
 use Rattle.machine.specs.Laws.TestLaws.{clash, and-true, pick-either, verdict-yes, verdict-no, numbered, broken-then}
 use Rattle.machine.specs.Machine.{State}
 use Rattle.machine.specs.Answers.{Answer, refused, Out, out}
-use Rattle.machine.specs.Calls.{decide, missOut, payloadPlace, foundAnswer}
+use Rattle.machine.specs.Rules.{wordOf}
+use Rattle.machine.specs.Calls.{decide, missOut, pinnedOut, payloadPlace, foundAnswer}
 use Rattle.machine.specs.History.{accepted}
 use Rattle.machine.specs.Laws.RuleLaws.{decide-no}
 
@@ -110,6 +113,12 @@ broken-of s rules a o (broken m z k q) t n e = k ∙ one-refusal s o m n q e
 
 -- ---- a call by its list of rules
 
+pub answers-as : {a b : Out} → a ≡ b → a .answer ≡ b .answer
+answers-as e = ap (λ (o : Out). o .answer) e
+
+pub leaves-as : {a b : Out} → a ≡ b → a .left ≡ b .left
+leaves-as e = ap (λ (o : Out). o .left) e
+
 module _ (s : State) (rules : List Rule) (a : Out) where
   -- the first broken rule's number is what it answers, with all as it was
   pub refused-by : (n : ℕ) → n ≢ 0 → firstBroken rules ≡ n → decide s rules a ≡ out (refused n) s
@@ -127,13 +136,7 @@ module _ (s : State) (rules : List Rule) (a : Out) where
   unfolding decide
   same-by others e = ap (λ (n : ℕ). verdict n (λ m. out (refused m) s) a) e
 
-pub answers-as : {a b : Out} → a ≡ b → a .answer ≡ b .answer
-answers-as e = ap (λ (o : Out). o .answer) e
-
-pub leaves-as : {a b : Out} → a ≡ b → a .left ≡ b .left
-leaves-as e = ap (λ (o : Out). o .left) e
-
--- ---- what peek, find and a fix that loads answer is no refusal
+-- ---- what peek, find and fix answer where no rule is broken is no refusal
 
 module _ (s : State) where
   pub place-accepted : (q : ℕ) → accepted (payloadPlace s q) ≡ true
@@ -147,3 +150,6 @@ module _ (s : State) where
   pub miss-accepted : (f k q : ℕ) → accepted (missOut s f k q .answer) ≡ true
   unfolding missOut
   miss-accepted f k q = pick-either (λ (o : Out). accepted (o .answer) ≡ true) _ _ _ refl refl
+
+  pub fix-accepted : (h : Handle) (k : ℕ) → let w = wordOf s h k in accepted (pick (isNumber w) (missOut s (h .frame .0) k w) (pinnedOut s (frameIn w)) .answer) ≡ true
+  fix-accepted h k = let w = wordOf s h k in pick-either (λ (o : Out). accepted (o .answer) ≡ true) (isNumber w) _ _ (miss-accepted (h .frame .0) k w) refl

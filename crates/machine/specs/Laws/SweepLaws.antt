@@ -2,34 +2,28 @@
 use Prim.Native.Nat.{ℕ, zero, suc, _+_, _*_, _-_, _<_, _≤_}
 use mathlib.Core.Path.{_≡_, refl, sym, _∙_, ap}
 use mathlib.Core.Logic.{_≢_}
-use mathlib.Core.Bool.{Bool, true, false}
-use mathlib.Core.List.{List, [], _∷_}
+use mathlib.Core.Bool.{true, false}
+use mathlib.Core.List.{List}
 use native.Mathlib.Omega.{arith}
 use native.Mathlib.Nat.{mul-le-mul-left}
 use native.Mathlib.Decide.{decLt, ℕ-discrete}
 use borrow.Author.Tests.{eqb-false, lt-ltb, le-ltb}
 use lib.Dec.{eqb, ltb}
-use lib.ListN.{length, set, length-set}
-use lib.Seq.{getD-set-other}
+use lib.ListN.{length, set, length-set, List·getD-eq-default}
+use lib.Seq.{getD-set-same, getD-set-other}
 use Rattle.page.specs.Figures.{maxUsage}
 use Rattle.machine.specs.declared.FrameRecord.{FrameRecord}
 use Rattle.machine.specs.declared.Pool.{Pool}
 use Rattle.machine.specs.declared.Standing.{Standing}
 use Rattle.machine.specs.declared.Standing.the-variants.{Root, Pinned, Parent, Evictable}
-use Rattle.machine.specs.Tests.{pick, _and_, _or_, some}
+use Rattle.machine.specs.Tests.{pick, some}
 use Rattle.machine.specs.Laws.Flags.{same-flag}
-use Rattle.machine.specs.Laws.TestLaws.{clash, case, on, off, is-off, same, and-left, both, or-none, or-off, true-some, some-true, pick-either}
+use Rattle.machine.specs.Laws.TestLaws.{clash, case, on, off, is-off, same, and-left, both, or-none, or-off, true-some, some-true, pick-either, pick-by}
 use Rattle.machine.specs.Machine.{State, withPool, blank, isUsed, recordAt}
 use Rattle.machine.specs.Laws.AgreementFacts.{InRange}
 use Rattle.machine.specs.Sweep.{Class, rest, warm, yield, yields, Kind, classOf, kind, Swept, after, emptyFrom, firstEmpty, standing, evictable, isOpen, lookLeaves, lookTakes, sweepFrom, mostLooks, sweep, withSwept}
 use Rattle.machine.specs.Rules.{rule15}
 use Rattle.machine.specs.Laws.Ready.{Ready}
-
--- what holds of each value in its case holds of the one that is picked
-pick-by : {A : Type 0} (P : A → Type 0) (t : Bool) (a b : A) → (t ≡ true → P a) → (t ≡ false → P b) → P (pick t a b)
-unfolding pick
-pick-by P true a b h k = h refl
-pick-by P false a b h k = k refl
 
 -- ---- going round
 
@@ -53,11 +47,19 @@ pub data Away (F h g d : ℕ) : Type 0 where
 pub away : (F h g : ℕ) → h < F → g < F → (d : ℕ) × (d < F) × Away F h g d
 away F h g hF gF = elim (decLt g h) [ yes l ↦ (g + F - h, omega arith, round (omega arith) (omega arith)) | no l ↦ (g - h, omega arith, near (omega arith)) ]
 
-away-here : (F h g : ℕ) → h < F → Away F h g 0 → g ≡ h
+pub away-few : (F h g d : ℕ) → g < F → Away F h g d → d < F
+away-few F h g d gF (near e) = omega arith
+away-few F h g d gF (round e l) = l
+
+pub away-here : (F h g : ℕ) → h < F → Away F h g 0 → g ≡ h
 away-here F h g hF (near e) = omega arith
 away-here F h g hF (round e l) = absurd (omega arith)
 
-away-next : (F h g d : ℕ) → h < F → g < F → Away F h g (suc d) → Away F (after F h) g d
+pub away-own : (F h d : ℕ) → h < F → Away F h h d → d ≡ 0
+away-own F h d hF (near e) = omega arith
+away-own F h d hF (round e l) = absurd (omega arith)
+
+pub away-next : (F h g d : ℕ) → h < F → g < F → Away F h g (suc d) → Away F (after F h) g d
 away-next F h g d hF gF (near e) = rw (after-next F h (omega arith)) (near (omega arith))
 away-next F h g d hF gF (round e l) = elim (decLt (h + 1) F) [
   | yes k ↦ rw (after-next F h k) (round (omega arith) (omega arith))
@@ -65,7 +67,7 @@ away-next F h g d hF gF (round e l) = elim (decLt (h + 1) F) [
 ]
 
 -- the frame that was just left lies F − 1 on
-away-left : (F h d : ℕ) → h < F → suc d ≡ F → Away F (after F h) h d
+pub away-left : (F h d : ℕ) → h < F → suc d ≡ F → Away F (after F h) h d
 away-left F h d hF e = elim (decLt (h + 1) F) [
   | yes k ↦ rw (after-next F h k) (round (omega arith) (omega arith))
   | no k ↦ rw (after-last F h (omega arith)) (near (omega arith))
@@ -73,7 +75,7 @@ away-left F h d hF e = elim (decLt (h + 1) F) [
 
 -- ---- one look
 
--- q is r with another usage count: in its range, and not more where there are no pins
+-- q is r as looks leave it: another usage count, in its range, and not more where there are no pins
 pub record Cooler (r q : FrameRecord) : Type 0 where
   pub used : q .used ≡ r .used
   pub dirty : q .dirty ≡ r .dirty
@@ -114,53 +116,70 @@ look-cooler r yield p = record { used = refl; dirty = refl; usage = λ h. omega 
 abbrev pub looked : Kind → List FrameRecord → ℕ → List FrameRecord
 looked k rs h = set rs h (lookLeaves (recordAt rs h) (k (recordAt rs h) h))
 
--- at an index past the end nothing is set, and the record there stays the blank one
-set-relates : (R : FrameRecord → FrameRecord → Type 0) (rs : List FrameRecord) (h g : ℕ) (x : FrameRecord) → ((r : FrameRecord) → R r r) → R (recordAt rs h) x → R (recordAt rs g) (recordAt (set rs h x) g)
-set-relates R [] h g x s e = s blank
-set-relates R (y ∷ rs) zero zero x s e = e
-set-relates R (y ∷ rs) zero (suc g) x s e = s (recordAt rs g)
-set-relates R (y ∷ rs) (suc h) zero x s e = s y
-set-relates R (y ∷ rs) (suc h) (suc g) x s e = set-relates R rs h g x s e
+-- past the last record there is the blank one, of which a look leaves what it was
+blank-left : (c : Class) → (c ≡ warm → blank .pins ≢ 0) → lookLeaves blank c ≡ blank
+unfolding lookLeaves
+blank-left rest p = refl
+blank-left warm p = absurd (p refl refl)
+blank-left yield p = refl
+
+pub set-past : (rs : List FrameRecord) (h : ℕ) (r : FrameRecord) → length rs ≤ h → recordAt (set rs h r) h ≡ blank
+set-past rs h r l = let s : length (set rs h r) ≡ length rs = length-set rs h r in List·getD-eq-default (set rs h r) blank (omega arith)
+
+pub looked-here : (k : Kind) → UsageBlind k → (rs : List FrameRecord) (h : ℕ) → recordAt (looked k rs h) h ≡ lookLeaves (recordAt rs h) (k (recordAt rs h) h)
+looked-here k K rs h = elim (decLt h (length rs)) [
+  | yes l ↦ getD-set-same rs h _ blank l
+  | no l ↦
+      let e : recordAt rs h ≡ blank = List·getD-eq-default rs blank (omega arith) in
+      set-past rs h _ (omega arith) ∙ sym (rw e (blank-left (k blank h) (K .pinned blank h)))
+]
+
+pub looked-other : (k : Kind) (rs : List FrameRecord) (h g : ℕ) → g ≢ h → recordAt (looked k rs h) g ≡ recordAt rs g
+looked-other k rs h g = getD-set-other rs h g _ blank
 
 pub looked-cooler : (k : Kind) → UsageBlind k → (rs : List FrameRecord) (h g : ℕ) → Cooler (recordAt rs g) (recordAt (looked k rs h) g)
-looked-cooler k K rs h g = set-relates Cooler rs h g _ cooler-self (look-cooler (recordAt rs h) _ (K .pinned (recordAt rs h) h))
+looked-cooler k K rs h g = elim (ℕ-discrete g h) [
+  | yes e ↦ rw (e, looked-here k K rs h) (look-cooler (recordAt rs h) _ (K .pinned (recordAt rs h) h))
+  | no q ↦ rw (looked-other k rs h g q) (cooler-self (recordAt rs g))
+]
 
 -- an open frame that is looked at loses one usage
-set-usage : (rs : List FrameRecord) (h : ℕ) (x : FrameRecord) → x .usage ≡ recordAt rs h .usage - 1 → recordAt (set rs h x) h .usage ≡ recordAt rs h .usage - 1
-set-usage [] h x e = refl
-set-usage (y ∷ rs) zero x e = e
-set-usage (y ∷ rs) (suc h) x e = set-usage rs h x e
-
 leaves-cooled : (r : FrameRecord) (c : Class) → yields c ≡ true → lookLeaves r c .usage ≡ r .usage - 1
 unfolding lookLeaves
 leaves-cooled r rest e = absurd (clash (sym e))
 leaves-cooled r warm e = absurd (clash (sym e))
 leaves-cooled r yield e = refl
 
-looked-usage : (k : Kind) (rs : List FrameRecord) (h : ℕ) → yields (k (recordAt rs h) h) ≡ true → recordAt (looked k rs h) h .usage ≡ recordAt rs h .usage - 1
-looked-usage k rs h o = set-usage rs h _ (leaves-cooled (recordAt rs h) _ o)
+looked-usage : (k : Kind) → UsageBlind k → (rs : List FrameRecord) (h : ℕ) → yields (k (recordAt rs h) h) ≡ true → recordAt (looked k rs h) h .usage ≡ recordAt rs h .usage - 1
+looked-usage k K rs h o = ap (λ (r : FrameRecord). r .usage) (looked-here k K rs h) ∙ leaves-cooled (recordAt rs h) _ o
 
-looked-open : (k : Kind) → UsageBlind k → (rs : List FrameRecord) (h g : ℕ) → yields (k (recordAt (looked k rs h) g) g) ≡ yields (k (recordAt rs g) g)
+pub looked-open : (k : Kind) → UsageBlind k → (rs : List FrameRecord) (h g : ℕ) → yields (k (recordAt (looked k rs h) g) g) ≡ yields (k (recordAt rs g) g)
 looked-open k K rs h g = ap yields (K .same (recordAt rs g) (recordAt (looked k rs h) g) g (looked-cooler k K rs h g))
 
-takes-open : (r : FrameRecord) (c : Class) → lookTakes r c ≡ true → yields c ≡ true
+pub takes-open : (r : FrameRecord) (c : Class) → lookTakes r c ≡ true → yields c ≡ true
 unfolding lookTakes
 takes-open r c t = and-left (yields c) (eqb (r .usage) 0) t
 
-leaves-warm : (r : FrameRecord) (c : Class) → yields c ≡ true → lookTakes r c ≡ false → r .usage ≢ 0
+not-taken-used : (r : FrameRecord) (c : Class) → yields c ≡ true → lookTakes r c ≡ false → r .usage ≢ 0
 unfolding lookTakes
-leaves-warm r c e t = elim (case (eqb (r .usage) 0)) [ on z ↦ absurd (clash (sym (both (yields c) _ e z) ∙ t)) | off z ↦ eqb-false (r .usage) 0 z ]
+not-taken-used r c e t = elim (case (eqb (r .usage) 0)) [ on z ↦ absurd (clash (sym (both (yields c) _ e z) ∙ t)) | off z ↦ eqb-false (r .usage) 0 z ]
 
--- ---- the classes of document 01
+-- ---- the classes by where a page stands
 
-kind-open : (fs : List ℕ) (r : FrameRecord) (f : ℕ) → isOpen r fs f ≡ true → yields (kind fs r f) ≡ true
-kind-open fs r f = by-standing (standing r fs f)
+pub rest-not-warm : rest ≡ warm → ⊥
+rest-not-warm e = let z : _≡_ {A = ℕ} 0 1 = cc in omega arith
+
+pub yield-not-warm : yield ≡ warm → ⊥
+yield-not-warm e = let z : _≡_ {A = ℕ} 0 1 = cc in omega arith
+
+pub open-class : (fs : List ℕ) (r : FrameRecord) (f : ℕ) → isOpen r fs f ≡ true → kind fs r f ≡ yield
+open-class fs r f = by-standing (standing r fs f)
   where
-    by-standing : (a : Standing) → evictable a ≡ true → yields (classOf a) ≡ true
-    by-standing Root e = e
-    by-standing Pinned e = e
-    by-standing Parent e = e
-    by-standing Evictable e = e
+    by-standing : (a : Standing) → evictable a ≡ true → classOf a ≡ yield
+    by-standing Root e = absurd (clash (sym e))
+    by-standing Pinned e = absurd (clash (sym e))
+    by-standing Parent e = absurd (clash (sym e))
+    by-standing Evictable e = refl
 
 open-kind : (fs : List ℕ) (r : FrameRecord) (f : ℕ) → yields (kind fs r f) ≡ true → isOpen r fs f ≡ true
 open-kind fs r f = by-standing (standing r fs f)
@@ -179,14 +198,11 @@ standing-same r q fs f e = rw e
 pub kind-usage-blind : (fs : List ℕ) → UsageBlind (kind fs)
 kind-usage-blind fs = record { same = λ r q f c. ap classOf (standing-same r q fs f (c .pins)); pinned = λ r f e. absurd (none (standing r fs f) e) }
   where
-    at-rest : rest ≡ warm → ⊥
-    at-rest e = let z : _≡_ {A = ℕ} 0 1 = cc in omega arith
-
     none : (a : Standing) → classOf a ≡ warm → ⊥
-    none Root e = at-rest e
-    none Pinned e = at-rest e
-    none Parent e = at-rest e
-    none Evictable e = let z : _≡_ {A = ℕ} 0 1 = cc in omega arith
+    none Root e = rest-not-warm e
+    none Pinned e = rest-not-warm e
+    none Parent e = rest-not-warm e
+    none Evictable e = yield-not-warm e
 
 -- ---- how many looks
 
@@ -197,14 +213,20 @@ looks-most k F (suc m) n rs h =
     let l : sweepFrom k F m (n + 1) (looked k rs h) (after F h) .looks ≤ n + 1 + m = looks-most k F m (n + 1) (looked k rs h) (after F h) in
     pick-either (λ (v : Swept). v .looks ≤ n + suc m) _ _ _ (omega arith) (omega arith)
 
+pub looks-least : (k : Kind) (F m n : ℕ) (rs : List FrameRecord) (h : ℕ) → n ≤ sweepFrom k F m n rs h .looks
+unfolding sweepFrom
+looks-least k F zero n rs h = omega arith
+looks-least k F (suc m) n rs h =
+    let l = looks-least k F m (n + 1) (looked k rs h) (after F h) in
+    pick-either (λ (v : Swept). n ≤ v .looks) _ _ _ (omega arith) (omega arith)
+
 looks-some : (k : Kind) (F m n : ℕ) (rs : List FrameRecord) (h : ℕ) → sweepFrom k F m n rs h .taken ≡ true → n + 1 ≤ sweepFrom k F m n rs h .looks
 unfolding sweepFrom
 looks-some k F zero n rs h = λ e. absurd (clash (sym e))
 looks-some k F (suc m) n rs h =
-    pick-either (λ (v : Swept). v .taken ≡ true → n + 1 ≤ v .looks) _ _ _ (λ e. omega arith)
-    (λ e. let l : n + 1 + 1 ≤ sweepFrom k F m (n + 1) (looked k rs h) (after F h) .looks = looks-some k F m (n + 1) (looked k rs h) (after F h) e in omega arith)
+    pick-either (λ (v : Swept). v .taken ≡ true → n + 1 ≤ v .looks) _ _ _ (λ e. omega arith) (λ e. looks-least k F m (n + 1) (looked k rs h) (after F h))
 
--- "A sweep takes at most 4 × F looks", and one at least where a frame is taken
+-- "A sweep takes at most 4 × F looks"
 pub sweep-looks : (p : Pool) (fs : List ℕ) → sweep p fs .looks ≤ mostLooks (p .count)
 sweep-looks p fs = let l = looks-most (kind fs) (p .count) (mostLooks (p .count)) 0 (p .records) (p .hand .0) in omega arith
 
@@ -212,52 +234,54 @@ sweep-looks p fs = let l = looks-most (kind fs) (p .count) (mostLooks (p .count)
 pub sweep-looked : (p : Pool) (fs : List ℕ) → sweep p fs .taken ≡ true → 1 ≤ sweep p fs .looks
 sweep-looked p fs e = let l = looks-some (kind fs) (p .count) (mostLooks (p .count)) 0 (p .records) (p .hand .0) e in omega arith
 
--- ---- an open frame is enough: at distance d with so many usages, it is taken within d + F × usage + 1 looks
+-- ---- the look at which an open frame would go
 
-cool-down : (F u d m : ℕ) → 0 < F → u ≢ 0 → d + F * u < suc m → F - 1 + F * (u - 1) < m
-cool-down F zero d m hF n l = absurd (n refl)
-cool-down F (suc u) d m hF n l = let e : suc u - 1 ≡ u = omega arith in rw e (omega arith)
+-- frame g, d frames on from the hand: it goes after a round for each usage that it has, at the next look that it gets
+abbrev pub due : ℕ → List FrameRecord → ℕ → ℕ → ℕ
+due F rs g d = F * recordAt rs g .usage + d + 1
 
--- with m looks left, an open frame that its distance and usage let be taken in fewer is enough
-abbrev Finds : Kind → ℕ → ℕ → Type 0
-Finds k F m =
-    (n : ℕ) (rs : List FrameRecord) (h g d : ℕ) → h < F → g < F → yields (k (recordAt rs g) g) ≡ true → Away F h g d → d + F * recordAt rs g .usage < m
-    → sweepFrom k F m n rs h .taken ≡ true
+round-off : (F u : ℕ) → u ≢ 0 → F * (u - 1) + F ≡ F * u
+round-off F zero n = absurd (n refl)
+round-off F (suc u) n = let e : suc u - 1 ≡ u = omega arith in rw e (omega arith)
 
-module _ (k : Kind) (K : UsageBlind k) (F m : ℕ) (finds : Finds k F m) (n : ℕ) (rs : List FrameRecord) (h g : ℕ) (hF : h < F) (gF : g < F) (o : yields (k (recordAt rs g) g) ≡ true) where
-  abbrev Goes : Type 0
-  Goes = sweepFrom k F m (n + 1) (looked k rs h) (after F h) .taken ≡ true
-
-  again : (d : ℕ) → Away F (after F h) g d → d + F * recordAt (looked k rs h) g .usage < m → Goes
-  again d a l = finds (n + 1) (looked k rs h) (after F h) g d (after-in F h hF) gF (looked-open k K rs h g ∙ o) a l
+module _ (k : Kind) (K : UsageBlind k) (F : ℕ) (rs : List FrameRecord) (h g : ℕ) (hF : h < F) (gF : g < F) (o : yields (k (recordAt rs g) g) ≡ true)
+    (t : lookTakes (recordAt rs h) (k (recordAt rs h) h) ≡ false) where
+  -- a look that takes nothing brings it nearer by one
+  abbrev pub Nearer : ℕ → Type 0
+  Nearer d = (e : ℕ) × Away F (after F h) g e × (due F rs g d ≡ suc (due F (looked k rs h) g e))
 
   -- the hand stands at g, whose usage is above 0
-  here : (d : ℕ) → g ≡ h → lookTakes (recordAt rs h) (k (recordAt rs h) h) ≡ false → d + F * recordAt rs g .usage < suc m → Goes
-  here d e t l =
+  nearer-here : (d : ℕ) → g ≡ h → Away F h g d → Nearer d
+  nearer-here d e a =
       let oh : yields (k (recordAt rs h) h) ≡ true = rw e at o in
-      let w : recordAt rs h .usage ≢ 0 = leaves-warm (recordAt rs h) _ oh t in
-      again (F - 1) (rw e (away-left F h (F - 1) hF (omega arith)))
-      (rw (e, looked-usage k rs h oh) (cool-down F (recordAt rs h .usage) d m (omega arith) w (rw e at l)))
+      let u = round-off F (recordAt rs h .usage) (not-taken-used (recordAt rs h) _ oh t) in
+      let z : d ≡ 0 = away-own F h d hF (rw e at a) in
+      let l : recordAt (looked k rs h) h .usage ≡ recordAt rs h .usage - 1 = looked-usage k K rs h oh in
+      (F - 1, rw e (away-left F h (F - 1) hF (omega arith)), rw (e, l, z) (omega (arith, u)))
 
-  further : (d : ℕ) → g ≢ h → Away F h g d → d + F * recordAt rs g .usage < suc m → Goes
-  further zero q a l = absurd (q (away-here F h g hF a))
-  further (suc d) q a l = again d (away-next F h g d hF gF a) (rw (getD-set-other rs h g (lookLeaves (recordAt rs h) (k (recordAt rs h) h)) blank q) (omega arith))
+  nearer-further : (d : ℕ) → g ≢ h → Away F h g d → Nearer d
+  nearer-further zero q a = absurd (q (away-here F h g hF a))
+  nearer-further (suc d) q a = (d, away-next F h g d hF gF a, rw (looked-other k rs h g q) (omega arith))
 
-  finds-suc : (d : ℕ) → Away F h g d → d + F * recordAt rs g .usage < suc m → sweepFrom k F (suc m) n rs h .taken ≡ true
-  unfolding sweepFrom
-  finds-suc d a l = pick-by (λ (v : Swept). v .taken ≡ true) _ _ _ (λ t. refl) (λ t. elim (ℕ-discrete g h) [ yes e ↦ here d e t l | no q ↦ further d q a l ])
+  pub nearer : (d : ℕ) → Away F h g d → Nearer d
+  nearer d a = elim (ℕ-discrete g h) [ yes e ↦ nearer-here d e a | no q ↦ nearer-further d q a ]
 
-sweep-finds : (k : Kind) → UsageBlind k → (F m : ℕ) → Finds k F m
+-- with so many looks left a frame is taken: this one, if none before it
+sweep-finds : (k : Kind) → UsageBlind k → (F m n : ℕ) (rs : List FrameRecord) (h g d : ℕ) → h < F → g < F → yields (k (recordAt rs g) g) ≡ true → Away F h g d → due F rs g d ≤ m
+    → sweepFrom k F m n rs h .taken ≡ true
+unfolding sweepFrom
 sweep-finds k K F zero n rs h g d hF gF o a l = absurd (omega arith)
-sweep-finds k K F (suc m) n rs h g d hF gF o a l = finds-suc k K F m (sweep-finds k K F m) n rs h g hF gF o d a l
+sweep-finds k K F (suc m) n rs h g d hF gF o a l = pick-by (λ (v : Swept). v .taken ≡ true) _ _ _ (λ t. refl) (λ t.
+    let e = nearer k K F rs h g hF gF o t d a in
+    sweep-finds k K F m (n + 1) (looked k rs h) (after F h) g (e .0) (after-in F h hF) gF (looked-open k K rs h g ∙ o) (e .1) (omega (arith, e .2)))
 
 pub sweep-enough : (p : Pool) (fs : List ℕ) (g : ℕ) → p .hand .0 < p .count → g < p .count → recordAt (p .records) g .usage ≤ maxUsage
     → isOpen (recordAt (p .records) g) fs g ≡ true → sweep p fs .taken ≡ true
 sweep-enough p fs g hF gF u o =
     let a = away (p .count) (p .hand .0) g hF gF in
-    sweep-finds (kind fs) (kind-usage-blind fs) (p .count) (mostLooks (p .count)) 0 (p .records) (p .hand .0) g (a .0) hF gF (kind-open fs _ g o) (a .2) (bound (p .count) (recordAt (p .records) g .usage) (a .0) u (a .1))
+    sweep-finds (kind fs) (kind-usage-blind fs) (p .count) (mostLooks (p .count)) 0 (p .records) (p .hand .0) g (a .0) hF gF (ap yields (open-class fs _ g o)) (a .2) (bound (p .count) (recordAt (p .records) g .usage) (a .0) u (a .1))
   where
-    bound : (F u d : ℕ) → u ≤ maxUsage → d < F → d + F * u < mostLooks F
+    bound : (F u d : ℕ) → u ≤ maxUsage → d < F → F * u + d + 1 ≤ mostLooks F
     bound F u d h l = omega (arith, mul-le-mul-left F h)
 
 -- ---- what is taken was open

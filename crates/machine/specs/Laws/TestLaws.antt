@@ -220,6 +220,18 @@ unfolding pick
 pick-either P true a b h k = h
 pick-either P false a b h k = k
 
+-- what holds of each value in its case holds of the one that is picked
+pub pick-by : {A : Type 0} (P : A → Type 0) (t : Bool) (a b : A) → (t ≡ true → P a) → (t ≡ false → P b) → P (pick t a b)
+unfolding pick
+pick-by P true a b h k = h refl
+pick-by P false a b h k = k refl
+
+-- where two pairs are related, so are the picked ones
+pub pick-two : {A B : Type 0} (R : A → B → Type 0) (t : Bool) (a c : A) (b d : B) → R a b → R c d → R (pick t a c) (pick t b d)
+unfolding pick
+pick-two R true a c b d x y = x
+pick-two R false a c b d x y = y
+
 -- n is what the code computed, k what the definition says
 pub verdict-no : {A : Type 0} {n k : ℕ} (refused : ℕ → A) (accepted : A) → n ≡ k → (n ≡ 0 → ⊥) → refused n ≡ verdict k refused accepted
 unfolding verdict
