@@ -47,7 +47,7 @@ extern "C" {
  * version before go on working with the new archive, otherwise MAJOR.
  */
 #define PAGEPOOL_VERSION_MAJOR 2
-#define PAGEPOOL_VERSION_MINOR 0
+#define PAGEPOOL_VERSION_MINOR 1
 #define PAGEPOOL_VERSION (1000 * PAGEPOOL_VERSION_MAJOR + PAGEPOOL_VERSION_MINOR)
 
 /* ---- figures */
@@ -119,7 +119,11 @@ struct pool_record {
     /* 1 where the frame holds a page, and 1 where that was changed since it was loaded or settled; otherwise 0. */
     uint8_t used;
     uint8_t dirty;
-    /* The usage count of the clock sweep, 0 to 3. */
+    /*
+     * The usage count of the clock sweep, 0 to 3. Up to 3 each pin raises it by one, and so does each look of a sweep that
+     * passes over the page while it is pinned, unless it is the root; a look at a page that evict would accept lowers it by
+     * one, and at 0 takes the page.
+     */
     uint8_t usage;
     /* The slot of the parent's word that names the page, and the parent's frame. */
     uint8_t slot;
@@ -202,6 +206,10 @@ struct pool_fixed pool_root(struct pool pool, const uint8_t *frames, size_t fram
  * Pins the page that a slot of the handle's page names, and gives its handle. A page that isn't resident is loaded first,
  * into an empty frame or one that a sweep takes, whose page is evicted. Refused: 1, 2, 3, 4, 7; 13 if it is resident, 14 and
  * 15 if not.
+ *
+ * A sweep takes a page that evict would accept: one of least usage, of several the first from the hand on. Pinned pages that it
+ * passes over, the root excepted, gain usage by each look, to 3 at most, so that a page which was held is still warm once its
+ * pins are gone. A fix that makes no sweep leaves the usage of every other page as it was.
  *
  * After 15 every frame holds the root, a pinned page or a page with a resident child. Unfix a page that has none until its
  * pins are gone, and fix again; before that, evict would be refused for every resident page too, by 20, 21 or 22. A host that

@@ -1,7 +1,7 @@
 //! The calls that are timed, each with the state that it is made on.
 use crate::boundary;
 use crate::timing::{repeat, Variants};
-use pagepool::{raw, NoRule, PageNumber, Refusal, MAX_PINS, PAGE_SIZE};
+use pagepool::{raw, NoRule, PageNumber, Refusal, MAX_PINS, MAX_USAGE, PAGE_SIZE};
 use pool_bench::baseline;
 use pool_bench::shapes::{absent, last_named, last_resident, pinned, unnamed, State, EMPTY_SLOT, ROOT};
 use std::hint::black_box;
@@ -103,7 +103,7 @@ pub fn fix_hit(state: &State) -> (State, Variants) {
     repeated!(state.clone(), boundary::in_and_out, fix(ROOT, 1))
 }
 
-/// A page that isn't resident. Where the frames are full every open one has usage 1, so that the sweep goes round once.
+/// A page that isn't resident. In a shape with full frames every open one has usage 1, so that the sweep goes round once.
 pub fn fix_clean(state: &State) -> (State, Variants) {
     let (page, slot) = absent(state);
     undone!(state.clone(), fix(page, slot))
@@ -111,6 +111,28 @@ pub fn fix_clean(state: &State) -> (State, Variants) {
 
 pub fn fix_dirty(state: &State) -> (State, Variants) {
     fix_clean(&dirtied(state))
+}
+
+/// The pages in the first so many frames pinned, all but the root with usage 0: the first three looks at each raise it.
+fn held(state: &State, frames: usize) -> State {
+    let mut state = state.clone();
+    for record in &mut state.records.records[1..frames] {
+        (record.pins, record.usage) = (1, 0);
+    }
+    state
+}
+
+/// A sweep past the pinned half of the frames, twice, to the first of the others. In `Full` alone.
+pub fn fix_half_pinned(state: &State) -> (State, Variants) {
+    fix_clean(&held(state, usize::from(state.records.count) / 2))
+}
+
+/// The longest sweep, 4 × F looks: all frames but the last are pinned, and that has usage 3. In `Full` alone.
+pub fn fix_one_open(state: &State) -> (State, Variants) {
+    let last = usize::from(state.records.count) - 1;
+    let mut state = held(state, last);
+    state.records.records[last].usage = MAX_USAGE;
+    fix_clean(&state)
 }
 
 pub fn unfix(state: &State) -> (State, Variants) {

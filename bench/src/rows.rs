@@ -1,7 +1,7 @@
 //! The rows of the table, and their figures.
 use crate::calls::{
-    evict_dirty, evict_parent, find, fix_clean, fix_dirty, fix_hit, link, link_named, link_taken, open, peek,
-    root, settle_dirty, show, unfix, unlink, word, write,
+    evict_dirty, evict_parent, find, fix_clean, fix_dirty, fix_half_pinned, fix_hit, fix_one_open, link,
+    link_named, link_taken, open, peek, root, settle_dirty, show, unfix, unlink, word, write,
 };
 use crate::timing::{deeper, Race, Times, Variants};
 use pool_bench::shapes::{Shape, State};
@@ -54,6 +54,12 @@ const WITH_FULL_FRAMES: &[Call] = &[
     ("settle, all dirty", settle_dirty),
 ];
 
+const WITH_OTHER_PINS: &[Call] = &[
+    ("fix, sweep, half pinned", fix_half_pinned),
+    ("fix, sweep, one open", fix_one_open),
+    ("evict, parent", evict_parent),
+];
+
 const ON_THE_ROOT: &[Call] = &[
     ("root", root),
     ("fix, empty frame", fix_clean),
@@ -94,7 +100,7 @@ const fn by_pages(shape: Shape, calls: &'static [Call]) -> Block {
 
 static BLOCKS: [Block; 8] = [
     by_frames(Shape::Full, WITH_FULL_FRAMES),
-    by_frames(Shape::Full, &[("evict, parent", evict_parent)]),
+    by_frames(Shape::Full, WITH_OTHER_PINS),
     by_pages(Shape::Full, OVER_THE_STORE),
     by_frames(Shape::Leaves, WITH_FULL_FRAMES),
     by_frames(Shape::Opened, ON_THE_ROOT),

@@ -1,5 +1,5 @@
 //! The baseline answers and leaves exactly what the linked library does, on random calls, refused ones too.
-use pagepool::{FrameIndex, Handle, PageNumber, Refusal, PAGE_SIZE, PAYLOAD_SIZE, SLOTS};
+use pagepool::{FrameIndex, Handle, PageNumber, Pool, Refusal, MAX_USAGE, PAGE_SIZE, PAYLOAD_SIZE, SLOTS};
 use pool_bench::baseline;
 use pool_bench::random::Random;
 use pool_bench::shapes::{opened, Shape, State};
@@ -41,11 +41,13 @@ struct Trial {
     random: Random,
     /// How often each refusal was given, 0 for accepted.
     given: BTreeMap<u8, usize>,
+    /// By number of pages: how many calls warmed so many.
+    warmed: BTreeMap<usize, usize>,
 }
 
 impl Trial {
     fn new(seed: u64) -> Trial {
-        Trial { random: Random::new(seed), given: BTreeMap::new() }
+        Trial { random: Random::new(seed), given: BTreeMap::new(), warmed: BTreeMap::new() }
     }
 
     /// So many calls from a state on, some of them on a damaged one that is then dropped.
@@ -63,9 +65,16 @@ impl Trial {
     }
 
     fn call(&mut self, a: &mut State, b: &mut State) {
+        let before = a.records;
         let refusal = self.any_call(a, b);
         assert!(a == b, "states differ after refusal {refusal}");
         *self.given.entry(refusal).or_default() += 1;
+        *self.warmed.entry(warmed(&before, &a.records)).or_default() += 1;
+    }
+
+    /// How many calls warmed so many pages or more.
+    fn warmed_from(&self, pages: usize) -> usize {
+        self.warmed.range(pages..).map(|(_, calls)| calls).sum()
     }
 
     fn any_call(&mut self, a: &mut State, b: &mut State) -> u8 {
@@ -102,6 +111,17 @@ impl Trial {
         let offset = self.random.below(PAYLOAD_SIZE + 8);
         let bytes = vec![self.random.below(256) as u8; self.random.below(20)];
         same!(a, b, write(handle, offset, &bytes))
+    }
+
+    /// Pins most pages of a state, and gives each any usage and the hand any place.
+    fn held(&mut self, mut state: State) -> State {
+        let count = usize::from(state.records.count);
+        for record in &mut state.records.records[..count] {
+            record.pins = u16::from(self.random.percent(95));
+            record.usage = self.random.below(usize::from(MAX_USAGE) + 1) as u8;
+        }
+        state.records.hand = FrameIndex(self.random.below(count) as u8);
+        state
     }
 
     /// A handle of a pinned page most of the time, or any.
@@ -217,6 +237,12 @@ impl Trial {
     }
 }
 
+/// The pages that a call warmed by looks alone: their pins are as they were.
+fn warmed(before: &Pool, after: &Pool) -> usize {
+    let records = before.records.iter().zip(&after.records);
+    records.filter(|(old, new)| new.pins == old.pins && new.pins > 0 && new.usage > old.usage).count()
+}
+
 /// Puts a word into a slot of the page in a frame.
 fn put_word(state: &mut State, frame: usize, slot: usize, word: u32) {
     let at = PAGE_SIZE * frame + 4 * slot;
@@ -258,4 +284,18 @@ fn turned_frames() {
     }
     println!("{:?}", trial.given);
     assert!(trial.given[&0] > 1000 && trial.given[&2] > 100, "accepted, and records that disagree");
+}
+
+/// Short runs from full frames with most pages pinned, so that sweeps warm many.
+#[test]
+fn held_pages() {
+    let mut trial = Trial::new(4);
+    for count in [4, 16, 64] {
+        for _ in 0..200 {
+            let state = trial.held(Shape::Full.state(count, 256));
+            trial.run(state, 10);
+        }
+    }
+    println!("{:?}, pages warmed {:?}", trial.given, trial.warmed);
+    assert!(trial.warmed_from(2) > 200 && trial.warmed_from(32) > 20, "sweeps that warm pages");
 }

@@ -63,9 +63,14 @@ pub fn root(pool: &mut Pool, frames: &[u8], store: &[u8]) -> Result<Fixed, Refus
     call!(pool_root(*pool, frames.as_ptr, store.as_ptr)).answer(pool)
 }
 
-/// Pins the page that a slot of the handle's page names, and loads it first if it isn't resident. After
-/// [`NoFrame`](Refusal::NoFrame), unfix a page without resident children and fix again, or open with more frames. Refused: 1,
-/// 2, 3, 4, 7; 13 if it is resident, 14 and 15 if not.
+/// Pins the page that a slot of the handle's page names, and loads it first if it isn't resident, into an empty frame or one
+/// that a sweep takes, whose page is evicted. Refused: 1, 2, 3, 4, 7; 13 if it is resident, 14 and 15 if not.
+///
+/// A sweep takes a page that evict would accept: one of least usage, of several the first from the hand on. Pinned pages that
+/// it passes over, the root excepted, gain usage by each look, to 3 at most, so that a page which was held is still warm once
+/// its pins are gone. A fix that makes no sweep leaves the usage of every other page as it was.
+///
+/// After [`NoFrame`](Refusal::NoFrame), unfix a page without resident children and fix again, or open with more frames.
 pub fn fix(
     pool: &mut Pool,
     frames: &mut [u8],

@@ -74,7 +74,9 @@ pub struct FrameRecord {
     pub used: u8,
     /// 1 where the page was changed since it was loaded or settled, otherwise 0.
     pub dirty: u8,
-    /// The usage count of the clock sweep, 0 to 3. Document 01: heat.
+    /// The usage count of the clock sweep, 0 to 3. Up to 3 each pin raises it by one, and so does each look of a sweep that
+    /// passes over the page while it is pinned, unless it is the root; a look at a page that evict would accept lowers it by
+    /// one, and at 0 takes the page. Document 01: heat.
     pub usage: u8,
     /// The slot of the parent's word that names the page. Document 01: parent slot.
     pub slot: u8,

@@ -1,4 +1,4 @@
-/* Tries what the header says of answers, handles, payloads and pointers. Names each claim that fails. */
+/* Tries what the header says of answers, handles, usages, payloads and pointers. Names each claim that fails. */
 #include "pagepool.h"
 
 #include <stdio.h>
@@ -161,6 +161,32 @@ static void no_frame(void)
     claim("an unfix makes room", three.refusal == 0 && three.handle.frame == one.handle.frame && three.looks > 0);
 }
 
+/* A look warms a pinned page, the root excepted, so that it outlives one that came in with the sweep. */
+static void pages_in_use(void)
+{
+    struct pool_fixed one = pool_fix(begin(), LENT, root, 1);
+    struct pool_fixed two = pool_fix(one.pool, LENT, root, 2);
+    const struct pool_record *records = two.pool.records;
+    claim("the first pin gives usage 1", records[0].usage == 1 && records[1].usage == 1 && records[2].usage == 1);
+    struct pool_fixed three = pool_fix(two.pool, LENT, root, 3);
+    claim("a denied load warms nothing", fixed_refused(three, POOL_NO_FRAME, two.pool));
+
+    struct pool pool = pool_unfix(two.pool, LENT, two.handle).pool;
+    three = pool_fix(pool, LENT, root, 3);
+    claim("the page without pins goes", three.handle.frame == two.handle.frame && three.looks == 6);
+    records = three.pool.records;
+    claim("both looks at the pinned one raise it", records[1].usage == POOL_MAX_USAGE);
+    claim("but not the root", records[0].usage == 1 && records[0].pins == 1);
+
+    pool = pool_unfix(three.pool, LENT, one.handle).pool;
+    pool = pool_unfix(pool, LENT, three.handle).pool;
+    two = pool_fix(pool, LENT, root, 2);
+    claim("the page that came in goes first", two.handle.frame == three.handle.frame && two.looks == 6);
+    struct pool_found found = pool_find(two.pool, LENT, 1);
+    claim("the one that was held is still there", found.present && found.frame == one.handle.frame);
+    claim("and is cooler by each look", two.pool.records[1].usage == 1);
+}
+
 /* After 8 an empty slot takes the page, after 9 none does until the word that names it is unlinked. */
 static void taken_slots(void)
 {
@@ -243,6 +269,7 @@ int main(void)
     refused_answers();
     handles();
     no_frame();
+    pages_in_use();
     taken_slots();
     staying_pages();
     payloads();

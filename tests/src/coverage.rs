@@ -1,8 +1,10 @@
-//! How often each call met each answer, a link into a taken slot each namer of its page, and an evict each reason to stay.
+//! How often each call met each answer, a link into a taken slot each namer of its page, an evict each reason to stay, and a fix
+//! what it can do to usages.
 use crate::calls::{Answer, Call, NAMES};
 use crate::model::stays::Stay;
 use crate::model::taken::Namer;
-use std::collections::BTreeMap;
+use crate::model::warmth::Warmth;
+use std::collections::{BTreeMap, BTreeSet};
 use std::fmt;
 use words::rules::Table;
 
@@ -14,6 +16,7 @@ pub struct Coverage {
     counts: BTreeMap<Pair, u64>,
     namers: BTreeMap<Namer, u64>,
     stays: BTreeMap<Stay, u64>,
+    warmths: BTreeMap<Warmth, u64>,
     sweeps: u64,
     most_looks: u16,
 }
@@ -41,6 +44,13 @@ impl Coverage {
         }
     }
 
+    /// Counts a fix: what it did to usages.
+    pub fn count_warmths(&mut self, warmths: BTreeSet<Warmth>) {
+        for warmth in warmths {
+            *self.warmths.entry(warmth).or_default() += 1;
+        }
+    }
+
     pub fn calls(&self) -> u64 {
         self.counts.values().sum()
     }
@@ -59,6 +69,11 @@ impl Coverage {
     /// The reasons to stay that no evict met.
     pub fn missing_stays(&self) -> Vec<Stay> {
         Stay::ALL.into_iter().filter(|stay| !self.stays.contains_key(stay)).collect()
+    }
+
+    /// What no fix did to usages.
+    pub fn missing_warmths(&self) -> Vec<Warmth> {
+        Warmth::ALL.into_iter().filter(|warmth| !self.warmths.contains_key(warmth)).collect()
     }
 
     /// The pairs that occurred and are not in the table.
@@ -85,6 +100,10 @@ impl fmt::Display for Coverage {
         write!(f, "\nevicts of a page that stays:")?;
         for (stay, count) in &self.stays {
             write!(f, " {stay:?}:{count}")?;
+        }
+        write!(f, "\nfixes, by what they did to usages:")?;
+        for (warmth, count) in &self.warmths {
+            write!(f, " {warmth:?}:{count}")?;
         }
         writeln!(f, "\n{} calls, {} pairs of call and answer", self.calls(), self.counts.len())?;
         write!(f, "{} sweeps took a frame, in up to {} looks", self.sweeps, self.most_looks)

@@ -2,7 +2,7 @@
 use crate::calls::{Answer, Call};
 use crate::coverage::Coverage;
 use crate::ensure;
-use crate::model::{stays, taken, Model};
+use crate::model::{stays, taken, warmth, Model};
 use crate::pool::Machine;
 use crate::records::{PageNumber, State};
 
@@ -24,7 +24,8 @@ fn compare(
 }
 
 /// All must answer and leave the same, and a refused call must leave all as found. Link must answer as document 01's order does
-/// but where request A.9 changes it, and evict be refused by the reason for which the page stays.
+/// but where request A.9 changes it, evict be refused by the reason for which the page stays, and fix take the frame that
+/// document 01's sweep takes and leave the usages that request A.5 asks for.
 pub fn step(
     machine: &impl Machine,
     state: &mut State,
@@ -42,14 +43,22 @@ pub fn step(
         return Err(format!("{call:?}, {answer:?}, changes something"));
     }
     coverage.count(call, &answer);
-    requests(&before, call, &answer, coverage).map_err(|fault| format!("{call:?}: {fault}"))?;
+    requests((&before, state), call, &answer, coverage).map_err(|fault| format!("{call:?}: {fault}"))?;
     Ok(answer)
 }
 
-/// What the requests say of an answer.
-fn requests(before: &State, call: &Call, answer: &Answer, coverage: &mut Coverage) -> Result<(), String> {
+/// What the requests say of an answer, and of the state before the call and after it.
+fn requests(
+    (before, after): (&State, &State),
+    call: &Call,
+    answer: &Answer,
+    coverage: &mut Coverage,
+) -> Result<(), String> {
     let number = answer.number();
     match call {
+        Call::Fix(handle, slot) => {
+            coverage.count_warmths(warmth::compare(before, after, (*handle, *slot), answer)?);
+        }
         Call::Link(handle, slot, page) => {
             coverage.count_namer(taken::compare(before, *handle, *slot, PageNumber(*page), number)?);
         }

@@ -4,6 +4,7 @@ mod moves;
 mod rules;
 pub mod stays;
 pub mod taken;
+pub mod warmth;
 
 use crate::pool::{Buffer, Fixed, Machine, Place, Refusal};
 use crate::records::{

@@ -9,13 +9,17 @@ use crate::records::{
 /// How often each call is made, by `Call::index`.
 type Weights = [usize; 13];
 
-/// Pools fill, empty, or turn over. Open stands apart, since it begins anew.
-const MOODS: [Weights; 4] = [
+/// Pools fill, empty, turn over, or hold their pages. Open stands apart, since it begins anew.
+const MOODS: [Weights; 5] = [
     [0, 8, 60, 12, 6, 6, 8, 16, 24, 6, 6, 4, 6],
     [0, 2, 16, 60, 6, 6, 8, 12, 8, 10, 30, 6, 6],
     [0, 6, 60, 56, 6, 6, 8, 20, 16, 10, 4, 2, 6],
     [0, 10, 20, 20, 10, 10, 10, 20, 20, 20, 20, 10, 10],
+    HOLDING,
 ];
+
+/// Pages stay pinned over many sweeps: but for a few stray ones, a pin is taken off only where the next load would be denied.
+const HOLDING: Weights = [0, 0, 60, 1, 4, 4, 4, 8, 24, 8, 2, 2, 4];
 
 pub struct Steer {
     weights: Weights,
@@ -23,9 +27,9 @@ pub struct Steer {
 }
 
 impl Steer {
-    /// Begins with filling the frames.
-    pub fn new(state: &State) -> Steer {
-        Steer { weights: MOODS[0], left: 8 * state.frame_count() }
+    /// Begins with filling the frames, as often as not to hold their pages.
+    pub fn new(random: &mut Random, state: &State) -> Steer {
+        Steer { weights: random.pick(&[MOODS[0], HOLDING]), left: 8 * state.frame_count() }
     }
 
     /// The next call of a list.
@@ -40,6 +44,11 @@ impl Steer {
         }
         if random.percent(50) && state.occupied().all(|(_, record)| record.pins == 0) {
             return Call::Root;
+        }
+        if self.weights == HOLDING && random.percent(80) {
+            if let Some(handle) = denied_for(random, state) {
+                return Call::Unfix(handle);
+            }
         }
         let index = self.weighted(random);
         call(random, state, index)
@@ -218,13 +227,28 @@ fn page(random: &mut Random, state: &State) -> u16 {
     }
 }
 
+/// A page other than the root, with no resident child.
+fn is_leaf(state: &State, frame: FrameIndex) -> bool {
+    frame != FrameIndex(0) && state.words(frame).all(|word| word < SWIZZLE_BIT)
+}
+
+/// One of the pages because of whose pins a load would be denied.
+fn denied_for(random: &mut Random, state: &State) -> Option<Handle> {
+    if state.occupied().count() < state.frame_count() {
+        return None;
+    }
+    let leaves: Vec<_> = state.occupied().filter(|(frame, _)| is_leaf(state, *frame)).collect();
+    if leaves.iter().any(|(_, record)| record.pins == 0) {
+        return None;
+    }
+    random.choose(leaves).map(|(frame, record)| Handle { frame, page: record.page })
+}
+
 /// A page that can be evicted, as often as not, a resident one that can't, or any.
 fn evict_page(random: &mut Random, state: &State) -> u16 {
-    let open = |frame: FrameIndex, record: &FrameRecord| {
-        frame != FrameIndex(0) && record.pins == 0 && state.words(frame).all(|word| word < SWIZZLE_BIT)
-    };
     let wanted = random.percent(65);
-    let pages = state.occupied().filter(|(frame, record)| open(*frame, record) == wanted);
+    let open = |(frame, record): &(FrameIndex, &FrameRecord)| record.pins == 0 && is_leaf(state, *frame);
+    let pages = state.occupied().filter(|page| open(page) == wanted);
     match random.choose(pages.map(|(_, record)| record.page.0)) {
         Some(page) if random.percent(80) => page,
         _ => page(random, state),

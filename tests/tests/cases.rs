@@ -1,4 +1,4 @@
-//! Document 01's bench cases, executed.
+//! Document 01's bench cases, executed, and what request A.5 makes of its sweep.
 use pool_tests::calls::{Answer, Call};
 use pool_tests::coverage::Coverage;
 use pool_tests::history::History;
@@ -144,7 +144,21 @@ fn a_sweep_from_hand_3() {
 fn a_sweep_of_16_looks() {
     let (trial, fixed) = sweep(0, [0, 0, 3], &[1, 2]);
     assert_eq!(fixed, Fixed { handle: handle(3, 8), looks: 16 });
-    assert_eq!(left(&trial), (0, [0, 0, 1]));
+    assert_eq!(left(&trial), (0, [3, 3, 1]));
+}
+
+/// A.5: sweeps past pinned pages that end within a round, so that not all are looked at equally often.
+#[test]
+fn sweeps_that_end_within_a_round() {
+    let swept = |hand, usages, pinned: &[u8]| {
+        let (trial, fixed) = sweep(hand, usages, pinned);
+        (fixed.handle.frame.0, fixed.looks, left(&trial))
+    };
+    assert_eq!(swept(2, [0, 0, 0], &[1, 2]), (3, 2, (0, [0, 1, 1])));
+    assert_eq!(swept(2, [0, 0, 1], &[1, 2]), (3, 6, (0, [1, 2, 1])));
+    assert_eq!(swept(2, [0, 0, 2], &[1, 2]), (3, 10, (0, [2, 3, 1])));
+    assert_eq!(swept(3, [1, 0, 2], &[2]), (1, 7, (2, [1, 1, 0])));
+    assert_eq!(swept(1, [2, 3, 3], &[1, 2]), (3, 15, (0, [3, 3, 1])));
 }
 
 #[test]

@@ -124,7 +124,7 @@ fn a_page_that_stays_goes_as_told() {
     for number in 0..200 {
         let mut random = Random::new(number);
         let mut listed = Listed::open();
-        let mut steer = Steer::new(&listed.trial.state);
+        let mut steer = Steer::new(&mut random, &listed.trial.state);
         for _ in 0..400 {
             let state = &listed.trial.state;
             let call = if random.percent(40) {

@@ -36,9 +36,13 @@ fn say(text: String) {
 }
 
 /// Runs a test's lists, each with a generator of its own, and shows how often each call met each answer.
-/// Every call must have met those of the wanted ones that it can give; where 9 is wanted, a link into a taken slot every namer of
-/// its page, and where 22 is, an evict every reason to stay.
-fn run(name: &str, lists: u64, wanted: &[u8], list: impl Fn(&mut Random, &mut Coverage) -> Outcome) {
+/// Every call must have met those of the wanted ones that it can give.
+fn run(
+    name: &str,
+    lists: u64,
+    wanted: &[u8],
+    list: impl Fn(&mut Random, &mut Coverage) -> Outcome,
+) -> Coverage {
     let seed = setting("POOL_SEED", 1);
     let mut coverage = Coverage::default();
     let lists = lists * setting("POOL_SOAK", 1);
@@ -57,12 +61,15 @@ fn run(name: &str, lists: u64, wanted: &[u8], list: impl Fn(&mut Random, &mut Co
     let table = Table::standing();
     assert_eq!(coverage.missing(&table, wanted), [], "pairs that did not occur");
     assert_eq!(coverage.impossible(&table), [], "pairs that cannot occur");
-    if wanted.contains(&9) {
-        assert_eq!(coverage.missing_namers(), [], "namers that no link into a taken slot met");
-    }
-    if wanted.contains(&22) {
-        assert_eq!(coverage.missing_stays(), [], "reasons to stay that no evict met");
-    }
+    coverage
+}
+
+/// A link into a taken slot must have met every namer of its page, an evict every reason to stay, and a fix have done everything
+/// that it can do to usages.
+fn met_every_case(coverage: &Coverage) {
+    assert_eq!(coverage.missing_namers(), [], "namers that no link into a taken slot met");
+    assert_eq!(coverage.missing_stays(), [], "reasons to stay that no evict met");
+    assert_eq!(coverage.missing_warmths(), [], "what no fix did to usages");
 }
 
 /// F and N, most of them small, so that frames are few and words meet.
@@ -94,7 +101,7 @@ fn go_on(
     every: usize,
     coverage: &mut Coverage,
 ) -> Outcome {
-    let mut steer = Steer::new(&history.state);
+    let mut steer = Steer::new(random, &history.state);
     for number in 0..calls {
         if number % every == 0 {
             history.check().map_err(|fault| format!("before call {number}: {fault}"))?;
@@ -108,7 +115,7 @@ fn go_on(
 /// Demand 3: along unaltered lists, all is as the plain map says.
 #[test]
 fn unaltered_lists() {
-    run("unaltered lists", 500, &all_but(&RARE), |random, coverage| {
+    let coverage = run("unaltered lists", 500, &all_but(&RARE), |random, coverage| {
         let (frames, pages) = sizes(random);
         let every = match frames * pages {
             0..=32 => 1,
@@ -118,6 +125,7 @@ fn unaltered_lists() {
         let mut history = begin(random, (frames, pages), coverage)?;
         go_on(random, &mut history, 1000, every, coverage)
     });
+    met_every_case(&coverage);
 }
 
 /// Every call on a copy of a state, each with arguments of its own.
@@ -140,7 +148,7 @@ fn damaged_states(random: &mut Random, state: &State, times: usize, coverage: &m
 
 /// A list that goes on after an alteration: here the model alone says what holds.
 fn altered_list(random: &mut Random, mut state: State, calls: usize, coverage: &mut Coverage) -> Outcome {
-    let mut steer = Steer::new(&state);
+    let mut steer = Steer::new(random, &state);
     for number in 0..calls {
         if number % 10 == 0 {
             alter(random, &mut state);
@@ -155,7 +163,7 @@ fn altered_list(random: &mut Random, mut state: State, calls: usize, coverage: &
 /// Demands 1 and 2: refused by the first broken rule with all as found, accepted as the model.
 #[test]
 fn altered_states() {
-    run("altered states", 1000, &all_but(&[]), |random, coverage| {
+    let coverage = run("altered states", 1000, &all_but(&[]), |random, coverage| {
         let sizes = sizes(random);
         let mut history = begin(random, sizes, coverage)?;
         let calls = random.between(10, 150);
@@ -165,6 +173,7 @@ fn altered_states() {
         }
         damaged_states(random, &history.state, 110, coverage)
     });
+    met_every_case(&coverage);
 }
 
 #[test]

@@ -465,6 +465,132 @@ fn the_sweep_takes_what_evict_takes() {
     trial.accept(Call::Evict(7));
 }
 
+/// The usage of each frame.
+fn usages(trial: &Trial) -> Vec<u8> {
+    trial.state.pool.records[..trial.state.frame_count()].iter().map(|record| record.usage).collect()
+}
+
+/// Pages 5, 7 and 8 below the root, in frames 1, 3 and 4, and page 6 below page 5, in frame 2, each of usage 1. All but page 8
+/// are pinned: a load takes its frame in the second round. Page 9 is below page 5, page 10 below the root.
+fn one_open() -> (Trial, [Handle; 4]) {
+    let links = [(0, 1, 5), (5, 0, 6), (5, 1, 9), (0, 2, 7), (0, 3, 8), (0, 4, 10)];
+    let mut trial = Trial::open(5, 16, &links);
+    let root = trial.root();
+    let five = trial.fix(root, 1);
+    let [six, seven, eight] = [(five, 0), (root, 2), (root, 3)].map(|(page, slot)| trial.fix(page, slot));
+    trial.accept(Call::Unfix(eight));
+    (trial, [root, five, six, seven])
+}
+
+/// The looks of a fix that must load.
+fn looks(trial: &mut Trial, page: Handle, slot: usize) -> u16 {
+    match trial.call(Call::Fix(page, slot)) {
+        Answer::Fixed(fixed) => fixed.looks,
+        other => panic!("{other:?}"),
+    }
+}
+
+/// A.5, "Pages passed over for children alone keep their heat": with children and pinned, a page warms.
+#[test]
+fn a_pinned_parent_warms_and_a_parent_alone_does_not() {
+    let (mut trial, [root, five, ..]) = one_open();
+    let mut alone = trial.clone();
+    assert_eq!(looks(&mut trial, root, 4), 10);
+    assert_eq!(usages(&trial), [1, 3, 3, 3, 1]);
+    alone.accept(Call::Unfix(five));
+    assert_eq!(looks(&mut alone, root, 4), 10);
+    assert_eq!(usages(&alone), [1, 1, 3, 3, 1]);
+}
+
+/// A.5, "Each look .. raises its heat by one, to 3 at most": not once for a sweep, and no further.
+#[test]
+fn each_look_warms_a_pinned_page() {
+    for (usage, looked, left) in [(0, 5, 1), (1, 10, 2), (2, 15, 3), (3, 20, 3)] {
+        let (mut trial, [root, ..]) = one_open();
+        trial.record(3).usage = 0;
+        trial.record(4).usage = usage;
+        assert_eq!(looks(&mut trial, root, 4), looked);
+        assert_eq!(usages(&trial)[3], left, "{looked} looks");
+    }
+}
+
+/// A.5: the page whose child is loaded is pinned, and warms as any other.
+#[test]
+fn the_page_whose_child_comes_in_warms() {
+    let (mut trial, [_, five, six, seven]) = one_open();
+    for handle in [six, seven] {
+        trial.accept(Call::Unfix(handle));
+    }
+    assert_eq!(looks(&mut trial, five, 1), 8);
+    assert_eq!(usages(&trial), [1, 3, 1, 0, 0]);
+}
+
+/// A.5, "a pinned page other than the root".
+#[test]
+fn no_look_warms_the_root() {
+    for (usage, pins) in [(0, 0), (0, 1), (2, 0), (2, 2)] {
+        let (mut trial, [_, five, ..]) = one_open();
+        (trial.record(0).usage, trial.record(0).pins) = (usage, pins);
+        assert_eq!(looks(&mut trial, five, 1), 10);
+        assert_eq!(usages(&trial), [usage, 3, 3, 3, 1]);
+    }
+}
+
+/// A.5: a fix of a resident page and a load into an empty frame make no look, and a denied load changes nothing: none of them
+/// warms another page.
+#[test]
+fn without_a_sweep_nothing_warms() {
+    let (mut trial, [root, five, ..]) = one_open();
+    trial.fix(five, 0);
+    assert_eq!(usages(&trial), [1, 1, 2, 1, 1]);
+    let eight = trial.fix(root, 3);
+    assert_eq!(usages(&trial), [1, 1, 2, 1, 2]);
+    for call in [Call::Fix(root, 4), Call::Fix(five, 1)] {
+        assert_eq!(trial.number(call), 15);
+    }
+    assert_eq!(usages(&trial), [1, 1, 2, 1, 2]);
+    trial.accept(Call::Unfix(eight));
+    trial.accept(Call::Evict(8));
+    assert_eq!(looks(&mut trial, root, 4), 0);
+    assert_eq!(usages(&trial), [1, 1, 2, 1, 1]);
+}
+
+/// A.5: whatever usages pinned pages have, a sweep takes the same frame by the same looks, 4 × F at most.
+#[test]
+fn usages_of_pinned_pages_decide_nothing() {
+    for warm in 0..=3 {
+        let (mut trial, [root, ..]) = one_open();
+        for frame in 0..4 {
+            trial.record(frame).usage = warm;
+        }
+        trial.record(4).usage = 3;
+        let fixed = Answer::Fixed(Fixed { handle: handle(4, 10), looks: 20 });
+        assert_eq!(trial.call(Call::Fix(root, 4)), fixed);
+        assert_eq!((usages(&trial), trial.state.pool.hand), (vec![warm, 3, 3, 3, 1], FrameIndex(0)));
+    }
+}
+
+/// A.5, "it goes cold on release": a page that was held over a sweep outlives one that came in with it. By document 01's sweep it
+/// would go first.
+#[test]
+fn a_page_that_was_held_outlives_one_that_was_not() {
+    let mut trial = Trial::open(3, 8, &[(0, 0, 1), (0, 1, 2), (0, 2, 3)]);
+    let root = trial.root();
+    let held = trial.fix(root, 0);
+    let other = trial.fix(root, 1);
+    trial.accept(Call::Unfix(other));
+    let three = trial.fix(root, 2);
+    assert_eq!(usages(&trial), [1, 3, 1]);
+    for handle in [held, three] {
+        trial.accept(Call::Unfix(handle));
+    }
+    let mut formerly = trial.clone();
+    assert_eq!(trial.fix(root, 1).frame, three.frame);
+    assert_eq!(trial.call(Call::Find(1)), Answer::Frame(Some(held.frame.0)));
+    formerly.record(held.frame.0).usage = 1;
+    assert_eq!(formerly.fix(root, 1).frame, held.frame);
+}
+
 /// Rule 14 on each of its grounds.
 #[test]
 fn a_stored_page_that_may_not_come_in() {

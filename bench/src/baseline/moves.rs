@@ -91,17 +91,20 @@ fn first_empty(pool: &Pool) -> FrameIndex {
 }
 
 /// The clock sweep, worked out and not walked: the open frame of least usage that comes first from the hand on is taken, after
-/// as many whole rounds as that usage. Gives it with the looks.
+/// as many whole rounds as that usage. Each look takes one off the usage of an open frame, and adds one to that of a pinned one,
+/// the root's excepted. Gives the frame that is taken, with the looks.
 fn sweep(pool: &mut Pool) -> Option<(FrameIndex, u16)> {
     let (count, hand) = (usize::from(pool.count), usize::from(pool.hand));
-    let open = open_frames(records(pool));
+    let Looked { open, warmed } = looked(records(pool));
     let rounds = (0..=MAX_USAGE).find(|usage| open[usize::from(*usage)] != 0)?;
     let victim = first_from(hand, open[usize::from(rounds)]);
     let any = open.iter().fold(0, |any, mask| any | mask);
     if rounds > 0 {
         lose_usage(pool, any, rounds);
     }
-    lose_usage(pool, any & passed(hand, victim), 1);
+    let passed = passed(hand, victim);
+    lose_usage(pool, any & passed, 1);
+    gain_usage(pool, warmed, rounds, passed);
     pool.hand = FrameIndex(if victim + 1 < count { victim as u8 + 1 } else { 0 });
     let distance = if victim < hand { victim + count - hand } else { victim - hand };
     Some((FrameIndex(victim as u8), u16::from(rounds) * pool.count + distance as u16 + 1))
@@ -111,6 +114,18 @@ fn sweep(pool: &mut Pool) -> Option<(FrameIndex, u16)> {
 fn lose_usage(pool: &mut Pool, mut mask: u64, lost: u8) {
     while mask != 0 {
         pool.records[mask.trailing_zeros() as usize].usage -= lost;
+        mask &= mask - 1;
+    }
+}
+
+/// Adds to the usage of the frames of a mask one for each whole round, and one for those that are passed after, up to the
+/// largest.
+fn gain_usage(pool: &mut Pool, frames: u64, rounds: u8, passed: u64) {
+    let mut mask = if rounds > 0 { frames } else { frames & passed };
+    while mask != 0 {
+        let frame = mask.trailing_zeros() as usize;
+        let usage = &mut pool.records[frame].usage;
+        *usage = MAX_USAGE.min(*usage + rounds + (passed >> frame & 1) as u8);
         mask &= mask - 1;
     }
 }
@@ -132,14 +147,26 @@ fn first_from(hand: usize, mask: u64) -> usize {
     from.trailing_zeros() as usize
 }
 
-/// The frames open to eviction, as a mask for each usage: not the root's, not pinned, with no swizzled word. None is empty.
-fn open_frames(records: &[FrameRecord]) -> [u64; MAX_USAGE as usize + 1] {
-    let (mut closed, mut low, mut high) = (1, 0, 0);
+/// The frames of which a look changes something, as masks.
+struct Looked {
+    /// Those open to eviction, for each usage: not the root's, not pinned, with no swizzled word.
+    open: [u64; MAX_USAGE as usize + 1],
+    /// Those that are pinned, the root's excepted, and below the largest usage.
+    warmed: u64,
+}
+
+/// Those frames, where none is empty.
+fn looked(records: &[FrameRecord]) -> Looked {
+    const ROOT: u64 = 1;
+    let (mut pinned, mut low, mut high) = (0, 0, 0);
     for (frame, record) in records.iter().enumerate() {
-        closed |= u64::from(record.pins != 0) << frame;
+        pinned |= u64::from(record.pins != 0) << frame;
         low |= u64::from(record.usage & 1) << frame;
         high |= u64::from(record.usage >> 1) << frame;
     }
-    let open = !(closed | parents(records)) & u64::MAX >> (64 - records.len());
-    [open & !low & !high, open & low & !high, open & !low & high, open & low & high]
+    let open = !(ROOT | pinned | parents(records)) & u64::MAX >> (64 - records.len());
+    Looked {
+        open: [open & !low & !high, open & low & !high, open & !low & high, open & low & high],
+        warmed: pinned & !ROOT & !(low & high),
+    }
 }

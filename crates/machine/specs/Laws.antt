@@ -15,4 +15,5 @@ pub mod Outcomes
 pub mod ResidentWords
 pub mod LinkOrder
 pub mod EvictReasons
+pub mod WarmPages
 pub mod ByName

@@ -64,7 +64,7 @@ withUsage r u = record { used = r .used; dirty = r .dirty; usage = u; slot = r .
 abbrev pub cooled : FrameRecord → FrameRecord
 cooled r = withUsage r (r .usage - 1)
 
--- one usage (heat) more, to 3 at most
+-- one usage (heat) more: "by one, to 3 at most"
 abbrev pub warmed : FrameRecord → FrameRecord
 warmed r = withUsage r (min maxUsage (r .usage + 1))
 

@@ -53,7 +53,7 @@ evictable Evictable = true
 abbrev pub isOpen : FrameRecord → List ℕ → ℕ → Bool
 isOpen r fs f = evictable (standing r fs f)
 
--- the classes of a look: it leaves the frame as it is, it warms it (none as yet), or the frame is open to eviction
+-- the classes of a look: it leaves the frame as it is, it warms it, or the frame is open to eviction
 pub data Class : Type 0 where
   rest : Class
   warm : Class
@@ -68,17 +68,17 @@ yields yield = true
 abbrev pub Kind : Type 0
 Kind = FrameRecord → ℕ → Class
 
--- document 01's: by where the page stands
+-- by where the page stands. Request A.5: "Each look of a sweep that passes over a pinned page other than the root raises its heat"; "Pages passed over for children alone keep their heat."
 abbrev pub classOf : Standing → Class
 classOf Root = rest
-classOf Pinned = rest
+classOf Pinned = warm
 classOf Parent = rest
 classOf Evictable = yield
 
 abbrev pub kind : List ℕ → Kind
 kind fs r f = classOf (standing r fs f)
 
--- what a look leaves of the record: "Any other with heat above 0 loses 1."
+-- what a look leaves of the record: "Any other with heat above 0 loses 1."; request A.5: "raises its heat by one, to 3 at most"
 unfoldable pub lookLeaves : FrameRecord → Class → FrameRecord
 lookLeaves r rest = r
 lookLeaves r warm = warmed r

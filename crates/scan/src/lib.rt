@@ -91,7 +91,7 @@ pub fn sight(rec: FrameRecord, frames: &[u8], frame: FrameIndex) -> u8
     let reason = standing::of(rec, frames, frame);
     match reason {
         Standing::Root => REST + rec.usage,
-        Standing::Pinned => REST + rec.usage,
+        Standing::Pinned => WARM + rec.usage,
         Standing::Parent => REST + rec.usage,
         Standing::Evictable => rec.usage,
     }

@@ -2,7 +2,7 @@
 use super::{has_swizzled, occupied, swizzled_to, unswizzled};
 use crate::pool::Refusal;
 use crate::records::{
-    page_of, page_of_mut, put_word, word_in, FrameIndex, FrameRecord, PageNumber, State, SLOTS,
+    page_of, page_of_mut, put_word, word_in, FrameIndex, FrameRecord, PageNumber, State, MAX_USAGE, SLOTS,
 };
 
 /// "The image of a resident page is its bytes with each swizzled word replaced by the number of the page
@@ -61,20 +61,25 @@ fn first_empty(state: &State) -> Option<FrameIndex> {
     from_hand.find(|frame| !occupied(&state.pool).any(|other| other == *frame))
 }
 
+/// "The root, a pinned page and a page with a swizzled word are passed over. Any other with heat above 0 loses 1. One with heat
+/// 0 is evicted and its frame used." Request A.5: "Each look of a sweep that passes over a pinned page other than the root raises
+/// its heat by one, to 3 at most. Pages passed over for children alone keep their heat."
 fn sweep(state: &mut State) -> Result<(FrameIndex, u16), Refusal> {
     let mut pool = state.pool;
     for looks in 1..=4 * pool.count {
         let frame = pool.hand;
         pool.hand = FrameIndex(((u16::from(frame.0) + 1) % pool.count) as u8);
-        if !evictable(state, frame) {
-            continue;
+        let record = pool.record_mut(frame);
+        if evictable(state, frame) {
+            if record.usage == 0 {
+                state.pool = pool;
+                evict(state, frame);
+                return Ok((frame, looks));
+            }
+            record.usage -= 1;
+        } else if frame != FrameIndex(0) && record.pins > 0 {
+            record.usage = MAX_USAGE.min(record.usage + 1);
         }
-        if pool.record(frame).usage == 0 {
-            state.pool = pool;
-            evict(state, frame);
-            return Ok((frame, looks));
-        }
-        pool.record_mut(frame).usage -= 1;
     }
     Err(15)
 }

@@ -61,8 +61,8 @@ fn resident(state: &State, page: PageNumber) -> Result<FrameIndex, Refusal> {
     frame_of(&state.pool, page).ok_or(11)
 }
 
-/// By the records alone: a frame is a parent where another's record says so.
-fn stay(state: &State, frame: FrameIndex) -> Option<Stay> {
+/// Why the page in a frame stays, by the records alone: it is a parent where another's record says so.
+pub fn stay(state: &State, frame: FrameIndex) -> Option<Stay> {
     let root = FrameIndex(0);
     let mut children = occupied(&state.pool).filter(|child| *child != root);
     let parent = children.any(|child| state.pool.record(child).parent == frame);

@@ -128,6 +128,10 @@ module _ (s : State) (rules : List Rule) (a : Out) where
   pub broken-by : accepted (a .answer) ≡ true → (n : ℕ) → decide s rules a .answer ≡ refused n → firstBroken rules ≡ n
   broken-by = broken-of s rules a _ (outcome s rules rules a refl)
 
+  -- where it is refused it leaves all as it was
+  pub refused-leaves : accepted (a .answer) ≡ true → (n : ℕ) → decide s rules a .answer ≡ refused n → decide s rules a .left ≡ s
+  refused-leaves t n e = elim (outcome s rules rules a refl) [ kept k q ↦ absurd (no-refusal a _ n q t e) | broken m z k q ↦ leaves-as q ]
+
   -- rules that lack a number don't answer it
   pub never-by : accepted (a .answer) ≡ true → (n : ℕ) → n ≢ 0 → lacks n rules ≡ true → decide s rules a .answer ≢ refused n
   never-by t n z l e = lacking n rules l z (broken-by t n e)

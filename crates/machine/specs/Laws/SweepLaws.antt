@@ -23,6 +23,7 @@ use Rattle.machine.specs.Machine.{State, withPool, blank, isUsed, record
 use Rattle.machine.specs.Laws.AgreementFacts.{InRange}
 use Rattle.machine.specs.Sweep.{Class, rest, warm, yield, yields, Kind, classOf, kind, Swept, after, emptyFrom, firstEmpty, standing, evictable, isOpen, lookLeaves, lookTakes, sweepFrom, mostLooks, sweep, withSwept}
 use Rattle.machine.specs.Rules.{rule15}
+use Rattle.machine.specs.Laws.Standings.{rootStands, pinnedStands, parentStands, openStands, stands}
 use Rattle.machine.specs.Laws.Ready.{Ready}
 
 -- ---- going round
@@ -191,18 +192,20 @@ open-kind fs r f = by-standing (standing r fs f)
     by-standing Evictable e = e
 
 -- where a page stands goes by the pins and the words
-standing-same : (r q : FrameRecord) (fs : List ℕ) (f : ℕ) → q .pins ≡ r .pins → standing q fs f ≡ standing r fs f
+pub standing-same : (r q : FrameRecord) (fs : List ℕ) (f : ℕ) → q .pins ≡ r .pins → standing q fs f ≡ standing r fs f
 unfolding standing
 standing-same r q fs f e = rw e
 
 pub kind-usage-blind : (fs : List ℕ) → UsageBlind (kind fs)
-kind-usage-blind fs = record { same = λ r q f c. ap classOf (standing-same r q fs f (c .pins)); pinned = λ r f e. absurd (none (standing r fs f) e) }
+kind-usage-blind fs = record { same = λ r q f c. ap classOf (standing-same r q fs f (c .pins)); pinned = warmed-pinned }
   where
-    none : (a : Standing) → classOf a ≡ warm → ⊥
-    none Root e = rest-not-warm e
-    none Pinned e = rest-not-warm e
-    none Parent e = rest-not-warm e
-    none Evictable e = yield-not-warm e
+    warmed-pinned : (r : FrameRecord) (f : ℕ) → kind fs r f ≡ warm → r .pins ≢ 0
+    warmed-pinned r f w = elim (stands r fs f) [
+      | rootStands e a ↦ absurd (rest-not-warm (sym (ap classOf e) ∙ w))
+      | pinnedStands e a b ↦ b
+      | parentStands e a b c ↦ absurd (rest-not-warm (sym (ap classOf e) ∙ w))
+      | openStands e a b c ↦ absurd (yield-not-warm (sym (ap classOf e) ∙ w))
+    ]
 
 -- ---- how many looks
 

@@ -17,7 +17,7 @@ four rootWords words one three =
 
 pub loadTable : List Case
 loadTable =
-    -- "With an empty frame, loading uses the first empty one at or after the hand, going round, and the hand stays." "The page is loaded with pins 1, heat 1, clean, its parent recorded and the parent's word swizzled."
+    -- "With an empty frame, loading uses the first empty one at or after the hand, going round, and the hand stays." "The page is loaded with pins 1, heat 1, clean, its parent recorded and the parent's word swizzled." No look, so no warming: page 2 is pinned, and keeps 0.
     leaves (fixCall (four (names 1 ∷ swizzledTo 2 ∷ []) [] (empty, page (swizzledTo 3 ∷ []) 61) (empty, page [] 63)) (handleOf 0 0) 0) (handle 3 1 0)
     (four (swizzledTo 3 ∷ swizzledTo 2 ∷ []) [] (empty, page (swizzledTo 3 ∷ []) 61) (resident 1 1 1, page (names 3 ∷ []) 21))
     -- going round; the parent is page 2, by its slot 1

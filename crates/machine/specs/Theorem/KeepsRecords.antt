@@ -20,7 +20,7 @@ use Rattle.machine.specs.Theorem.KeepEffect.{Steady, KeptView, kept-shap
 use Rattle.machine.specs.Theorem.PinsEffect.{pins-kept, pins-pinned, pins-unpinned}
 use Rattle.machine.specs.Theorem.RecordChange.{SamePlace, change-here, change-other, change-same, change-steady, neat-change, neat-place, record-lt}
 
--- a record that a sweep cooled is as neat: an empty frame's stays blank
+-- a record as a sweep leaves it is as neat: an empty frame's stays blank
 cooler-neat : (f : ℕ) (r q : FrameRecord) → Cooler r q → NeatRecord f r → NeatRecord f q
 cooler-neat f r q c n = record {
   used = rw (c .used) (n .used);
