@@ -102,9 +102,9 @@ static void find_page(pool_page_number page)
     struct pool_found found = pool_find(pool, frames, sizeof frames, store, sizeof store, page);
     accept(found.refusal);
     if (found.present)
-        printf("find page %d: frame %d\n", page, found.frame);
+        printf("find page %d: frame %d, %d looks\n", page, found.frame, found.looks);
     else
-        printf("find page %d: absent\n", page);
+        printf("find page %d: absent, %d looks\n", page, found.looks);
 }
 
 /* Prints the text at the start of a payload, read in place. */

@@ -1,6 +1,6 @@
 //! A pool of 4 frames over a store of 16 empty pages: links and fixes a few pages, writes, reads back, settles, and reads the
 //! store again through a new pool. Prints what it did, as demo.c does.
-use pagepool::{Handle, PageNumber, PagePool, Refusal, PAGE_SIZE};
+use pagepool::{Found, Handle, PageNumber, PagePool, Refusal, PAGE_SIZE};
 
 /// The pool with its buffers. Each method makes a call and prints it.
 struct Demo(PagePool<[u8; 4 * PAGE_SIZE], [u8; 16 * PAGE_SIZE]>);
@@ -71,9 +71,10 @@ impl Demo {
     }
 
     fn find(&self, page: PageNumber) -> Result<(), Refusal> {
-        match self.0.find(page)? {
-            Some(frame) => println!("find page {page}: frame {frame}"),
-            None => println!("find page {page}: absent"),
+        let Found { frame, looks } = self.0.find(page)?;
+        match frame {
+            Some(frame) => println!("find page {page}: frame {frame}, {looks} looks"),
+            None => println!("find page {page}: absent, {looks} looks"),
         }
         Ok(())
     }

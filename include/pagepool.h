@@ -46,8 +46,8 @@ extern "C" {
  * Raised by each change of a signature, a struct or an answer: MINOR where programs that were written and compiled for the
  * version before go on working with the new archive, otherwise MAJOR.
  */
-#define PAGEPOOL_VERSION_MAJOR 2
-#define PAGEPOOL_VERSION_MINOR 1
+#define PAGEPOOL_VERSION_MAJOR 3
+#define PAGEPOOL_VERSION_MINOR 0
 #define PAGEPOOL_VERSION (1000 * PAGEPOOL_VERSION_MAJOR + PAGEPOOL_VERSION_MINOR)
 
 /* ---- figures */
@@ -168,11 +168,15 @@ struct pool_named {
     pool_page_number page;
 };
 
-/* Whether a page is resident, and its frame, 0 where it isn't. */
+/*
+ * Whether a page is resident; its frame, 0 where it isn't; and the frames looked at: that frame's index plus 1, or F where
+ * there is none.
+ */
 struct pool_found {
     uint8_t refusal;
     bool present;
     pool_frame_index frame;
+    uint16_t looks;
 };
 
 /* Where a payload lies: in the store or in the frames, from `start` on. Beside a refusal, no bytes at the frames' start. */
@@ -265,7 +269,12 @@ struct pool_done pool_evict(struct pool pool, uint8_t *frames, size_t frames_siz
 /* Writes each dirty page to the store, and marks it clean. Refused: 1, 2. */
 struct pool_done pool_settle(struct pool pool, const uint8_t *frames, size_t frames_size, uint8_t *store, size_t store_size);
 
-/* Tells whether a page is resident, and in which frame. Refused: 1, 2, 6. */
+/*
+ * Tells whether a page is resident, in which frame, and by how many looks. Refused: 1, 2, 6.
+ *
+ * It looks at the frames from 0 on, at empty ones too, and ends at the one that holds the page. A page in the last frame and one
+ * that isn't resident both take F looks: `present` tells them apart.
+ */
 struct pool_found pool_find(struct pool pool, const uint8_t *frames, size_t frames_size, const uint8_t *store,
                             size_t store_size, pool_page_number page);
 
@@ -314,10 +323,11 @@ POOL_SIZE(pool_named, 4);
 POOL_OFFSET(pool_named, refusal, 0);
 POOL_OFFSET(pool_named, page, 2);
 
-POOL_SIZE(pool_found, 3);
+POOL_SIZE(pool_found, 6);
 POOL_OFFSET(pool_found, refusal, 0);
 POOL_OFFSET(pool_found, present, 1);
 POOL_OFFSET(pool_found, frame, 2);
+POOL_OFFSET(pool_found, looks, 4);
 
 POOL_SIZE(pool_place, 24);
 POOL_OFFSET(pool_place, refusal, 0);

@@ -145,9 +145,30 @@ pub fn root(state: &State) -> (State, Variants) {
     repeated!(state.clone(), boundary::in_and_out, root())
 }
 
-pub fn find(state: &State) -> (State, Variants) {
-    let page = last_resident(state);
+/// An archive from before request A.2 can be timed too: its struct, which has no looks, comes back in the same register, and
+/// nothing goes by the looks.
+fn find(state: &State, page: PageNumber) -> (State, Variants) {
     repeated!(state.clone(), boundary::only_in, find(page))
+}
+
+/// The root: one look.
+pub fn find_first(state: &State) -> (State, Variants) {
+    find(state, ROOT.page)
+}
+
+/// The page in frame F / 2. In a shape with full frames alone.
+pub fn find_middle(state: &State) -> (State, Variants) {
+    let middle = usize::from(state.records.count) / 2;
+    find(state, state.records.records[middle].page)
+}
+
+pub fn find_last(state: &State) -> (State, Variants) {
+    find(state, last_resident(state))
+}
+
+/// A page that isn't resident: F looks.
+pub fn find_absent(state: &State) -> (State, Variants) {
+    find(state, unnamed(state))
 }
 
 /// A page that isn't resident.

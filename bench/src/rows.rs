@@ -1,7 +1,8 @@
 //! The rows of the table, and their figures.
 use crate::calls::{
-    evict_dirty, evict_parent, find, fix_clean, fix_dirty, fix_half_pinned, fix_hit, fix_one_open, link,
-    link_named, link_taken, open, peek, root, settle_dirty, show, unfix, unlink, word, write,
+    evict_dirty, evict_parent, find_absent, find_first, find_last, find_middle, fix_clean, fix_dirty,
+    fix_half_pinned, fix_hit, fix_one_open, link, link_named, link_taken, open, peek, root, settle_dirty,
+    show, unfix, unlink, word, write,
 };
 use crate::timing::{deeper, Race, Times, Variants};
 use pool_bench::shapes::{Shape, State};
@@ -44,7 +45,9 @@ const WITH_FULL_FRAMES: &[Call] = &[
     ("fix, sweep, clean victim", fix_clean),
     ("fix, sweep, dirty victim", fix_dirty),
     ("root", root),
-    ("find", find),
+    ("find, first frame", find_first),
+    ("find, middle frame", find_middle),
+    ("find, last frame", find_last),
     ("peek", peek),
     ("show", show),
     ("word", word),
@@ -64,7 +67,8 @@ const ON_THE_ROOT: &[Call] = &[
     ("root", root),
     ("fix, empty frame", fix_clean),
     ("unfix", unfix),
-    ("find", find),
+    ("find, first frame", find_first),
+    ("find, absent", find_absent),
     ("peek", peek),
     ("show", show),
     ("word", word),
@@ -78,7 +82,7 @@ const OF_EVERY_USER: &[Call] = &[
     ("root", root),
     ("fix, hit", fix_hit),
     ("unfix", unfix),
-    ("find", find),
+    ("find, last frame", find_last),
     ("show", show),
     ("word", word),
     ("write, 8 bytes", write),

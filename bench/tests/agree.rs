@@ -43,11 +43,18 @@ struct Trial {
     given: BTreeMap<u8, usize>,
     /// By number of pages: how many calls warmed so many.
     warmed: BTreeMap<usize, usize>,
+    /// How many finds ended after so many looks, at a frame or not.
+    looked: BTreeMap<(bool, u16), usize>,
 }
 
 impl Trial {
     fn new(seed: u64) -> Trial {
-        Trial { random: Random::new(seed), given: BTreeMap::new(), warmed: BTreeMap::new() }
+        Trial {
+            random: Random::new(seed),
+            given: BTreeMap::new(),
+            warmed: BTreeMap::new(),
+            looked: BTreeMap::new(),
+        }
     }
 
     /// So many calls from a state on, some of them on a damaged one that is then dropped.
@@ -92,8 +99,16 @@ impl Trial {
             32 | 33 => same!(a, b, unlink(handle, slot)),
             34..=36 => same!(a, b, evict(page)),
             37 => same!(a, b, settle()),
-            _ => same!(a, b, find(page)),
+            _ => self.find(a, b, page),
         }
+    }
+
+    fn find(&mut self, a: &mut State, b: &mut State, page: PageNumber) -> u8 {
+        let library = a.find(page);
+        if let Ok(found) = library {
+            *self.looked.entry((found.frame.is_some(), found.looks)).or_default() += 1;
+        }
+        agreed("find", library, baseline::find(&b.records, &b.frames, &b.store, page))
     }
 
     /// An open; accepted, it is undone nine times in ten.
@@ -270,7 +285,10 @@ fn large_pools() {
             trial.run(opened(count, shape.store(count, pages)), 2000);
         }
     }
-    println!("{:?}", trial.given);
+    println!("{:?}, looks {:?}", trial.given, trial.looked);
+    let far: usize = trial.looked.range((true, 8)..).map(|(_, finds)| finds).sum();
+    let [root, absent] = [(true, 1), (false, 64)].map(|ended| trial.looked.get(&ended).copied().unwrap_or(0));
+    assert!(root.min(far).min(absent) > 20, "finds that end at once, far on, and nowhere");
 }
 
 /// Short runs from frames whose parents lie after them: an open among the calls ends that.

@@ -12,6 +12,15 @@ pub struct Fixed {
     pub looks: u16,
 }
 
+/// The answer of find.
+#[derive(Clone, Copy, Debug, PartialEq, Eq)]
+pub struct Found {
+    /// The frame that holds the page, none if it isn't resident.
+    pub frame: Option<FrameIndex>,
+    /// The frames looked at: that frame's index plus 1, or F if there is none.
+    pub looks: u16,
+}
+
 /// Calls an exported function with the records and the lent buffers, and then its own arguments.
 macro_rules! call {
     ($name:ident($pool:expr, $frames:ident.$frames_ptr:ident, $store:ident.$store_ptr:ident $(, $argument:expr)*)) => {
@@ -180,13 +189,11 @@ pub fn settle(pool: &mut Pool, frames: &[u8], store: &mut [u8]) -> Result<(), Re
     call!(pool_settle(*pool, frames.as_ptr, store.as_mut_ptr)).answer(pool)
 }
 
-/// The frame that holds a page, none if it isn't resident. Refused: 1, 2, 6.
-pub fn find(
-    pool: &Pool,
-    frames: &[u8],
-    store: &[u8],
-    page: PageNumber,
-) -> Result<Option<FrameIndex>, Refusal> {
+/// The frame that holds a page, none if it isn't resident, and the frames looked at: from 0 on, empty ones too, and no further
+/// than that one. A page in the last frame and one that isn't resident both take F looks: `frame` tells them apart.
+/// Refused: 1, 2, 6.
+pub fn find(pool: &Pool, frames: &[u8], store: &[u8], page: PageNumber) -> Result<Found, Refusal> {
     let found = call!(pool_find(*pool, frames.as_ptr, store.as_ptr, page));
-    unless_refused(found.refusal, found.present.then_some(found.frame))
+    let frame = found.present.then_some(found.frame);
+    unless_refused(found.refusal, Found { frame, looks: found.looks })
 }

@@ -1,13 +1,13 @@
 //! A pool together with the buffers it works on.
-use crate::calls::{self, Fixed};
-use crate::records::{FrameIndex, Handle, PageNumber, Pool};
+use crate::calls::{self, Fixed, Found};
+use crate::records::{Handle, PageNumber, Pool};
 use crate::refusal::Refusal;
 
 /// The records with the frames and the store that each call is lent, and the calls as methods. The buffers are what the host
 /// has: vectors, arrays, or slices of its own memory.
 ///
 /// ```
-/// use pagepool::{PageNumber, PagePool, Refusal, PAGE_SIZE};
+/// use pagepool::{Found, PageNumber, PagePool, Refusal, PAGE_SIZE};
 ///
 /// // 4 frames over a store of 16 empty pages.
 /// let mut pool = PagePool::new([0; 4 * PAGE_SIZE], vec![0; 16 * PAGE_SIZE]);
@@ -24,7 +24,7 @@ use crate::refusal::Refusal;
 /// assert_eq!(pool.evict(PageNumber(7)), Err(Refusal::IsPinned));
 /// pool.unfix(seven)?;
 /// pool.evict(PageNumber(7))?;
-/// assert_eq!(pool.find(PageNumber(7))?, None);
+/// assert_eq!(pool.find(PageNumber(7))?, Found { frame: None, looks: 4 });
 /// assert_eq!(&pool.peek(PageNumber(7))?[..5], b"seven");
 ///
 /// // After a settle the store holds every change.
@@ -78,7 +78,7 @@ impl<F: AsRef<[u8]>, S: AsRef<[u8]>> PagePool<F, S> {
     }
 
     /// As [`find`](calls::find).
-    pub fn find(&self, page: PageNumber) -> Result<Option<FrameIndex>, Refusal> {
+    pub fn find(&self, page: PageNumber) -> Result<Found, Refusal> {
         calls::find(&self.records, self.frames.as_ref(), self.store.as_ref(), page)
     }
 }

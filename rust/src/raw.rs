@@ -32,6 +32,7 @@ pub struct Found {
     pub refusal: u8,
     pub present: bool,
     pub frame: FrameIndex,
+    pub looks: u16,
 }
 
 #[repr(C)]

@@ -1,4 +1,4 @@
-/* Tries what the header says of answers, handles, usages, payloads and pointers. Names each claim that fails. */
+/* Tries what the header says of answers, handles, usages, looks, payloads and pointers. Names each claim that fails. */
 #include "pagepool.h"
 
 #include <stdio.h>
@@ -59,7 +59,21 @@ static bool named_refused(struct pool_named answer, uint8_t refusal)
 
 static bool found_refused(struct pool_found answer, uint8_t refusal)
 {
-    return answer.refusal == refusal && !answer.present && answer.frame == 0;
+    return answer.refusal == refusal && !answer.present && answer.frame == 0 && answer.looks == 0;
+}
+
+/* What an accepted find answers. */
+
+static bool is_found(struct pool pool, pool_page_number page, pool_frame_index frame, uint16_t looks)
+{
+    struct pool_found found = pool_find(pool, LENT, page);
+    return found.refusal == POOL_ACCEPTED && found.present && found.frame == frame && found.looks == looks;
+}
+
+static bool is_absent(struct pool pool, pool_page_number page)
+{
+    struct pool_found found = pool_find(pool, LENT, page);
+    return found.refusal == POOL_ACCEPTED && !found.present && found.frame == 0 && found.looks == FRAMES;
 }
 
 /* A pool over a store whose root names pages 1, 2 and 3 in its slots 1, 2 and 3, with the root pinned. */
@@ -117,6 +131,7 @@ static void refused_answers(void)
     struct pool altered = pool;
     altered.records[0].usage = POOL_MAX_USAGE + 1;
     claim("altered records", fixed_refused(pool_root(altered, LENT), POOL_DISAGREE, altered));
+    claim("find in altered records", found_refused(pool_find(altered, LENT, 1), POOL_DISAGREE));
     for (unsigned flag = 2; flag < 256; flag++) {
         struct pool used = pool, dirty = pool;
         used.records[0].used = (uint8_t)flag;
@@ -182,9 +197,26 @@ static void pages_in_use(void)
     pool = pool_unfix(pool, LENT, three.handle).pool;
     two = pool_fix(pool, LENT, root, 2);
     claim("the page that came in goes first", two.handle.frame == three.handle.frame && two.looks == 6);
-    struct pool_found found = pool_find(two.pool, LENT, 1);
-    claim("the one that was held is still there", found.present && found.frame == one.handle.frame);
+    claim("the one that was held is still there", is_found(two.pool, 1, one.handle.frame, 2));
     claim("and is cooler by each look", two.pool.records[1].usage == 1);
+}
+
+/* Find looks at the frames from 0 on, at empty ones too, and ends at the one that holds the page. */
+static void frames_looked_at(void)
+{
+    struct pool pool = begin();
+    claim("the root, by one look", is_found(pool, 0, 0, 1));
+    claim("nowhere, past empty frames", is_absent(pool, 1));
+    struct pool_fixed one = pool_fix(pool, LENT, root, 1);
+    struct pool_fixed two = pool_fix(one.pool, LENT, root, 2);
+    claim("a frame in between", is_found(two.pool, 1, 1, 2));
+    claim("the last frame", is_found(two.pool, 2, FRAMES - 1, FRAMES));
+    claim("nowhere, with none empty", is_absent(two.pool, 3));
+    pool = pool_evict(pool_unfix(two.pool, LENT, one.handle).pool, LENT, 1).pool;
+    claim("an empty frame is looked at", is_found(pool, 2, FRAMES - 1, FRAMES));
+    pool = pool_fix(pool, LENT, root, 1).pool;
+    pool = pool_evict(pool_unfix(pool, LENT, two.handle).pool, LENT, 2).pool;
+    claim("but not beyond the page", is_found(pool, 1, 1, 2));
 }
 
 /* After 8 an empty slot takes the page, after 9 none does until the word that names it is unlinked. */
@@ -270,6 +302,7 @@ int main(void)
     handles();
     no_frame();
     pages_in_use();
+    frames_looked_at();
     taken_slots();
     staying_pages();
     payloads();

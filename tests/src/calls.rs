@@ -1,5 +1,5 @@
 //! A call with its arguments as a value, and its answer.
-use crate::pool::{Fixed, Machine, Place, Refusal};
+use crate::pool::{Fixed, Found, Machine, Place, Refusal};
 use crate::records::{Handle, PageNumber, Pool, State};
 
 #[derive(Clone, Debug, PartialEq, Eq)]
@@ -32,7 +32,7 @@ pub enum Answer {
     Fixed(Fixed),
     Place(Place),
     Number(u16),
-    Frame(Option<u8>),
+    Found(Found),
 }
 
 impl Answer {
@@ -92,9 +92,7 @@ impl Call {
             Call::Unlink(handle, slot) => answer(machine.unlink(state, *handle, *slot), done),
             Call::Evict(page) => answer(machine.evict(state, PageNumber(*page)), done),
             Call::Settle => answer(machine.settle(state), done),
-            Call::Find(page) => answer(machine.find(state, PageNumber(*page)), |frame| {
-                Answer::Frame(frame.map(|frame| frame.0))
-            }),
+            Call::Find(page) => answer(machine.find(state, PageNumber(*page)), Answer::Found),
         }
     }
 }

@@ -1,6 +1,7 @@
-//! How often each call met each answer, a link into a taken slot each namer of its page, an evict each reason to stay, and a fix
-//! what it can do to usages.
+//! How often each call met each answer, a link into a taken slot each namer of its page, an evict each reason to stay, a fix what
+//! it can do to usages, and a find each place where it can end.
 use crate::calls::{Answer, Call, NAMES};
+use crate::model::search::Ended;
 use crate::model::stays::Stay;
 use crate::model::taken::Namer;
 use crate::model::warmth::Warmth;
@@ -17,6 +18,7 @@ pub struct Coverage {
     namers: BTreeMap<Namer, u64>,
     stays: BTreeMap<Stay, u64>,
     warmths: BTreeMap<Warmth, u64>,
+    ends: BTreeMap<Ended, u64>,
     sweeps: u64,
     most_looks: u16,
 }
@@ -51,6 +53,13 @@ impl Coverage {
         }
     }
 
+    /// Counts a find: where it ended.
+    pub fn count_end(&mut self, ended: Option<Ended>) {
+        if let Some(ended) = ended {
+            *self.ends.entry(ended).or_default() += 1;
+        }
+    }
+
     pub fn calls(&self) -> u64 {
         self.counts.values().sum()
     }
@@ -74,6 +83,11 @@ impl Coverage {
     /// What no fix did to usages.
     pub fn missing_warmths(&self) -> Vec<Warmth> {
         Warmth::ALL.into_iter().filter(|warmth| !self.warmths.contains_key(warmth)).collect()
+    }
+
+    /// Where no find ended.
+    pub fn missing_ends(&self) -> Vec<Ended> {
+        Ended::ALL.into_iter().filter(|ended| !self.ends.contains_key(ended)).collect()
     }
 
     /// The pairs that occurred and are not in the table.
@@ -104,6 +118,10 @@ impl fmt::Display for Coverage {
         write!(f, "\nfixes, by what they did to usages:")?;
         for (warmth, count) in &self.warmths {
             write!(f, " {warmth:?}:{count}")?;
+        }
+        write!(f, "\nfinds, by where they ended:")?;
+        for (ended, count) in &self.ends {
+            write!(f, " {ended:?}:{count}")?;
         }
         writeln!(f, "\n{} calls, {} pairs of call and answer", self.calls(), self.counts.len())?;
         write!(f, "{} sweeps took a frame, in up to {} looks", self.sweeps, self.most_looks)

@@ -1,5 +1,5 @@
 //! The linked library `pagepool`, behind the same trait as the model.
-use crate::pool::{Buffer, Fixed, Machine, Place, Refusal};
+use crate::pool::{Buffer, Fixed, Found, Machine, Place, Refusal};
 use crate::records::{self, FrameIndex, Handle, PageNumber, Pool, State};
 use pagepool::raw;
 
@@ -52,6 +52,14 @@ fn place(answer: raw::Place) -> Result<Place, Refusal> {
     let (start, size) = (answer.start, answer.size);
     let zero = (answer.in_store, start, size) == (false, 0, 0);
     unless_refused(answer.refusal, zero, Place { buffer, start, size })
+}
+
+/// Beside 'absent', too, the frame is 0.
+fn found(answer: raw::Found) -> Result<Found, Refusal> {
+    let raw::Found { refusal, present, frame, looks } = answer;
+    assert!(present || frame == FrameIndex(0), "frame {frame} beside 'absent'");
+    let zero = !present && looks == 0;
+    unless_refused(refusal, zero, Found { frame: present.then_some(frame), looks })
 }
 
 pub struct Library;
@@ -109,9 +117,7 @@ impl Machine for Library {
         done(lend!(mut state, pool_settle), state)
     }
 
-    fn find(&self, state: &State, page: PageNumber) -> Result<Option<FrameIndex>, Refusal> {
-        let found = lend!(state, pool_find, page);
-        let zero = !found.present && found.frame == FrameIndex(0);
-        unless_refused(found.refusal, zero, found.present.then_some(found.frame))
+    fn find(&self, state: &State, page: PageNumber) -> Result<Found, Refusal> {
+        found(lend!(state, pool_find, page))
     }
 }

@@ -2,7 +2,7 @@
 use crate::calls::{Answer, Call};
 use crate::coverage::Coverage;
 use crate::ensure;
-use crate::model::{stays, taken, warmth, Model};
+use crate::model::{search, stays, taken, warmth, Model};
 use crate::pool::Machine;
 use crate::records::{PageNumber, State};
 
@@ -24,8 +24,9 @@ fn compare(
 }
 
 /// All must answer and leave the same, and a refused call must leave all as found. Link must answer as document 01's order does
-/// but where request A.9 changes it, evict be refused by the reason for which the page stays, and fix take the frame that
-/// document 01's sweep takes and leave the usages that request A.5 asks for.
+/// but where request A.9 changes it, evict be refused by the reason for which the page stays, fix take the frame that document
+/// 01's sweep takes and leave the usages that request A.5 asks for, and find answer as document 01's does, with the looks of
+/// request A.2.
 pub fn step(
     machine: &impl Machine,
     state: &mut State,
@@ -63,6 +64,7 @@ fn requests(
             coverage.count_namer(taken::compare(before, *handle, *slot, PageNumber(*page), number)?);
         }
         Call::Evict(page) => coverage.count_stay(stays::compare(before, PageNumber(*page), number)?),
+        Call::Find(page) => coverage.count_end(search::compare(before, PageNumber(*page), answer)?),
         _ => (),
     }
     Ok(())

@@ -2,11 +2,12 @@
 mod agreement;
 mod moves;
 mod rules;
+pub mod search;
 pub mod stays;
 pub mod taken;
 pub mod warmth;
 
-use crate::pool::{Buffer, Fixed, Machine, Place, Refusal};
+use crate::pool::{Buffer, Fixed, Found, Machine, Place, Refusal};
 use crate::records::{
     page_of, page_of_mut, put_word, word_in, FrameIndex, FrameRecord, Handle, PageNumber, Pool, State,
     MAX_USAGE, PAGE_SIZE, PAYLOAD_SIZE, PAYLOAD_START, SLOTS, SWIZZLE_BIT,
@@ -54,7 +55,20 @@ fn occupied(pool: &Pool) -> impl Iterator<Item = FrameIndex> + Clone + '_ {
 
 /// The frame that holds a page.
 fn frame_of(pool: &Pool, page: PageNumber) -> Option<FrameIndex> {
-    occupied(pool).find(|frame| pool.record(*frame).page == page)
+    look_for(pool, page).frame
+}
+
+/// Request A.2: "it is to go from frame 0 on and end at the frame that holds it", with a look at each frame on the way.
+fn look_for(pool: &Pool, page: PageNumber) -> Found {
+    let mut looks = 0;
+    for frame in (0..pool.count as u8).map(FrameIndex) {
+        looks += 1;
+        let record = pool.record(frame);
+        if record.is_used() && record.page == page {
+            return Found { frame: Some(frame), looks };
+        }
+    }
+    Found { frame: None, looks }
 }
 
 /// The word with a frame replaced by the number of the page in it.
@@ -213,9 +227,9 @@ impl Machine for Model {
         Ok(())
     }
 
-    fn find(&self, state: &State, page: PageNumber) -> Result<Option<FrameIndex>, Refusal> {
+    fn find(&self, state: &State, page: PageNumber) -> Result<Found, Refusal> {
         rules::state(state)?;
         rules::page(&state.pool, page)?;
-        Ok(frame_of(&state.pool, page))
+        Ok(look_for(&state.pool, page))
     }
 }

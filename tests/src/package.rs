@@ -1,6 +1,6 @@
 //! The linked library through the package's own wrappers, behind the same trait.
-use crate::pool::{Buffer, Fixed, Machine, Place, Refusal};
-use crate::records::{FrameIndex, Handle, PageNumber, Pool, State};
+use crate::pool::{Buffer, Fixed, Found, Machine, Place, Refusal};
+use crate::records::{Handle, PageNumber, Pool, State};
 use pagepool::PagePool;
 
 pub struct Package;
@@ -92,7 +92,8 @@ impl Machine for Package {
         change(state, |pool| pool.settle())
     }
 
-    fn find(&self, state: &State, page: PageNumber) -> Result<Option<FrameIndex>, Refusal> {
-        numbered(shared(state).find(page))
+    fn find(&self, state: &State, page: PageNumber) -> Result<Found, Refusal> {
+        let found = numbered(shared(state).find(page));
+        found.map(|pagepool::Found { frame, looks }| Found { frame, looks })
     }
 }

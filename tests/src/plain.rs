@@ -9,7 +9,7 @@ use crate::records::{
     page_of, page_of_mut, put_word, word_in, FrameIndex, Handle, PageNumber, State, PAGE_SIZE, PAYLOAD_START,
     SLOTS,
 };
-use residency::Residency;
+use residency::{frame_found, Residency};
 
 /// Up to this N, a load asks find for every page.
 const FEW_PAGES: usize = 64;
@@ -134,7 +134,7 @@ impl Plain {
 
     fn check_handle(&self, machine: &impl Machine, state: &State, page: PageNumber, handle: Handle) -> Check {
         ensure!(handle.page == page, "{handle:?} for page {page}");
-        let found = machine.find(state, page);
+        let found = frame_found(machine, state, page);
         ensure!(found == Ok(Some(handle.frame)), "{handle:?} found at {found:?}");
         Ok(())
     }
@@ -164,12 +164,12 @@ impl Plain {
         };
         let held = usize::from(handle.page) < self.pages()
             && self.pinned(handle.page)
-            && machine.find(state, handle.page) == Ok(Some(handle.frame));
+            && frame_found(machine, state, handle.page) == Ok(Some(handle.frame));
         if !held || slot >= SLOTS {
             return false;
         }
         let page = self.named(handle.page, slot);
-        page != PageNumber(0) && machine.find(state, page) == Ok(None)
+        page != PageNumber(0) && frame_found(machine, state, page) == Ok(None)
     }
 
     /// "none is empty and every resident page but the root is pinned or has a resident child"

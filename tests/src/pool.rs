@@ -11,6 +11,13 @@ pub struct Fixed {
     pub looks: u16,
 }
 
+/// The answer of find: the frame, none for 'absent', and the frames looked at.
+#[derive(Clone, Copy, Debug, PartialEq, Eq)]
+pub struct Found {
+    pub frame: Option<FrameIndex>,
+    pub looks: u16,
+}
+
 #[derive(Clone, Copy, Debug, PartialEq, Eq)]
 pub enum Buffer {
     Frames,
@@ -50,8 +57,7 @@ pub trait Machine {
     fn unlink(&self, state: &mut State, handle: Handle, slot: usize) -> Result<(), Refusal>;
     fn evict(&self, state: &mut State, page: PageNumber) -> Result<(), Refusal>;
     fn settle(&self, state: &mut State) -> Result<(), Refusal>;
-    /// The frame, or none for 'absent'.
-    fn find(&self, state: &State, page: PageNumber) -> Result<Option<FrameIndex>, Refusal>;
+    fn find(&self, state: &State, page: PageNumber) -> Result<Found, Refusal>;
 }
 
 #[cfg(feature = "host")]

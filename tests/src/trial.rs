@@ -10,6 +10,18 @@ use crate::records::{
 /// A word of a stored page: the page, the slot, and the page that it names.
 pub type Link = (usize, usize, u32);
 
+/// A pool of so many frames and 16 pages: pages 5, 6 and 7 are in frames 1, 2 and 3, under slots 1, 2 and 3 of the root, and page
+/// 8, under slot 4, in none. The root alone is pinned.
+pub fn three_children(frames: usize) -> (Trial, Handle) {
+    let mut trial = Trial::open(frames, 16, &[(0, 1, 5), (0, 2, 6), (0, 3, 7), (0, 4, 8)]);
+    let root = trial.root();
+    for slot in 1..4 {
+        let child = trial.fix(root, slot);
+        trial.accept(Call::Unfix(child));
+    }
+    (trial, root)
+}
+
 #[derive(Clone)]
 pub struct Trial {
     pub state: State,
@@ -61,6 +73,14 @@ impl Trial {
         match self.call(call.clone()) {
             Answer::Fixed(fixed) => fixed.handle,
             other => panic!("{call:?}: {other:?}"),
+        }
+    }
+
+    /// The frame of a page, none if it is absent, and the frames that find looks at.
+    pub fn find(&mut self, page: u16) -> (Option<u8>, u16) {
+        match self.call(Call::Find(page)) {
+            Answer::Found(found) => (found.frame.map(|frame| frame.0), found.looks),
+            other => panic!("find {page}: {other:?}"),
         }
     }
 

@@ -3,19 +3,8 @@ use pool_tests::calls::{Answer, Call};
 use pool_tests::coverage::Coverage;
 use pool_tests::history::History;
 use pool_tests::pool::{Fixed, UnderTest};
-use pool_tests::records::{handle, page_of, FrameIndex, Handle, PageNumber, State};
-use pool_tests::trial::Trial;
-
-/// F 4 and N 16 with pages 5, 6 and 7 in frames 1, 2 and 3, under slots 1, 2 and 3 of the root; the root alone is pinned.
-fn full_pool() -> (Trial, Handle) {
-    let mut trial = Trial::open(4, 16, &[(0, 1, 5), (0, 2, 6), (0, 3, 7), (0, 4, 8)]);
-    let root = trial.root();
-    for slot in 1..4 {
-        let child = trial.fix(root, slot);
-        trial.accept(Call::Unfix(child));
-    }
-    (trial, root)
-}
+use pool_tests::records::{handle, page_of, FrameIndex, PageNumber, State};
+use pool_tests::trial::{three_children, Trial};
 
 fn word_bytes(trial: &Trial, slot: usize) -> [u8; 4] {
     let page = page_of(&trial.state.frames, 0);
@@ -24,9 +13,9 @@ fn word_bytes(trial: &Trial, slot: usize) -> [u8; 4] {
 
 #[test]
 fn a_word_names_a_frame() {
-    let (mut trial, root) = full_pool();
+    let (mut trial, root) = three_children(4);
     assert_eq!(word_bytes(&trial, 3), [0x03, 0x00, 0x00, 0x80]);
-    assert_eq!(trial.call(Call::Find(7)), Answer::Frame(Some(3)));
+    assert_eq!(trial.find(7), (Some(3), 4));
     assert_eq!(trial.call(Call::Word(root, 3)), Answer::Number(7));
     assert_eq!(trial.fix(root, 3), handle(3, 7));
 }
@@ -80,7 +69,7 @@ fn slots_end_at_15() {
 
 #[test]
 fn pins_end_at_65535() {
-    let (mut trial, root) = full_pool();
+    let (mut trial, root) = three_children(4);
     for (call, frame) in [(Call::Root, 0), (Call::Fix(root, 3), 3)] {
         trial.record(frame).pins = 65_534;
         assert_eq!(trial.number(call.clone()), 0);
@@ -104,9 +93,9 @@ fn pins_rise_to_65535_by_calls() -> Result<(), String> {
     history.check()
 }
 
-/// Fixes page 8 into the full pool, with frames 1 to 3 of these usages.
+/// Fixes page 8 where no frame is empty, with frames 1 to 3 of these usages.
 fn sweep(hand: u8, usages: [u8; 3], pinned: &[u8]) -> (Trial, Fixed) {
-    let (mut trial, root) = full_pool();
+    let (mut trial, root) = three_children(4);
     trial.state.pool.hand = FrameIndex(hand);
     for (frame, usage) in (1..).zip(usages) {
         trial.record(frame).usage = usage;

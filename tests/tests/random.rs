@@ -64,12 +64,13 @@ fn run(
     coverage
 }
 
-/// A link into a taken slot must have met every namer of its page, an evict every reason to stay, and a fix have done everything
-/// that it can do to usages.
+/// A link into a taken slot must have met every namer of its page, an evict every reason to stay, a fix have done everything that
+/// it can do to usages, and a find have ended wherever it can.
 fn met_every_case(coverage: &Coverage) {
     assert_eq!(coverage.missing_namers(), [], "namers that no link into a taken slot met");
     assert_eq!(coverage.missing_stays(), [], "reasons to stay that no evict met");
     assert_eq!(coverage.missing_warmths(), [], "what no fix did to usages");
+    assert_eq!(coverage.missing_ends(), [], "where no find ended");
 }
 
 /// F and N, most of them small, so that frames are few and words meet.

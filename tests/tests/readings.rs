@@ -4,7 +4,7 @@ use pool_tests::pool::{Buffer, Fixed, Machine, Place, UnderTest};
 use pool_tests::records::{
     handle, FrameIndex, FrameRecord, Handle, PageNumber, Pool, PAGE_SIZE, SWIZZLE_BIT,
 };
-use pool_tests::trial::Trial;
+use pool_tests::trial::{three_children, Trial};
 use words::rules::Table;
 
 /// The store lags behind the map: a page that moved can stand in two stored words.
@@ -260,19 +260,23 @@ fn page_0_is_refused_in_link_alone() {
     let (mut trial, [root, ..]) = two_children();
     assert_eq!(trial.number(Call::Link(root, 5, 0)), 6);
     assert_eq!(trial.number(Call::Evict(0)), 20);
-    assert_eq!(trial.call(Call::Find(0)), Answer::Frame(Some(0)));
+    assert_eq!(trial.find(0), (Some(0), 1));
     for call in [Call::Peek(16), Call::Find(16), Call::Evict(16), Call::Link(root, 5, 16)] {
         assert_eq!(trial.number(call), 6);
     }
 }
 
+/// The payload of the page at an index of a buffer.
+fn payload(buffer: Buffer, index: usize) -> Answer {
+    Answer::Place(Place { buffer, start: 256 * index + 64, size: 192 })
+}
+
 #[test]
 fn payloads_lie_in_frames_or_store() {
     let (mut trial, [_, five, _]) = two_children();
-    let at = |buffer, start| Answer::Place(Place { buffer, start, size: 192 });
-    assert_eq!(trial.call(Call::Show(five)), at(Buffer::Frames, 256 + 64));
-    assert_eq!(trial.call(Call::Peek(5)), at(Buffer::Frames, 256 + 64));
-    assert_eq!(trial.call(Call::Peek(7)), at(Buffer::Store, 7 * 256 + 64));
+    assert_eq!(trial.call(Call::Show(five)), payload(Buffer::Frames, 1));
+    assert_eq!(trial.call(Call::Peek(5)), payload(Buffer::Frames, 1));
+    assert_eq!(trial.call(Call::Peek(7)), payload(Buffer::Store, 7));
 }
 
 #[test]
@@ -586,9 +590,79 @@ fn a_page_that_was_held_outlives_one_that_was_not() {
     }
     let mut formerly = trial.clone();
     assert_eq!(trial.fix(root, 1).frame, three.frame);
-    assert_eq!(trial.call(Call::Find(1)), Answer::Frame(Some(held.frame.0)));
+    assert_eq!(trial.find(1).0, Some(held.frame.0));
     formerly.record(held.frame.0).usage = 1;
     assert_eq!(formerly.fix(root, 1).frame, held.frame);
+}
+
+/// A.2: "that frame's index plus 1, or F if absent".
+#[test]
+fn find_ends_at_the_frame_that_holds_the_page() {
+    let (mut trial, _) = three_children(5);
+    let found = [(Some(0), 1), (Some(1), 2), (Some(2), 3), (Some(3), 4), (None, 5)];
+    assert_eq!([0, 5, 6, 7, 8].map(|page| trial.find(page)), found);
+}
+
+/// A.2, "go from frame 0 on": an empty frame on the way is looked at too, and one beyond the page isn't.
+#[test]
+fn an_empty_frame_is_looked_at_on_the_way_alone() {
+    for (evicted, found) in [
+        (vec![5], [(None, 5), (Some(2), 3), (Some(3), 4)]),
+        (vec![6], [(Some(1), 2), (None, 5), (Some(3), 4)]),
+        (vec![7], [(Some(1), 2), (Some(2), 3), (None, 5)]),
+        (vec![5, 6], [(None, 5), (None, 5), (Some(3), 4)]),
+        (vec![6, 7], [(Some(1), 2), (None, 5), (None, 5)]),
+    ] {
+        let (mut trial, _) = three_children(5);
+        for page in &evicted {
+            trial.accept(Call::Evict(*page));
+        }
+        assert_eq!([5, 6, 7].map(|page| trial.find(page)), found, "without {evicted:?}");
+    }
+}
+
+/// A.2: as many looks for the page in the last frame as for one that is absent.
+#[test]
+fn the_last_frame_takes_as_many_looks_as_none() {
+    for frames in [2, 3, 63, 64] {
+        let mut trial = Trial::open(frames.into(), 16, &[(0, 1, 5)]);
+        let root = trial.root();
+        assert_eq!(trial.find(5), (None, frames.into()));
+        trial.state.pool.hand = FrameIndex(frames - 1);
+        trial.fix(root, 1);
+        assert_eq!(trial.find(5), (Some(frames - 1), frames.into()));
+        assert_eq!(trial.find(6), (None, frames.into()));
+    }
+}
+
+/// A.2, "A page sits in one frame at most": where it sits in two, find is refused and gives neither.
+#[test]
+fn a_page_in_two_frames_is_refused() {
+    let (mut trial, _) = three_children(5);
+    trial.record(3).page = PageNumber(5);
+    assert_eq!([0, 5, 6, 7, 8].map(|page| trial.number(Call::Find(page))), [2; 5]);
+}
+
+/// A.2: a refused find answers its number alone, however far a walk would have gone (`host` asserts the zeros beside the number).
+#[test]
+fn a_refused_find_has_no_looks() {
+    let (mut trial, _) = three_children(5);
+    assert_eq!(trial.call(Call::Find(16)), Answer::Refused(6));
+    trial.record(0).usage = 4;
+    assert_eq!([0, 7, 8, 16].map(|page| trial.call(Call::Find(page))), [Answer::Refused(2); 4]);
+    trial.state.store.pop();
+    assert_eq!([0, 7, 8, 16].map(|page| trial.call(Call::Find(page))), [Answer::Refused(1); 4]);
+}
+
+/// A.2, "Its answer": peek and evict look for the page too, past an empty frame and to the end, and answer as before.
+#[test]
+fn peek_and_evict_answer_as_before() {
+    let (mut trial, _) = three_children(5);
+    trial.accept(Call::Evict(5));
+    let peeked = [0, 7, 5].map(|page| trial.call(Call::Peek(page)));
+    assert_eq!(peeked, [payload(Buffer::Frames, 0), payload(Buffer::Frames, 3), payload(Buffer::Store, 5)]);
+    let evicted = [0, 5, 7, 7].map(|page| trial.call(Call::Evict(page)));
+    assert_eq!(evicted, [Answer::Refused(20), Answer::Refused(11), Answer::Done, Answer::Refused(11)]);
 }
 
 /// Rule 14 on each of its grounds.

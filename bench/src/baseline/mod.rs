@@ -9,8 +9,8 @@ mod seen;
 
 use page::{pages_of, pages_of_mut, SWIZZLE_BIT};
 use pagepool::{
-    Fixed, FrameIndex, FrameRecord, Handle, PageNumber, Pool, Refusal, MAX_PINS, MAX_USAGE, MOST_PAGES,
-    PAGE_SIZE, PAYLOAD_SIZE, PAYLOAD_START,
+    Fixed, Found, FrameIndex, FrameRecord, Handle, PageNumber, Pool, Refusal, MAX_PINS, MAX_USAGE,
+    MOST_PAGES, PAGE_SIZE, PAYLOAD_SIZE, PAYLOAD_START,
 };
 use rules::rule;
 use seen::{Seen, FEW};
@@ -212,15 +212,12 @@ pub fn settle(pool: &mut Pool, frames: &[u8], store: &mut [u8]) -> Result<(), Re
 }
 
 #[inline(never)]
-pub fn find(
-    pool: &Pool,
-    frames: &[u8],
-    store: &[u8],
-    page: PageNumber,
-) -> Result<Option<FrameIndex>, Refusal> {
+pub fn find(pool: &Pool, frames: &[u8], store: &[u8], page: PageNumber) -> Result<Found, Refusal> {
     rules::state(pool, frames, store)?;
     rules::page(pool, page)?;
-    Ok(frame_of(pool, page))
+    let frame = frame_of(pool, page);
+    let looks = frame.map_or(pool.count, |frame| u16::from(frame.0) + 1);
+    Ok(Found { frame, looks })
 }
 
 /// The records of the F frames.
@@ -228,7 +225,7 @@ fn records(pool: &Pool) -> &[FrameRecord] {
     &pool.records[..usize::from(pool.count)]
 }
 
-/// The frame that holds a page.
+/// The frame that holds a page: the walk from frame 0 on ends there.
 fn frame_of(pool: &Pool, page: PageNumber) -> Option<FrameIndex> {
     let holds = |record: &FrameRecord| record.is_used() & (record.page == page);
     records(pool).iter().position(holds).map(|frame| FrameIndex(frame as u8))

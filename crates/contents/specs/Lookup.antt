@@ -1,7 +1,7 @@
 -- A page looked up in the table that rule 2's pass hands on: what find and peek answer by it. Assumes nothing.
-use Prim.Native.Nat.{ℕ, _/_, _<_, _≤_}
+use Prim.Native.Nat.{ℕ, _+_, _/_, _<_, _≤_, min}
 use mathlib.Core.Path.{_≡_, refl, ap}
-use mathlib.Core.Bool.{Bool, true, false}
+use mathlib.Core.Bool.{true, false}
 use mathlib.Core.List.{List}
 use native.Mathlib.Omega.{arith}
 use borrow.Author.Tests.{lt-ltb, le-ltb}
@@ -30,9 +30,11 @@ module _ (s : State) (q : PageNumber) {residents : List ℕ} {seen : Seen} {n F 
       resident : ltb (found (s .pool) (q .0)) (s .pool .count) ≡ true
       resident = rw (← here) (lt-ltb f _ (omega (arith, counted-frames s q e z c)))
 
-      pub find-at : frame f ≡ findCall s q .answer
+      pub find-at : {looks : ℕ} → looks ≡ min F (f + 1) → frame f looks ≡ findCall s q .answer
       unfolding findCall foundAnswer
-      find-at = answer-yes s _ s (e .0) z (pick-yes _ resident (ap frame here))
+      find-at {looks} w =
+          let m : looks ≡ f + 1 = omega arith in
+          answer-yes s _ s (e .0) z (pick-yes _ resident (rw m (ap (λ (g : ℕ). frame g (g + 1)) here)))
 
       pub peek-in-frame : payload inFrames (payloadAt f) payloadSize ≡ peekCall s q .answer
       unfolding peekCall payloadPlace
@@ -42,9 +44,11 @@ module _ (s : State) (q : PageNumber) {residents : List ℕ} {seen : Seen} {n F 
       absent : ltb (found (s .pool) (q .0)) (s .pool .count) ≡ false
       absent = rw (← here) (le-ltb f _ (omega (arith, counted-frames s q e z c)))
 
-      pub find-absent : nowhere ≡ findCall s q .answer
+      pub find-absent : {looks : ℕ} → looks ≡ min F (f + 1) → nowhere looks ≡ findCall s q .answer
       unfolding findCall foundAnswer
-      find-absent = answer-yes s _ s (e .0) z (pick-no _ absent refl)
+      find-absent {looks} w =
+          let m : looks ≡ s .pool .count = omega (arith, counted-frames s q e z c) in
+          answer-yes s _ s (e .0) z (pick-no _ absent (ap nowhere m))
 
       pub peek-in-store : payload inStore (payloadAt (q .0)) payloadSize ≡ peekCall s q .answer
       unfolding peekCall payloadPlace

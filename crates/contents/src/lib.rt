@@ -51,7 +51,7 @@ pub fn peek_place(pool: Pool, frames: &[u8], store: &[u8], page: PageNumber) -> 
         return part::refused(refusal);
     }
     let count = frames.len() / PageNumber::SIZE;
-    let frame = scan::find_frame(&residents, count, page);
+    let frame = scan::find_frame(&residents, count, page).frame;
     if frame < count {
         return part::in_frame(FrameIndex(frame as u8));
     }
@@ -124,7 +124,7 @@ pub fn word(pool: Pool, frames: &[u8], store: &[u8], handle: Handle, slot: usize
     WordAnswer::Names(page_named(&residents, name))
 }
 
-// The frame that holds a page.
+// The frame that holds a page, and how many frames were looked at.
 pub fn find(pool: Pool, frames: &[u8], store: &[u8], page: PageNumber) -> FindAnswer
     ensures { λ r. ⌜ findAnswer r ≡ findCall (state pool (now (frames .entry)) (now (store .entry))) page .answer ⌝ }
 {
@@ -135,9 +135,10 @@ pub fn find(pool: Pool, frames: &[u8], store: &[u8], page: PageNumber) -> FindAn
         return FindAnswer::Refused(refusal);
     }
     let count = frames.len() / PageNumber::SIZE;
-    let f = scan::find_frame(&residents, count, page);
-    if f < count {
-        return FindAnswer::At(FrameIndex(f as u8));
+    let search = scan::find_frame(&residents, count, page);
+    let looks = search.looks as u16;
+    if search.frame < count {
+        return FindAnswer::At(FrameIndex(search.frame as u8), looks);
     }
-    FindAnswer::Absent
+    FindAnswer::Absent(looks)
 }

@@ -19,6 +19,13 @@ fn refused(call: &[u8], refusal: u8) {
     text(b"\n");
 }
 
+// Ends a line with a number of looks.
+fn after(looks: u16) {
+    text(b" after ");
+    number(looks);
+    text(b" looks\n");
+}
+
 // A call without an answer of its own.
 pub fn done(call: &[u8], refusal: u8) {
     if refusal != 0 {
@@ -38,9 +45,7 @@ pub fn fixed(call: &[u8], answer: FixAnswer) {
             number(handle.page.0);
             text(b" in frame ");
             number(handle.frame.0 as u16);
-            text(b" after ");
-            number(looks);
-            text(b" looks\n");
+            after(looks);
         }
         FixAnswer::Refused(refusal) => refused(call, refusal),
     }
@@ -49,12 +54,15 @@ pub fn fixed(call: &[u8], answer: FixAnswer) {
 // Find.
 pub fn found(answer: FindAnswer) {
     match answer {
-        FindAnswer::At(frame) => {
+        FindAnswer::At(frame, looks) => {
             text(b"find: in frame ");
             number(frame.0 as u16);
-            text(b"\n");
+            after(looks);
         }
-        FindAnswer::Absent => text(b"find: absent\n"),
+        FindAnswer::Absent(looks) => {
+            text(b"find: absent");
+            after(looks);
+        }
         FindAnswer::Refused(refusal) => refused(b"find", refusal),
     }
 }

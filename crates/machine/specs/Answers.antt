@@ -30,9 +30,9 @@ pub data Answer : Type 0 where
   payload : Buffer → ℕ → ℕ → Answer
   -- word: the page number
   number : ℕ → Answer
-  -- find: the frame, or 'absent'
-  frame : ℕ → Answer
-  nowhere : Answer
+  -- find: the frame, or 'absent', and the frames looked at
+  frame : ℕ → ℕ → Answer
+  nowhere : ℕ → Answer
 
 -- what a call answers and leaves
 pub record Out : Type 0 where
@@ -57,8 +57,8 @@ wordAnswer (Names p) = number (p .0)
 wordAnswer (RefusedWord n) = refused n
 
 abbrev pub findAnswer : FindAnswer → Answer
-findAnswer (At f) = frame (f .0)
-findAnswer Absent = nowhere
+findAnswer (At f looks) = frame (f .0) looks
+findAnswer (Absent looks) = nowhere looks
 findAnswer (RefusedFind n) = refused n
 
 abbrev pub isStore : Buffer → Bool
@@ -76,8 +76,8 @@ placeOf (refused n) = noPlace n
 placeOf done = noPlace 0
 placeOf (handle f p n) = noPlace 0
 placeOf (number p) = noPlace 0
-placeOf (frame f) = noPlace 0
-placeOf nowhere = noPlace 0
+placeOf (frame f n) = noPlace 0
+placeOf (nowhere n) = noPlace 0
 
 -- ---- a part of a lent slice that is handed back
 

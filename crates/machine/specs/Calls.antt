@@ -171,8 +171,12 @@ settleCall s = decide s (poolRules s) (out done (settled s))
 
 -- ---- find: "by page number, gives the frame or 'absent', which counts as accepted"
 
+-- request A.2: "it is to go from frame 0 on and end at the frame that holds it", as `found` does. "Its answer gains the frames looked at: that frame's index plus 1, or F if absent."
 unfoldable pub foundAnswer : State → ℕ → Answer
-foundAnswer s q = let f = found (s .pool) q in pick (ltb f (s .pool .count)) (frame f) nowhere
+foundAnswer s q =
+    let f = found (s .pool) q in
+    let F = s .pool .count in
+    pick (ltb f F) (frame f (f + 1)) (nowhere F)
 
 unfoldable pub findCall : State → PageNumber → Out
 findCall s q = decide s (pageRules s q) (out (foundAnswer s (q .0)) s)

@@ -16,9 +16,9 @@ use Rattle.machine.specs.Rules.{rule14}
 use Rattle.machine.specs.Calls.{openCall, rootCall, fixCall, showCall, peekCall, wordCall, settleCall, findCall, fixEntryRules}
 use Rattle.machine.specs.History.{Call, root, fix, Point, isPinned, accepted, row, next, start, run, AllBytes}
 
--- "A page is resident where find would give a frame, and that is its frame."
+-- "A page is resident where find would give a frame, and that is its frame.", whatever count stands beside it (request A.2)
 abbrev pub InFrame : Point → ℕ → ℕ → Type 0
-InFrame x p f = findCall (x .now) (pageNumber p) .answer ≡ frame f
+InFrame x p f = (looks : ℕ) × (findCall (x .now) (pageNumber p) .answer ≡ frame f looks)
 
 abbrev pub Resident : Point → ℕ → Type 0
 Resident x p = (f : ℕ) × InFrame x p f

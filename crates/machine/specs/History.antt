@@ -96,8 +96,8 @@ accepted done = true
 accepted (handle f p n) = true
 accepted (payload b a n) = true
 accepted (number p) = true
-accepted (frame f) = true
-accepted nowhere = true
+accepted (frame f n) = true
+accepted (nowhere n) = true
 
 -- the balance after a handle in an answer
 abbrev pub counted : Answer → Balance → Balance
@@ -106,8 +106,8 @@ counted done b = b
 counted (handle f p n) b = fixedIn f p b
 counted (payload y a n) b = b
 counted (number p) b = b
-counted (frame f) b = b
-counted nowhere b = b
+counted (frame f n) b = b
+counted (nowhere n) b = b
 
 -- ---- the points of a list of calls
 

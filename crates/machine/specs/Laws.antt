@@ -16,4 +16,5 @@ pub mod ResidentWords
 pub mod LinkOrder
 pub mod EvictReasons
 pub mod WarmPages
+pub mod FindWalk
 pub mod ByName

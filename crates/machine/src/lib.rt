@@ -57,9 +57,10 @@ pub enum WordAnswer {
     Refused(u8),
 }
 
+// The answer of find: the frame, or that there is none, each with the frames looked at; or the refusal's number.
 pub enum FindAnswer {
-    At(FrameIndex),
-    Absent,
+    At(FrameIndex, u16),
+    Absent(u16),
     Refused(u8),
 }
 

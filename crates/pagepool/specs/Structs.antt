@@ -2,7 +2,6 @@
 use Prim.Native.Nat.{ℕ}
 use mathlib.Core.Bool.{true, false}
 use mathlib.Core.List.{List}
-use Rattle.machine.specs.declared.Handle.{Handle}
 use Rattle.machine.specs.declared.Pool.{Pool}
 use Rattle.machine.specs.Machine.{frameIndex, pageNumber}
 use Rattle.machine.specs.Answers.{Answer, refused, done, handle, payload, number, frame, nowhere, Out}
@@ -21,8 +20,8 @@ fixedOf (refused n) x = fixedWith n 0 0 0 x
 fixedOf done x = fixedWith 0 0 0 0 x
 fixedOf (payload b a n) x = fixedWith 0 0 0 0 x
 fixedOf (number p) x = fixedWith 0 0 0 0 x
-fixedOf (frame f) x = fixedWith 0 0 0 0 x
-fixedOf nowhere x = fixedWith 0 0 0 0 x
+fixedOf (frame f looks) x = fixedWith 0 0 0 0 x
+fixedOf (nowhere looks) x = fixedWith 0 0 0 0 x
 
 -- the struct, with the frames and the store that the call leaves
 pub record FixedOut : Type 0 where
@@ -44,19 +43,19 @@ namedOf (refused n) = namedWith n 0
 namedOf done = namedWith 0 0
 namedOf (handle f p looks) = namedWith 0 0
 namedOf (payload b a n) = namedWith 0 0
-namedOf (frame f) = namedWith 0 0
-namedOf nowhere = namedWith 0 0
+namedOf (frame f looks) = namedWith 0 0
+namedOf (nowhere looks) = namedWith 0 0
 
 -- ---- find
 
-abbrev pub noFrame : ℕ → Found
-noFrame n = record { refusal = n; present = false; frame = frameIndex 0 }
+abbrev pub noFrame : ℕ → ℕ → Found
+noFrame n looks = record { refusal = n; present = false; frame = frameIndex 0; looks = looks }
 
 abbrev pub foundOf : Answer → Found
-foundOf (frame f) = record { refusal = 0; present = true; frame = frameIndex f }
-foundOf nowhere = noFrame 0
-foundOf (refused n) = noFrame n
-foundOf done = noFrame 0
-foundOf (handle f p looks) = noFrame 0
-foundOf (payload b a n) = noFrame 0
-foundOf (number p) = noFrame 0
+foundOf (frame f looks) = record { refusal = 0; present = true; frame = frameIndex f; looks = looks }
+foundOf (nowhere looks) = noFrame 0 looks
+foundOf (refused n) = noFrame n 0
+foundOf done = noFrame 0 0
+foundOf (handle f p looks) = noFrame 0 0
+foundOf (payload b a n) = noFrame 0 0
+foundOf (number p) = noFrame 0 0

@@ -27,12 +27,13 @@ pub struct Named {
     pub page: PageNumber,
 }
 
-// The answer of find: whether the page is resident, and its frame.
+// The answer of find: whether the page is resident, its frame, and the frames looked at.
 #[repr(C)]
 pub struct Found {
     pub refusal: u8,
     pub present: bool,
     pub frame: FrameIndex,
+    pub looks: u16,
 }
 
 // The struct for an answer of root or fix.
@@ -81,20 +82,23 @@ pub fn from_find(answer: FindAnswer) -> Found
     ensures { λ r. ⌜ r ≡ foundOf (findAnswer answer) ⌝ }
 {
     match answer {
-        FindAnswer::At(frame) => Found {
+        FindAnswer::At(frame, looks) => Found {
             refusal: 0,
             present: true,
             frame,
+            looks,
         },
-        FindAnswer::Absent => Found {
+        FindAnswer::Absent(looks) => Found {
             refusal: 0,
             present: false,
             frame: FrameIndex(0),
+            looks,
         },
         FindAnswer::Refused(refusal) => Found {
             refusal,
             present: false,
             frame: FrameIndex(0),
+            looks: 0,
         },
     }
 }

@@ -83,6 +83,7 @@ pub extern "C" fn pool_layout_found() -> Found {
         refusal: 205,
         present: true,
         frame: FrameIndex(206),
+        looks: 4004,
     }
 }
 

@@ -150,7 +150,7 @@ pub extern "C" fn pool_settle(pool: Pool, frames: &[u8], store: &mut [u8]) -> Do
     pool::settle(pool, frames, store)
 }
 
-// The frame that holds a page.
+// The frame that holds a page, and how many frames were looked at.
 #[no_mangle]
 pub extern "C" fn pool_find(pool: Pool, frames: &[u8], store: &[u8], page: PageNumber) -> Found
     ensures { λ r. ⌜ r ≡ foundOf (findCall (state pool (now (frames .entry)) (now (store .entry))) page .answer) ⌝ }

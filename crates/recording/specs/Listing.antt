@@ -86,8 +86,8 @@ lineOf b done = lineNumbers (callIn b) 0 0 0
 lineOf b (handle f p looks) = lineNumbers (callIn b) 0 f p
 lineOf b (payload y a n) = lineNumbers (callIn b) 0 0 0
 lineOf b (number p) = lineNumbers (callIn b) 0 0 0
-lineOf b (frame f) = lineNumbers (callIn b) 0 f (pageInRecord b .0)
-lineOf b nowhere = lineNumbers (callIn b) 0 0 0
+lineOf b (frame f looks) = lineNumbers (callIn b) 0 f (pageInRecord b .0)
+lineOf b (nowhere looks) = lineNumbers (callIn b) 0 0 0
 
 -- a line, and the state that the next record finds
 pub record Listed : Type 0 where

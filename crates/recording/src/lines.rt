@@ -66,16 +66,16 @@ pub fn of_fix(fix: Fix, entry: &[u8; 16]) -> Line
     }
 }
 
-// The line of find, which gives its page beside the frame.
+// The line of find, which gives its page beside the frame, and not the looks.
 pub fn of_find(pool: Pool, answer: FindAnswer, entry: &[u8; 16]) -> Line
     ensures { λ r. ⌜ r ≡ lineFor (now (entry .entry)) (findAnswer answer) pool ⌝ }
 {
     match answer {
-        FindAnswer::At(frame) => {
+        FindAnswer::At(frame, _) => {
             let page = fields::page(entry);
             placed(pool, entry, frame, page)
         }
-        FindAnswer::Absent => bare(pool, entry, 0),
+        FindAnswer::Absent(_) => bare(pool, entry, 0),
         FindAnswer::Refused(number) => bare(pool, entry, number),
     }
 }

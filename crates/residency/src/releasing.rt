@@ -70,7 +70,7 @@ pub fn evict(pool: Pool, frames: &mut [u8], store: &mut [u8], page: PageNumber) 
         return Done { pool, refusal };
     }
     let count = frames.len() / PageNumber::SIZE;
-    let f = scan::find_frame(&residents, count, page);
+    let f = scan::find_frame(&residents, count, page).frame;
     if count <= f {
         return Done { pool, refusal: 11 };
     }

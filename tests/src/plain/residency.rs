@@ -1,7 +1,16 @@
 //! Which pages are resident: "A page is resident where find would give a frame, and that is its frame."
 use crate::ensure;
-use crate::pool::Machine;
+use crate::pool::{Machine, Refusal};
 use crate::records::{FrameIndex, Handle, PageNumber, State};
+
+/// The frame that find gives, by however many looks.
+pub fn frame_found(
+    machine: &impl Machine,
+    state: &State,
+    page: PageNumber,
+) -> Result<Option<FrameIndex>, Refusal> {
+    machine.find(state, page).map(|found| found.frame)
+}
 
 pub struct Residency {
     frame_of: Vec<Option<FrameIndex>>,
@@ -30,7 +39,7 @@ impl Residency {
             page_in: vec![None; state.pool.count.into()],
         };
         for page in pages {
-            let found = machine.find(state, page);
+            let found = frame_found(machine, state, page);
             let found = found.map_err(|number| format!("find of {page} gives {number}"))?;
             if let Some(frame) = found {
                 resident.put(page, frame)?;

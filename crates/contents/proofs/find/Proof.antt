@@ -20,29 +20,40 @@ returns c = answer-no _ _ _ (c .before .page-refusal .ensures .0) (c .if1 .taken
 find-frame-requires : tie.Need-find-frame-requires
 find-frame-requires c κs = few-frames _ _ (c .before .before .page-refusal .ensures) (c .before .if1 .left) refl
 
-cast-t17 : tie.Need-cast-t17
-cast-t17 c =
-    let past-refusal = c .before .before .before in
+cast-looks : tie.Need-cast-looks
+cast-looks c =
+    let at-find-frame = c .before in
+    let past-refusal = at-find-frame .before .before in
     let at-page-refusal = past-refusal .before in
-    let h = few-frames _ _ (at-page-refusal .page-refusal .ensures) (past-refusal .if1 .left) refl in omega (arith, h)
+    let h = few-frames _ _ (at-page-refusal .page-refusal .ensures) (past-refusal .if1 .left) refl in omega (arith, h, at-find-frame .find-frame .ensures .1)
+
+cast-t18 : tie.Need-cast-t18
+cast-t18 c =
+    let at-find-frame = c .before .before .before .before in
+    let past-refusal = at-find-frame .before .before in
+    let at-page-refusal = past-refusal .before in
+    let h = few-frames _ _ (at-page-refusal .page-refusal .ensures) (past-refusal .if1 .left) refl in omega (arith, h, at-find-frame .find-frame .ensures .1)
 
 -- the frame that holds it
 returns-2 : tie.Need-returns-2
 returns-2 c =
-    let at-find-frame = c .before in
+    let past-found = c .before in
+    let at-find-frame = past-found .before .before .before in
     let past-refusal = at-find-frame .before .before in
     let at-page-refusal = past-refusal .before in
-    find-at _ _ (at-page-refusal .page-refusal .ensures) (past-refusal .if1 .left) refl (at-find-frame .find-frame .ensures) (c .if2 .taken)
+    let r = at-find-frame .find-frame .ensures in
+    find-at _ _ (at-page-refusal .page-refusal .ensures) (past-refusal .if1 .left) refl (r .0) (past-found .if2 .taken) (r .1)
 
 -- no frame
 returns-3 : tie.Need-returns-3
 returns-3 c =
-    let at-find-frame = c .before in
+    let at-find-frame = c .before .before .before in
     let past-refusal = at-find-frame .before .before in
     let at-page-refusal = past-refusal .before in
-    find-absent _ _ (at-page-refusal .page-refusal .ensures) (past-refusal .if1 .left) refl (at-find-frame .find-frame .ensures) (c .if2 .left)
+    let r = at-find-frame .find-frame .ensures in
+    find-absent _ _ (at-page-refusal .page-refusal .ensures) (past-refusal .if1 .left) refl (r .0) (c .if2 .left) (r .1)
 
 pub find-spec : {M : Type 1} → statement M
 find-spec =
     tie.close
-    (tie.spec page-refusal-requires returns find-frame-requires cast-t17 returns-2 returns-3)
+    (tie.spec page-refusal-requires returns find-frame-requires cast-looks cast-t18 returns-2 returns-3)

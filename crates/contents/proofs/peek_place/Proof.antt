@@ -24,8 +24,8 @@ returns c = c .refused .ensures ∙ ap placeOf (answer-no _ _ _ (c .before .befo
 find-frame-requires : tie.Need-find-frame-requires
 find-frame-requires c κs = few-frames _ _ (c .before .before .page-refusal .ensures) (c .before .if1 .left) refl
 
-cast-t17 : tie.Need-cast-t17
-cast-t17 c =
+cast-t18 : tie.Need-cast-t18
+cast-t18 c =
     let past-refusal = c .before .before .before in
     let at-page-refusal = past-refusal .before in
     let h = few-frames _ _ (at-page-refusal .page-refusal .ensures) (past-refusal .if1 .left) refl in omega (arith, h)
@@ -41,7 +41,7 @@ returns-2 c =
     let past-refusal = at-find-frame .before .before in
     let at-page-refusal = past-refusal .before in
     c .in-frame .ensures
-    ∙ ap placeOf (peek-in-frame _ _ (at-page-refusal .page-refusal .ensures) (past-refusal .if1 .left) refl (at-find-frame .find-frame .ensures) (past-found .if2 .taken))
+    ∙ ap placeOf (peek-in-frame _ _ (at-page-refusal .page-refusal .ensures) (past-refusal .if1 .left) refl (at-find-frame .find-frame .ensures .0) (past-found .if2 .taken))
 
 in-store-requires : tie.Need-in-store-requires
 in-store-requires c κs = search needs
@@ -54,7 +54,7 @@ returns-3 c =
     let past-refusal = at-find-frame .before .before in
     let at-page-refusal = past-refusal .before in
     c .in-store .ensures
-    ∙ ap placeOf (peek-in-store _ _ (at-page-refusal .page-refusal .ensures) (past-refusal .if1 .left) refl (at-find-frame .find-frame .ensures) (past-found .if2 .left))
+    ∙ ap placeOf (peek-in-store _ _ (at-page-refusal .page-refusal .ensures) (past-refusal .if1 .left) refl (at-find-frame .find-frame .ensures .0) (past-found .if2 .left))
 
 pub peek-place-spec : {M : Type 1} → statement M
 peek-place-spec =
@@ -64,7 +64,7 @@ peek-place-spec =
     refused-requires
     returns
     find-frame-requires
-    cast-t17
+    cast-t18
     in-frame-requires
     returns-2
     in-store-requires

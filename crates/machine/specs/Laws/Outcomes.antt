@@ -13,7 +13,7 @@ use Rattle.machine.specs.declared.Handle.{Handle}
 use Rattle.machine.specs.Tests.{_and_, pick, Rule, firstBroken, verdict}
 use Rattle.machine.specs.Laws.TestLaws.{clash, and-true, pick-either, verdict-yes, verdict-no, numbered, broken-then}
 use Rattle.machine.specs.Machine.{State}
-use Rattle.machine.specs.Answers.{Answer, refused, Out, out}
+use Rattle.machine.specs.Answers.{Answer, refused, frame, nowhere, Out, out}
 use Rattle.machine.specs.Rules.{wordOf}
 use Rattle.machine.specs.Calls.{decide, missOut, pinnedOut, payloadPlace, foundAnswer}
 use Rattle.machine.specs.History.{accepted}
@@ -139,6 +139,20 @@ module _ (s : State) (rules : List Rule) (a : Out) where
   pub same-by : (others : List Rule) → firstBroken rules ≡ firstBroken others → decide s rules a ≡ decide s others a
   unfolding decide
   same-by others e = ap (λ (n : ℕ). verdict n (λ m. out (refused m) s) a) e
+
+-- ---- find's answers: a refusal, a frame and 'absent' are apart; a frame has one index and one count, 'absent' one count
+
+pub refused-no-frame : {n f looks : ℕ} → refused n ≡ frame f looks → ⊥
+refused-no-frame e = let z : _≡_ {A = ℕ} 0 1 = cc in omega arith
+
+pub absent-no-frame : {m f looks : ℕ} → nowhere m ≡ frame f looks → ⊥
+absent-no-frame e = let z : _≡_ {A = ℕ} 0 1 = cc in omega arith
+
+pub one-found : {g m f looks : ℕ} → frame g m ≡ frame f looks → (g ≡ f) × (m ≡ looks)
+one-found e = (cc, cc)
+
+pub one-absence : {m looks : ℕ} → nowhere m ≡ nowhere looks → m ≡ looks
+one-absence e = cc
 
 -- ---- what peek, find and fix answer where no rule is broken is no refusal
 

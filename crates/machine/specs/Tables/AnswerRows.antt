@@ -1,6 +1,6 @@
 -- Answers in code, and what show, peek, word and find give.
 use mathlib.Core.Path.{_≡_, refl}
-use mathlib.Core.Bool.{true, false}
+use mathlib.Core.Bool.{true}
 use mathlib.Core.List.{List, [], _∷_}
 use lib.ListN.{replicate}
 use Rattle.machine.specs.declared.FixAnswer.the-variants.{Fixed, Refused}
@@ -9,11 +9,18 @@ use Rattle.machine.specs.declared.FindAnswer.the-variants.{At, Absent, R
 use Rattle.machine.specs.Machine.{State, frameIndex, pageNumber}
 use Rattle.machine.specs.Answers.{Answer, refused, done, handle, payload, inFrames, inStore, number, frame, nowhere, doneAnswer, fixAnswer, wordAnswer, findAnswer, placeOf, Shown, handedBack}
 use Rattle.machine.specs.Calls.{showCall, peekCall, wordCall, findCall}
-use Rattle.machine.specs.Tables.Rows.{resident, names, swizzledTo, page, machine, handleOf, Case, is, answers, placed, leaves, hands, allHold}
+use Rattle.machine.specs.Tables.Rows.{empty, resident, names, swizzledTo, page, machine, handleOf, Case, is, answers, placed, leaves, refuses, hands, allHold}
 
 -- page 1 in frame 1 by the root's slot 0, page 2 not resident, named by the root's slot 1
 abbrev two : State
 two = machine 1 ((resident 0 1 2, page (swizzledTo 1 ∷ names 2 ∷ []) 10) ∷ (resident 1 1 1, page [] 11) ∷ []) (page (names 1 ∷ []) 20 ∷ page [] 21 ∷ page [] 22 ∷ [])
+
+-- page 1 in frame 2, an empty frame before it and one after it
+abbrev gaps : State
+gaps =
+    machine 1
+    ((resident 0 0 0, page (swizzledTo 2 ∷ names 2 ∷ []) 10) ∷ (empty, page [] 11) ∷ (resident 1 0 0, page [] 12) ∷ (empty, page [] 13) ∷ [])
+    (page (names 1 ∷ []) 20 ∷ page [] 21 ∷ page [] 22 ∷ [])
 
 -- what is handed back where frames and store are lent at byte 1,000 of block 5 and at byte 2,000 of block 6
 abbrev handed : Answer → Shown
@@ -26,8 +33,8 @@ answerTable =
     ∷ answers (fixAnswer (Refused 15)) (refused 15)
     ∷ answers (wordAnswer (Names (pageNumber 7))) (number 7)
     ∷ answers (wordAnswer (RefusedWord 4)) (refused 4)
-    ∷ answers (findAnswer (At (frameIndex 3))) (frame 3)
-    ∷ answers (findAnswer Absent) nowhere
+    ∷ answers (findAnswer (At (frameIndex 3) 9)) (frame 3 9)
+    ∷ answers (findAnswer (Absent 8)) (nowhere 8)
     ∷ answers (findAnswer (RefusedFind 6)) (refused 6)
     ∷ answers (doneAnswer 0) done
     ∷ answers (doneAnswer 9) (refused 9)
@@ -45,8 +52,16 @@ answerTable =
     ∷ leaves (wordCall two (handleOf 0 0) 0) (number 1) two
     ∷ leaves (wordCall two (handleOf 0 0) 1) (number 2) two
     ∷ leaves (wordCall two (handleOf 0 0) 2) (number 0) two
-    ∷ leaves (findCall two (pageNumber 1)) (frame 1) two
-    ∷ leaves (findCall two (pageNumber 2)) nowhere two
+    -- Request A.2: "Its answer gains the frames looked at: that frame's index plus 1, or F if absent." In the last frame and absent, both are F.
+    ∷ leaves (findCall two (pageNumber 0)) (frame 0 1) two
+    ∷ leaves (findCall two (pageNumber 1)) (frame 1 2) two
+    ∷ leaves (findCall two (pageNumber 2)) (nowhere 2) two
+    -- "it is to go from frame 0 on and end at the frame that holds it": empty frames before it count, frames after it don't
+    ∷ leaves (findCall gaps (pageNumber 0)) (frame 0 1) gaps
+    ∷ leaves (findCall gaps (pageNumber 1)) (frame 2 3) gaps
+    ∷ leaves (findCall gaps (pageNumber 2)) (nowhere 4) gaps
+    -- "A refused call answers its number alone."
+    ∷ refuses (λ s. findCall s (pageNumber 3)) gaps 6
     ∷ []
 
 pub answer-rows : allHold answerTable ≡ true

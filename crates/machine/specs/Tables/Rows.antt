@@ -76,8 +76,8 @@ numbers done = 0 ∷ []
 numbers (handle f p looks) = 0 ∷ f ∷ p ∷ looks ∷ []
 numbers (payload b a n) = 0 ∷ a ∷ n ∷ []
 numbers (number p) = 0 ∷ p ∷ []
-numbers (frame f) = 0 ∷ f ∷ []
-numbers nowhere = 0 ∷ []
+numbers (frame f looks) = 0 ∷ f ∷ looks ∷ []
+numbers (nowhere looks) = 0 ∷ looks ∷ []
 
 -- which answer it is
 abbrev which : Answer → ℕ
@@ -87,8 +87,8 @@ which (handle f p looks) = 2
 which (payload inFrames a n) = 3
 which (payload inStore a n) = 4
 which (number p) = 5
-which (frame f) = 6
-which nowhere = 7
+which (frame f looks) = 6
+which (nowhere looks) = 7
 
 abbrev fields : FrameRecord → List ℕ
 fields r = r .used ∷ r .dirty ∷ r .usage ∷ r .slot ∷ r .parent .0 ∷ r .pins ∷ r .page .0 ∷ []

@@ -13,7 +13,7 @@ use Rattle.machine.specs.Laws.TestLaws.{pick-either}
 use Rattle.machine.specs.Machine.{state, zeroPool, found}
 use Rattle.machine.specs.Soundness.{sound}
 use Rattle.machine.specs.Sweep.{firstEmpty}
-use Rattle.machine.specs.Answers.{Answer, refused, done, payload, inFrames, inStore, frame, nowhere, Out, out}
+use Rattle.machine.specs.Answers.{Answer, refused, done, payload, inFrames, inStore, Out, out}
 use Rattle.machine.specs.Calls.{opened, showCall, fixCall, payloadPlace, foundAnswer}
 use Rattle.machine.specs.History.{root, fix, unfix, show, peek, find, Row, row, Point, continued, reopened, next}
 use Rattle.machine.specs.Theorem.View.{first-root}
@@ -47,8 +47,7 @@ module _ (x : Point) (I : Invariant x) where
 
   pub find-keeps : (q : PageNumber) → Invariant (continued (row (find q)) (out (foundAnswer (x .now) (q .0)) (x .now)) x)
   unfolding pick foundAnswer
-  find-keeps q = pick-either (λ (a : Answer). Invariant (continued (row (find q)) (out a (x .now)) x)) (ltb (found (x .now .pool) (q .0)) (x .now .pool .count))
-      (frame (found (x .now .pool) (q .0))) nowhere I I
+  find-keeps q = pick-either (λ (a : Answer). Invariant (continued (row (find q)) (out a (x .now)) x)) (ltb (found (x .now .pool) (q .0)) (x .now .pool .count)) _ _ I I
 
   -- ---- fix
   pub fix-keeps : (h : Handle) (k : ℕ) → Invariant (continued (row (fix h k)) (fixCall (x .now) h k) x)

@@ -1,36 +1,36 @@
 -- Demand 3's words for residence and pins, read by the invariant: the frame that find gives holds the page, and the balance is the records' pins. Assumes nothing.
 use Prim.Native.Nat.{ℕ, _+_, _<_}
-use mathlib.Core.Path.{_≡_, refl, sym, _∙_, ap}
+use mathlib.Core.Path.{_≡_, refl, sym, _∙_}
 use mathlib.Core.Logic.{_≢_}
 use mathlib.Core.List.{[], _∷_}
 use native.Mathlib.Omega.{arith}
 use borrow.Author.Tests.{lt-ltb, le-ltb, ltb-true}
 use Rattle.machine.specs.Laws.TestLaws.{kept-then, none-broken, pick-yes, pick-no}
 use Rattle.machine.specs.Machine.{pageNumber, found}
-use Rattle.machine.specs.Answers.{refused, frame, nowhere, Out, out}
+use Rattle.machine.specs.Answers.{frame, nowhere, out}
 use Rattle.machine.specs.Rules.{rule6}
 use Rattle.machine.specs.Calls.{foundAnswer, findCall}
 use Rattle.machine.specs.History.{Point}
 use Rattle.machine.specs.Demand3.{InFrame, Resident, Pinned}
 use Rattle.machine.specs.Theorem.View.{view, Absent}
 use Rattle.machine.specs.Theorem.Invariant.{Invariant}
-use Rattle.machine.specs.Laws.Outcomes.{kept, broken, granted, denied}
+use Rattle.machine.specs.Laws.Outcomes.{kept, broken, granted, denied, answers-as, refused-no-frame, absent-no-frame, one-found}
 use Rattle.machine.specs.Theorem.Holders.{Holder, place, held, unheld, found-holder, found-absent}
 use Rattle.machine.specs.Theorem.CallCases.{after-pool, find-case}
 
 module _ (x : Point) (I : Invariant x) where
   -- ---- find's answer
-  answer-held : (p f : ℕ) → Holder (view (x .now)) p f → foundAnswer (x .now) p ≡ frame f
+  answer-held : (p f : ℕ) → Holder (view (x .now)) p f → (looks : ℕ) × (foundAnswer (x .now) p ≡ frame f looks)
   unfolding foundAnswer
   answer-held p f h =
       let e : found (x .now .pool) p ≡ f = found-holder (x .now) (I .shape) p f h in
-      rw e (sym (pick-yes nowhere (lt-ltb f (x .now .pool .count) (h .at .lt)) refl))
+      rw e (_, sym (pick-yes _ (lt-ltb f (x .now .pool .count) (h .at .lt)) refl))
 
-  answer-absent : (p : ℕ) → Absent (view (x .now)) p → foundAnswer (x .now) p ≡ nowhere
+  answer-absent : (p : ℕ) → Absent (view (x .now)) p → (looks : ℕ) × (foundAnswer (x .now) p ≡ nowhere looks)
   unfolding foundAnswer
   answer-absent p a =
       let e : found (x .now .pool) p ≡ x .now .pool .count = found-absent (x .now) p a in
-      sym (pick-no _ (le-ltb (found (x .now .pool) p) (x .now .pool .count) (omega arith)) refl)
+      (_, sym (pick-no _ (le-ltb (found (x .now .pool) p) (x .now .pool .count) (omega arith)) refl))
 
   answers : (p : ℕ) → p < x .now .pool .pages → findCall (x .now) (pageNumber p) ≡ out (foundAnswer (x .now) p) (x .now)
   unfolding findCall
@@ -41,31 +41,24 @@ module _ (x : Point) (I : Invariant x) where
 
   -- ---- a page is in a frame exactly where that holds it
   pub in-frame : (p f : ℕ) → Holder (view (x .now)) p f → InFrame x p f
-  in-frame p f h = ap (λ (o : Out). o .answer) (answers p (rw (h .page) at (I .shape .pageLt f (h .at)))) ∙ answer-held p f h
+  in-frame p f h =
+      let a = answer-held p f h in
+      (a .0, answers-as (answers p (rw (h .page) at (I .shape .pageLt f (h .at)))) ∙ a .1)
 
   pub resident-of : (p f : ℕ) → Holder (view (x .now)) p f → Resident x p
   resident-of p f h = (f, in-frame p f h)
 
-  found-answer : (p f : ℕ) → foundAnswer (x .now) p ≡ frame f → Holder (view (x .now)) p f
-  found-answer p f e = elim (place (x .now) p) [
-    | held h ↦ let q : found (x .now .pool) p ≡ f = same-frame (sym (answer-held p _ h) ∙ e) in rw q at h
-    | unheld a ↦ absurd (no-frame (sym (answer-absent p a) ∙ e))
+  found-answer : (p f looks : ℕ) → foundAnswer (x .now) p ≡ frame f looks → Holder (view (x .now)) p f
+  found-answer p f looks e = elim (place (x .now) p) [
+    | held h ↦ let q : found (x .now .pool) p ≡ f = one-found (sym (answer-held p _ h .1) ∙ e) .0 in rw q at h
+    | unheld a ↦ absurd (absent-no-frame (sym (answer-absent p a .1) ∙ e))
   ]
-    where
-      same-frame : {g : ℕ} → frame g ≡ frame f → g ≡ f
-      same-frame e = cc
-
-      no-frame : nowhere ≡ frame f → ⊥
-      no-frame e = let z : _≡_ {A = ℕ} 0 1 = cc in omega arith
 
   pub holder : (p f : ℕ) → InFrame x p f → Holder (view (x .now)) p f
-  holder p f e = elim (find-case x I (pageNumber p)) [
-    | granted l q ↦ found-answer p f (sym (ap (λ (o : Out). o .answer) q) ∙ e)
-    | denied n u q ↦ absurd (refused-none n (sym (ap (λ (o : Out). o .answer) q) ∙ e))
+  holder p f (looks, e) = elim (find-case x I (pageNumber p)) [
+    | granted l q ↦ found-answer p f looks (sym (answers-as q) ∙ e)
+    | denied n u q ↦ absurd (refused-no-frame (sym (answers-as q) ∙ e))
   ]
-    where
-      refused-none : (n : ℕ) → refused n ≡ frame f → ⊥
-      refused-none n e = let z : _≡_ {A = ℕ} 0 1 = cc in omega arith
 
   pub not-resident : (p : ℕ) → Absent (view (x .now)) p → Resident x p → ⊥
   not-resident p a r = let h : Holder (view (x .now)) p (r .0) = holder p (r .0) (r .1) in a (r .0) (h .at) (h .page)

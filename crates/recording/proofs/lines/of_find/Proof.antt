@@ -29,7 +29,7 @@ bare-requires-2 c κs = search needs
 returns : tie.Need-returns
 returns c =
     let a = c .before .before .before .before .before .args in
-    rw (c .before .before .before .answer .given .1) (frame-line (a .entry .now) (c .before .page .result) (c .placed .ensures) (c .before .page .ensures))
+    rw (c .before .before .before .answer .given .1) (frame-line (a .entry .now) (c .before .page .result) _ (c .placed .ensures) (c .before .page .ensures))
 
 returns-2 : tie.Need-returns-2
 unfolding lineFor

@@ -38,7 +38,7 @@ returns-2 c =
     let at-found = c .before in
     let past-refusal = at-found .before .before in
     let at-refusal = past-refusal .before in
-    evict-absent _ _ (at-refusal .page-refusal .ensures) (past-refusal .if1 .left) refl (at-found .find-frame .ensures) (c .if2 .taken)
+    evict-absent _ _ (at-refusal .page-refusal .ensures) (past-refusal .if1 .left) refl (at-found .find-frame .ensures .0) (c .if2 .taken)
 
 mul-rec : tie.Need-mul-rec
 mul-rec c = search needs
@@ -49,8 +49,8 @@ element-copy-out-rec c =
     let at-refusal = past-refusal .before in
     let h = few-frames _ _ (at-refusal .page-refusal .ensures) (past-refusal .if1 .left) refl in omega (arith, h)
 
-cast-t28 : tie.Need-cast-t28
-cast-t28 c =
+cast-t29 : tie.Need-cast-t29
+cast-t29 c =
     let past-refusal = c .before .before .before .before in
     let at-refusal = past-refusal .before in
     let h = few-frames _ _ (at-refusal .page-refusal .ensures) (past-refusal .if1 .left) refl in omega (arith, h)
@@ -72,7 +72,7 @@ returns-3 c =
     let at-found = past-absent .before in
     let past-refusal = at-found .before .before in
     let at-refusal = past-refusal .before in
-    evict-stays _ _ (at-refusal .page-refusal .ensures) (past-refusal .if1 .left) refl (at-found .find-frame .ensures) (past-absent .if2 .left) (at-stays .staying .ensures) (c .if3 .taken)
+    evict-stays _ _ (at-refusal .page-refusal .ensures) (past-refusal .if1 .left) refl (at-found .find-frame .ensures .0) (past-absent .if2 .left) (at-stays .staying .ensures) (c .if3 .taken)
 
 take-out-requires : tie.Need-take-out-requires
 take-out-requires c κs =
@@ -82,7 +82,7 @@ take-out-requires c κs =
     let at-found = past-absent .before in
     let past-refusal = at-found .before .before in
     let at-refusal = past-refusal .before in
-    evict-removable _ _ (at-refusal .page-refusal .ensures) (past-refusal .if1 .left) refl (at-found .find-frame .ensures) (past-absent .if2 .left) (at-stays .staying .ensures) (past-stays .if3 .left)
+    evict-removable _ _ (at-refusal .page-refusal .ensures) (past-refusal .if1 .left) refl (at-found .find-frame .ensures .0) (past-absent .if2 .left) (at-stays .staying .ensures) (past-stays .if3 .left)
 
 empty-requires : tie.Need-empty-requires
 empty-requires c κs = search needs
@@ -121,7 +121,7 @@ returns-4 c =
     let at-found = past-absent .before in
     let past-refusal = at-found .before .before in
     let at-refusal = past-refusal .before in
-    evict-done _ _ (at-refusal .page-refusal .ensures) (past-refusal .if1 .left) refl (at-found .find-frame .ensures) (past-absent .if2 .left) (at-stays .staying .ensures) (past-stays .if3 .left) (c .empty .ensures) (at-take-out .take-out .ensures)
+    evict-done _ _ (at-refusal .page-refusal .ensures) (past-refusal .if1 .left) refl (at-found .find-frame .ensures .0) (past-absent .if2 .left) (at-stays .staying .ensures) (past-stays .if3 .left) (c .empty .ensures) (at-take-out .take-out .ensures)
 
 pub evict-spec : {M : Type 1} → statement M
 evict-spec =
@@ -137,7 +137,7 @@ evict-spec =
     returns-2
     mul-rec
     element-copy-out-rec
-    cast-t28
+    cast-t29
     staying-requires
     same-length-5
     same-length-6
