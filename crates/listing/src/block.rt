@@ -1,5 +1,4 @@
 // The records in a block of bytes.
-use crate::text;
 use page::copy;
 use pool::Pool;
 ghost use Prim.Native.Nat.{_-_, _*_, _/_, _%_, _≤_};
@@ -8,7 +7,7 @@ ghost use mathlib.Core.List.{[]};
 ghost use lib.ListN.{length, take, drop};
 ghost use Rattle.io.specs.Counts.{Counts};
 ghost use Rattle.machine.specs.Machine.{state};
-ghost use Rattle.listing.specs.Printing.{printed, listedFrom};
+ghost use Rattle.printing.specs.Printing.{printed, listedFrom};
 
 // The bytes of a record.
 pub const RECORD: usize = 16;
@@ -51,7 +50,7 @@ pub fn list_records(
         copy::copy_into(&mut entry, &block[at..at + RECORD]);
         let line = recording::list_record(pool, frames, store, &entry);
         odd = std::num::wrapping_add_u64(odd, oddity(line.refusal));
-        end = text::put_line(text, end, line);
+        end = printing::put_line(text, end, line);
         pool = line.pool;
         i += 1;
     }

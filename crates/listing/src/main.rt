@@ -1,7 +1,6 @@
 // The call listing: reads records of 16 bytes from standard input to its end, and prints a line for each. What is there is read in one block, and its lines are out before more is read.
 mod block;
 mod message;
-mod text;
 
 use libc::STDIN_FILENO;
 use libc::STDOUT_FILENO;

@@ -3,7 +3,7 @@ use Prim.Native.Nat.{ℕ, _+_, _-_, _%_, _≤_, _<_}
 use mathlib.Core.Path.{_≡_, refl, subst}
 use native.Mathlib.Omega.{arith}
 use lib.ListN.{length, take, drop, length-set}
-use Rattle.listing.specs.PrintingLaws.{still, moved}
+use Rattle.listing.specs.BlockLaws.{still, moved}
 use borrow.Author.Needs.{needs}
 use Rattle.listing.proofs.block.keep_rest.Statement.{statement}
 use Rattle.listing.proofs.block.keep_rest.Tie as tie

@@ -6,8 +6,9 @@ use native.Mathlib.Omega.{arith}
 use lib.ListN.{length, take}
 use Rattle.io.proofs.Counting.{counts}
 use Rattle.machine.specs.Machine.{state}
-use Rattle.listing.specs.Printing.{printed, listedFrom}
-use Rattle.listing.specs.PrintingLaws.{all-listed, none-listed, one-listed, one-printed}
+use Rattle.printing.specs.Printing.{printed, listedFrom}
+use Rattle.listing.specs.BlockLaws.{all-listed, none-listed, one-listed}
+use Rattle.printing.specs.PrintingLaws.{one-printed}
 use borrow.Author.Needs.{needs}
 use Rattle.listing.proofs.block.list_records.Statement.{statement}
 use Rattle.listing.proofs.block.list_records.Tie as tie

@@ -1,14 +1,14 @@
--- `listing::text::put_number` meets its contract: a u16 has at most 5 digits. Assumes nothing.
+-- `printing::put_number` meets its contract: a u16 has at most 5 digits. Assumes nothing.
 use Prim.Native.Nat.{_+_, _-_, _≤_, _<_}
 use mathlib.Core.Path.{_≡_, refl}
 use mathlib.Core.List.{_++_}
 use native.Mathlib.Omega.{arith}
 use lib.ListN.{length, take, length-set}
 use Rattle.io.specs.Digits.{digits as spelled, Fewest}
-use Rattle.listing.specs.PrintingLaws.{small, few, none-put, put-digit, put-after}
+use Rattle.printing.specs.PrintingLaws.{small, few, none-put, put-digit, put-after}
 use borrow.Author.Needs.{needs}
-use Rattle.listing.proofs.text.put_number.Statement.{statement}
-use Rattle.listing.proofs.text.put_number.Tie as tie
+use Rattle.printing.proofs.put_number.Statement.{statement}
+use Rattle.printing.proofs.put_number.Tie as tie
 
 abbrev Inv-loop : tie.InvT-loop
 Inv-loop text₀ at n after digits k i₀ text i = (i ≤ k) × (k ≤ 5) × (k ≤ length digits) × (length text ≡ length text₀) × Fewest 10 1 n k × (take k digits ≡ spelled 10 k n) × (take (at + i) text ≡ take at text₀ ++ take i digits)

@@ -1,9 +1,9 @@
--- `listing::text::put_line` meets its contract: four numbers one after the other. Assumes nothing.
+-- `printing::put_line` meets its contract: four numbers one after the other. Assumes nothing.
 use native.Mathlib.Omega.{arith}
-use Rattle.listing.specs.PrintingLaws.{line-put}
+use Rattle.printing.specs.PrintingLaws.{line-put}
 use borrow.Author.Needs.{needs}
-use Rattle.listing.proofs.text.put_line.Statement.{statement}
-use Rattle.listing.proofs.text.put_line.Tie as tie
+use Rattle.printing.proofs.put_line.Statement.{statement}
+use Rattle.printing.proofs.put_line.Tie as tie
 
 cast-put-number : tie.Need-cast-put-number
 cast-put-number c = search needs

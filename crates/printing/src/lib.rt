@@ -4,7 +4,7 @@ ghost use Prim.Native.Nat.{_+_, _≤_};
 ghost use mathlib.Core.Path.{_≡_};
 ghost use lib.ListN.{length, take};
 ghost use Rattle.recording.specs.Listing.{lineNumbers};
-ghost use Rattle.listing.specs.Printing.{withNumber, withLine};
+ghost use Rattle.printing.specs.Printing.{withNumber, withLine};
 
 // Puts a number in decimal and a byte after it into a text from `at` on, and gives where they end.
 fn put_number(text: &mut [u8], at: usize, n: u16, after: u8) -> usize
