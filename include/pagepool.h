@@ -10,8 +10,8 @@
  *
  * Answers. `refusal` is 0 where the call was accepted, and otherwise the number of the first broken rule (enum pool_refusal).
  * An accepted answer's fields all count. A refused call has changed nothing: the records in its answer are those that it was
- * handed, to go on with, and every other field is 0. Open alone takes no records: refused, it answers all-zero ones, and the
- * host goes on with its old ones.
+ * handed, to go on with, and so is the generator in draw's; every other field is 0. Open alone takes no records: refused, it
+ * answers all-zero ones, and the host goes on with its old ones.
  *
  * Handles. A handle is a frame and the page in it. It is good from the answer of root or fix that gave it until each of the
  * page's pins was taken off by an unfix: as long as the page is pinned it stays in that frame, whatever else is called but
@@ -43,11 +43,11 @@ extern "C" {
 /*
  * ---- version
  *
- * Raised by each change of a signature, a struct or an answer: MINOR where programs that were written and compiled for the
- * version before go on working with the new archive, otherwise MAJOR.
+ * Raised by each new call and by each change of a signature, a struct or an answer: MINOR where programs that were written and
+ * compiled for the version before go on working with the new archive, otherwise MAJOR.
  */
 #define PAGEPOOL_VERSION_MAJOR 3
-#define PAGEPOOL_VERSION_MINOR 0
+#define PAGEPOOL_VERSION_MINOR 1
 #define PAGEPOOL_VERSION (1000 * PAGEPOOL_VERSION_MAJOR + PAGEPOOL_VERSION_MINOR)
 
 /* ---- figures */
@@ -147,6 +147,14 @@ struct pool_handle {
     pool_page_number page;
 };
 
+/*
+ * The generator of a workload: a number that is handed to each draw, which answers the one to go on with. Any number will do.
+ * From 0 each draw gives 0: no seed gives it, and no draw leads there from another number.
+ */
+struct pool_generator {
+    uint32_t number;
+};
+
 /* ---- answers */
 
 struct pool_done {
@@ -185,6 +193,22 @@ struct pool_place {
     bool in_store;
     size_t start;
     size_t size;
+};
+
+/*
+ * A record of the call listing, and the generator to go on with. Beside a refusal the record is all zero, and the generator is
+ * the one that was handed in.
+ */
+struct pool_drawn {
+    uint8_t refusal;
+    /*
+     * By byte: 0 the call, 1 the frame, 2 and 3 the page (little-endian), 4 the slot, 5 the offset, 6 the length, 7 to 15 the
+     * data. The calls are 1 root, 2 fix, 3 unfix, 4 write, 5 link, 6 unlink, 7 evict, 8 settle, 9 find. Frame and page are a
+     * handle, but that evict and find go by the page alone, and that link's handle has its page in 7 and 8 (little-endian):
+     * 2 and 3 are the page to be linked.
+     */
+    uint8_t entry[16];
+    struct pool_generator generator;
 };
 
 /* The payload there, in the host's own buffer: `place.size` bytes. */
@@ -278,6 +302,33 @@ struct pool_done pool_settle(struct pool pool, const uint8_t *frames, size_t fra
 struct pool_found pool_find(struct pool pool, const uint8_t *frames, size_t frames_size, const uint8_t *store,
                             size_t store_size, pool_page_number page);
 
+/*
+ * ---- a workload that anyone can repeat
+ *
+ * It begins with a pool just opened and the generator of a seed. Draw a record on the pool as it is, make the record's call, and
+ * so on:
+ *     struct pool_generator generator = pool_seeded(7);
+ *     struct pool_drawn drawn = pool_draw(pool, frames, sizeof frames, store, sizeof store, generator);
+ *     generator = drawn.generator;
+ * and then the call of drawn.entry. The same seed, F, N and store give the same records and answers on every machine. Kept one
+ * after the other the records are a recording; ./listing gives the same answers for it where the pool is the listing's, 4 frames
+ * and 16 pages of zeros.
+ */
+
+/* Gives the generator of a seed. A seed of 0 is read as 1. */
+struct pool_generator pool_seeded(uint32_t seed);
+
+/*
+ * Draws five numbers, and makes a record of the call listing of them. The pool stays as it is: a record is drawn, not run.
+ * Refused: 1, 2.
+ *
+ * The numbers are those of the 32-bit xorshift generator of Marsaglia with shifts left 13, right 17, left 5. Call, frame, page,
+ * slot and offset are their remainders by 9 (plus 1), F, N, 16 and 193, in this order, whichever the call uses. Length and data
+ * are 0, but that link's handle has the page that is in the drawn frame, or 0 where that is empty.
+ */
+struct pool_drawn pool_draw(struct pool pool, const uint8_t *frames, size_t frames_size, const uint8_t *store,
+                            size_t store_size, struct pool_generator generator);
+
 /* ---- the layout of these structs, as the archive has it */
 
 #if defined(__cplusplus)
@@ -335,6 +386,14 @@ POOL_OFFSET(pool_place, in_store, 1);
 POOL_OFFSET(pool_place, start, 8);
 POOL_OFFSET(pool_place, size, 16);
 
+POOL_SIZE(pool_generator, 4);
+POOL_OFFSET(pool_generator, number, 0);
+
+POOL_SIZE(pool_drawn, 24);
+POOL_OFFSET(pool_drawn, refusal, 0);
+POOL_OFFSET(pool_drawn, entry, 1);
+POOL_OFFSET(pool_drawn, generator, 20);
+
 #undef POOL_OFFSET
 #undef POOL_SIZE
 #undef POOL_ASSERT
@@ -346,6 +405,7 @@ struct pool_fixed pool_layout_fixed(void);
 struct pool_named pool_layout_named(void);
 struct pool_found pool_layout_found(void);
 struct pool_place pool_layout_place(void);
+struct pool_drawn pool_layout_drawn(void);
 
 #ifdef __cplusplus
 }

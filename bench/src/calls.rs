@@ -1,9 +1,10 @@
 //! The calls that are timed, each with the state that it is made on.
 use crate::boundary;
 use crate::timing::{repeat, Variants};
-use pagepool::{raw, NoRule, PageNumber, Refusal, MAX_PINS, MAX_USAGE, PAGE_SIZE};
+use pagepool::{raw, Entry, Generator, NoRule, PageNumber, Refusal, MAX_PINS, MAX_USAGE, PAGE_SIZE};
 use pool_bench::baseline;
 use pool_bench::shapes::{absent, last_named, last_resident, pinned, unnamed, State, EMPTY_SLOT, ROOT};
+use std::cell::Cell;
 use std::hint::black_box;
 
 pub fn accept<T>(answer: Result<T, Refusal>) {
@@ -244,4 +245,24 @@ pub fn settle_dirty(state: &State) -> (State, Variants) {
 
 pub fn open(state: &State) -> (State, Variants) {
     repeated!(state.clone(), boundary::only_out, open())
+}
+
+/// Draws by a generator of its own that goes along, so that the records differ.
+fn drawing(draw: impl Fn(&State, &mut Generator) -> Result<Entry, Refusal>) -> impl Fn(&mut State) {
+    let along = Cell::new(Generator { number: 1 });
+    move |state| {
+        let mut generator = along.get();
+        accept(draw(state, &mut generator));
+        along.set(generator);
+    }
+}
+
+pub fn draw(state: &State) -> (State, Variants) {
+    let variants = Variants {
+        library: repeat(drawing(|s, generator| s.draw(generator))),
+        baseline: repeat(drawing(|s, generator| baseline::draw(&s.records, &s.frames, &s.store, generator))),
+        copy: repeat(boundary::only_in),
+        undo: repeat(|_| ()),
+    };
+    (state.clone(), variants)
 }

@@ -1,4 +1,3 @@
 //! The pool's calls in plain Rust, to measure the proved library against.
 pub mod baseline;
-pub mod random;
 pub mod shapes;

@@ -25,7 +25,7 @@ usage: pool-bench [CALL]                   print the table, or the rows of one c
        pool-bench --write                  also put it into docs/
        pool-bench --check FOLDER           put it into another folder, after one pass, and print nothing
        pool-bench --figures CALL           print a round of a comparison
-       pool-bench --compare A B [CALL]     print the table of two programs
+       pool-bench --compare A B [CALL]     print the table of two programs; -CALL for the rows of all calls but one
 ";
 
 fn main() -> io::Result<ExitCode> {

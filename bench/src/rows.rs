@@ -1,6 +1,6 @@
 //! The rows of the table, and their figures.
 use crate::calls::{
-    evict_dirty, evict_parent, find_absent, find_first, find_last, find_middle, fix_clean, fix_dirty,
+    draw, evict_dirty, evict_parent, find_absent, find_first, find_last, find_middle, fix_clean, fix_dirty,
     fix_half_pinned, fix_hit, fix_one_open, link, link_named, link_taken, open, peek, root, settle_dirty,
     show, unfix, unlink, word, write,
 };
@@ -55,6 +55,7 @@ const WITH_FULL_FRAMES: &[Call] = &[
     ("unlink", unlink),
     ("evict, dirty", evict_dirty),
     ("settle, all dirty", settle_dirty),
+    ("draw", draw),
 ];
 
 const WITH_OTHER_PINS: &[Call] = &[
@@ -76,6 +77,7 @@ const ON_THE_ROOT: &[Call] = &[
     ("link", link),
     ("unlink", unlink),
     ("settle, all dirty", settle_dirty),
+    ("draw", draw),
 ];
 
 const OF_EVERY_USER: &[Call] = &[
@@ -86,6 +88,7 @@ const OF_EVERY_USER: &[Call] = &[
     ("show", show),
     ("word", word),
     ("write, 8 bytes", write),
+    ("draw", draw),
 ];
 
 /// A call whose pass over the store ends before the store does.
@@ -157,12 +160,17 @@ pub fn calls() -> Vec<&'static str> {
     calls
 }
 
-/// Whether a row begins with a word.
-pub fn any(word: &str) -> bool {
-    BLOCKS.iter().flat_map(|block| block.calls).any(|(label, _)| label.starts_with(word))
+/// Whether a row is asked for by a word: it begins with that, or where a - stands before the word, doesn't.
+fn is_asked(label: &str, word: &str) -> bool {
+    word.strip_prefix('-').map_or_else(|| label.starts_with(word), |call| !label.starts_with(call))
 }
 
-/// The rows that begin with a word, timed in so many passes.
+/// Whether a word asks for any row.
+pub fn any(word: &str) -> bool {
+    BLOCKS.iter().flat_map(|block| block.calls).any(|(label, _)| is_asked(label, word))
+}
+
+/// The rows that a word asks for, timed in so many passes.
 pub fn measured(word: &str, passes: u32) -> Vec<Figure> {
     let mut rows: Vec<Row> = BLOCKS.iter().flat_map(|block| block.rows(word)).collect();
     for pass in 0..passes {
@@ -179,9 +187,9 @@ struct Row {
 }
 
 impl Block {
-    /// The rows that begin with a word: the sizes of a call one after the other.
+    /// The rows that a word asks for: the sizes of a call one after the other.
     fn rows(&'static self, word: &str) -> Vec<Row> {
-        let calls = self.calls.iter().filter(|(label, _)| label.starts_with(word));
+        let calls = self.calls.iter().filter(|(label, _)| is_asked(label, word));
         let sized =
             calls.flat_map(|call| self.sizes.iter().map(move |(count, pages)| (call, *count, *pages)));
         sized

@@ -1,6 +1,6 @@
 //! The deepest stack of each exported call: a thread's stack is painted, and what the call leaves of the paint tells.
 use crate::calls::{accept, dirtied};
-use pagepool::{FrameIndex, Handle, PageNumber};
+use pagepool::{FrameIndex, Generator, Handle, PageNumber};
 use pool_bench::shapes::{Shape, State, EMPTY_SLOT, ROOT};
 use std::hint::black_box;
 use std::ptr;
@@ -34,7 +34,7 @@ macro_rules! call {
 }
 
 /// Each call on its longest way.
-const CALLS: [(&str, Call); 13] = [
+const CALLS: [(&str, Call); 14] = [
     call!(open()),
     call!(root()),
     call!(fix(CHILD, 0)),
@@ -48,6 +48,7 @@ const CALLS: [(&str, Call); 13] = [
     call!(evict(LAST_RESIDENT)),
     call!(settle()),
     call!(find(LAST_PAGE)),
+    call!(draw(&mut Generator { number: 1 })),
 ];
 
 /// At F = 64 and N = 4,096, every page dirty.

@@ -1,8 +1,10 @@
 //! The baseline answers and leaves exactly what the linked library does, on random calls, refused ones too.
-use pagepool::{FrameIndex, Handle, PageNumber, Pool, Refusal, MAX_USAGE, PAGE_SIZE, PAYLOAD_SIZE, SLOTS};
+use pagepool::{
+    FrameIndex, Generator, Handle, PageNumber, Pool, Refusal, MAX_USAGE, PAGE_SIZE, PAYLOAD_SIZE, SLOTS,
+};
 use pool_bench::baseline;
-use pool_bench::random::Random;
 use pool_bench::shapes::{opened, Shape, State};
+use random::Random;
 use std::collections::BTreeMap;
 use std::fmt::Debug;
 
@@ -45,6 +47,9 @@ struct Trial {
     warmed: BTreeMap<usize, usize>,
     /// How many finds ended after so many looks, at a frame or not.
     looked: BTreeMap<(bool, u16), usize>,
+    /// How many records of each call were drawn, with data or not.
+    drawn: BTreeMap<(u8, bool), usize>,
+    generator: Generator,
 }
 
 impl Trial {
@@ -54,6 +59,8 @@ impl Trial {
             given: BTreeMap::new(),
             warmed: BTreeMap::new(),
             looked: BTreeMap::new(),
+            drawn: BTreeMap::new(),
+            generator: Generator::seeded(seed as u32),
         }
     }
 
@@ -86,7 +93,7 @@ impl Trial {
 
     fn any_call(&mut self, a: &mut State, b: &mut State) -> u8 {
         let (handle, slot, page) = (self.handle(a), self.slot(), self.page(a));
-        match self.random.below(40) {
+        match self.random.below(42) {
             0 => self.open(a, b),
             1 | 2 => same!(a, b, root()),
             3..=14 => same!(a, b, fix(handle, slot)),
@@ -99,7 +106,8 @@ impl Trial {
             32 | 33 => same!(a, b, unlink(handle, slot)),
             34..=36 => same!(a, b, evict(page)),
             37 => same!(a, b, settle()),
-            _ => self.find(a, b, page),
+            38 | 39 => self.find(a, b, page),
+            _ => self.draw(a, b),
         }
     }
 
@@ -109,6 +117,18 @@ impl Trial {
             *self.looked.entry((found.frame.is_some(), found.looks)).or_default() += 1;
         }
         agreed("find", library, baseline::find(&b.records, &b.frames, &b.store, page))
+    }
+
+    /// A draw by a generator that goes along.
+    fn draw(&mut self, a: &mut State, b: &mut State) -> u8 {
+        let mut generator = self.generator;
+        let library = a.draw(&mut self.generator);
+        let baseline = baseline::draw(&b.records, &b.frames, &b.store, &mut generator);
+        assert_eq!(self.generator, generator, "draw");
+        if let Ok(entry) = library {
+            *self.drawn.entry((entry[0], entry[7..] != [0; 9])).or_default() += 1;
+        }
+        agreed("draw", library, baseline)
     }
 
     /// An open; accepted, it is undone nine times in ten.
@@ -271,10 +291,14 @@ fn small_pools() {
         let (count, pages) = (2 + turn % 7, 2 + 15 * (turn % 4));
         trial.run(opened(count, Shape::ALL[turn % 5].store(count, pages)), 1000);
     }
-    println!("{:?}", trial.given);
+    println!("{:?}, drawn {:?}", trial.given, trial.drawn);
     let refusals = Refusal::ALL.iter().map(|refusal| refusal.number());
     let never: Vec<u8> = refusals.filter(|number| !trial.given.contains_key(number)).collect();
     assert!(never.is_empty(), "refusals never given: {never:?}");
+    let records = (1..=9).map(|call| (call, false)).chain([(5, true)]);
+    let seldom: Vec<_> =
+        records.filter(|kind| trial.drawn.get(kind).is_none_or(|times| *times < 20)).collect();
+    assert!(seldom.is_empty(), "records of a call, with data or not, seldom drawn: {seldom:?}");
 }
 
 #[test]

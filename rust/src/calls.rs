@@ -1,6 +1,6 @@
-//! The thirteen calls, each on records, frames and store lent by the caller.
+//! The thirteen calls, and the draw of a workload's next one, each on records, frames and store lent by the caller.
 use crate::raw;
-use crate::records::{FrameIndex, Handle, PageNumber, Pool};
+use crate::records::{Entry, FrameIndex, Generator, Handle, PageNumber, Pool};
 use crate::refusal::{unless_refused, Refusal};
 
 /// The answer of root and fix.
@@ -196,4 +196,40 @@ pub fn find(pool: &Pool, frames: &[u8], store: &[u8], page: PageNumber) -> Resul
     let found = call!(pool_find(*pool, frames.as_ptr, store.as_ptr, page));
     let frame = found.present.then_some(found.frame);
     unless_refused(found.refusal, Found { frame, looks: found.looks })
+}
+
+impl Generator {
+    /// The generator of a seed. A seed of 0 is read as 1.
+    pub fn seeded(seed: u32) -> Generator {
+        // SAFETY: a number is handed over, and one comes back.
+        unsafe { raw::pool_seeded(seed) }
+    }
+}
+
+/// Draws five numbers, makes a record of the call listing of them, and moves the generator on. The pool stays as it is: a record
+/// is drawn, not run. Refused: 1, 2. Then the generator stays where it was.
+///
+/// The numbers are those of the 32-bit xorshift generator of Marsaglia with shifts left 13, right 17, left 5. Call, frame, page,
+/// slot and offset are their remainders by 9 (plus 1), F, N, 16 and 193, in this order, whichever the call uses. Length and data
+/// are 0, but that link's handle has the page that is in the drawn frame, or 0 where that is empty.
+///
+/// Where each record is drawn on the pool as the calls before left it, and then run, a seed gives the same on every machine:
+///
+/// ```
+/// use pagepool::{Generator, PagePool, PAGE_SIZE};
+///
+/// let mut pool = PagePool::new([0; 4 * PAGE_SIZE], [0; 16 * PAGE_SIZE]);
+/// pool.open()?;
+/// let mut generator = Generator::seeded(1);
+/// assert_eq!(pool.draw(&mut generator)?[..6], [1, 1, 5, 0, 15, 120]); // root
+/// pool.root()?;
+/// assert_eq!(pool.draw(&mut generator)?[..6], [8, 2, 2, 0, 5, 172]); // settle
+/// pool.settle()?;
+/// assert_eq!(generator.number, 2916098932);
+/// # Ok::<(), pagepool::Refusal>(())
+/// ```
+pub fn draw(pool: &Pool, frames: &[u8], store: &[u8], generator: &mut Generator) -> Result<Entry, Refusal> {
+    let drawn = call!(pool_draw(*pool, frames.as_ptr, store.as_ptr, *generator));
+    *generator = drawn.generator;
+    unless_refused(drawn.refusal, drawn.entry)
 }

@@ -2,7 +2,8 @@
 //!
 //! The host owns the store, the frames and the pool's records, and lends all three to each call. [`PagePool`] holds the three
 //! together and has the calls as methods, with an example; the functions here take them apart. A call that is refused gives
-//! the first broken rule, a [`Refusal`], and changes nothing. What each call does says `include/pagepool.h`.
+//! the first broken rule, a [`Refusal`], and changes nothing. What each call does says `include/pagepool.h`. [`draw`] gives the
+//! record of the next call of a workload that anyone can repeat.
 #![warn(missing_docs)]
 
 mod calls;

@@ -1,6 +1,6 @@
 //! A pool together with the buffers it works on.
 use crate::calls::{self, Fixed, Found};
-use crate::records::{Handle, PageNumber, Pool};
+use crate::records::{Entry, Generator, Handle, PageNumber, Pool};
 use crate::refusal::Refusal;
 
 /// The records with the frames and the store that each call is lent, and the calls as methods. The buffers are what the host
@@ -80,6 +80,11 @@ impl<F: AsRef<[u8]>, S: AsRef<[u8]>> PagePool<F, S> {
     /// As [`find`](calls::find).
     pub fn find(&self, page: PageNumber) -> Result<Found, Refusal> {
         calls::find(&self.records, self.frames.as_ref(), self.store.as_ref(), page)
+    }
+
+    /// As [`draw`](calls::draw).
+    pub fn draw(&self, generator: &mut Generator) -> Result<Entry, Refusal> {
+        calls::draw(&self.records, self.frames.as_ref(), self.store.as_ref(), generator)
     }
 }
 

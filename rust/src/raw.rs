@@ -1,7 +1,7 @@
 //! The exported functions and the structs that they answer, as `include/pagepool.h` declares and explains them.
 #![allow(missing_docs)]
 
-use crate::records::{FrameIndex, Handle, PageNumber, Pool};
+use crate::records::{Entry, FrameIndex, Generator, Handle, PageNumber, Pool};
 
 #[repr(C)]
 #[derive(Clone, Copy, Debug)]
@@ -44,6 +44,14 @@ pub struct Place {
     pub size: usize,
 }
 
+#[repr(C)]
+#[derive(Clone, Copy, Debug)]
+pub struct Drawn {
+    pub refusal: u8,
+    pub entry: Entry,
+    pub generator: Generator,
+}
+
 /// Declares functions that take the records, frames and store lent as the pointers say, and then their own arguments.
 macro_rules! exported {
     ($frames:ty, $store:ty; $($name:ident($($argument:ident: $kind:ty),*) -> $answer:ty;)*) => {
@@ -68,6 +76,7 @@ exported! {
     pool_peek(page: PageNumber) -> Place;
     pool_word(handle: Handle, slot: usize) -> Named;
     pool_find(page: PageNumber) -> Found;
+    pool_draw(generator: Generator) -> Drawn;
 }
 
 exported! {
@@ -91,9 +100,12 @@ exported! {
 extern "C" {
     pub fn pool_open(frames: *mut u8, frames_size: usize, store: *const u8, store_size: usize) -> Done;
 
+    pub fn pool_seeded(seed: u32) -> Generator;
+
     pub fn pool_layout_done() -> Done;
     pub fn pool_layout_fixed() -> Fixed;
     pub fn pool_layout_named() -> Named;
     pub fn pool_layout_found() -> Found;
     pub fn pool_layout_place() -> Place;
+    pub fn pool_layout_drawn() -> Drawn;
 }

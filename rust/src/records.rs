@@ -178,3 +178,17 @@ pub struct Handle {
     /// The page.
     pub page: PageNumber,
 }
+
+/// A record of the call listing. By byte: 0 the call, 1 the frame, 2 and 3 the page (little-endian), 4 the slot, 5 the offset, 6
+/// the length, 7 to 15 the data. The calls are 1 root, 2 fix, 3 unfix, 4 write, 5 link, 6 unlink, 7 evict, 8 settle, 9 find. Frame
+/// and page are a handle, but that evict and find go by the page alone, and that link's handle has its page in 7 and 8
+/// (little-endian): 2 and 3 are the page to be linked.
+pub type Entry = [u8; 16];
+
+/// The generator of a workload: a number that is lent to each [`draw`](crate::draw), and moved on there.
+#[repr(C)]
+#[derive(Clone, Copy, Debug, PartialEq, Eq, Hash)]
+pub struct Generator {
+    /// Any number will do. From 0 each draw gives 0: no seed gives it, and no draw leads there from another number.
+    pub number: u32,
+}

@@ -1,6 +1,6 @@
 //! Reads back every field of the structs that the library fills with values of their own, and compares versions.
 use pagepool::raw;
-use pagepool::{FrameIndex, FrameRecord, Handle, PageNumber, Pool, MOST_FRAMES};
+use pagepool::{FrameIndex, FrameRecord, Generator, Handle, PageNumber, Pool, MOST_FRAMES};
 
 fn expect_pool(pool: Pool) {
     assert_eq!((pool.count, pool.pages, pool.hand), (3001, 3002, FrameIndex(200)));
@@ -54,6 +54,13 @@ fn place() {
     let place = unsafe { raw::pool_layout_place() };
     assert_eq!((place.refusal, place.in_store), (207, true));
     assert_eq!((place.start, place.size), (5001, 5002));
+}
+
+#[test]
+fn drawn() {
+    let drawn = unsafe { raw::pool_layout_drawn() };
+    assert_eq!((drawn.refusal, drawn.generator), (208, Generator { number: 5003 }));
+    assert_eq!(drawn.entry, std::array::from_fn(|i| 209 + i as u8));
 }
 
 /// The package's version is the header's.

@@ -1,4 +1,4 @@
-/* Tries what the header says of answers, handles, usages, looks, payloads and pointers. Names each claim that fails. */
+/* Tries what the header says of answers, handles, usages, looks, workloads, payloads and pointers. Names each failing claim. */
 #include "pagepool.h"
 
 #include <stdio.h>
@@ -62,6 +62,13 @@ static bool found_refused(struct pool_found answer, uint8_t refusal)
     return answer.refusal == refusal && !answer.present && answer.frame == 0 && answer.looks == 0;
 }
 
+static bool drawn_refused(struct pool_drawn answer, uint8_t refusal, struct pool_generator generator)
+{
+    static const uint8_t zeros[sizeof answer.entry];
+    return answer.refusal == refusal && memcmp(answer.entry, zeros, sizeof zeros) == 0 &&
+           answer.generator.number == generator.number;
+}
+
 /* What an accepted find answers. */
 
 static bool is_found(struct pool pool, pool_page_number page, pool_frame_index frame, uint16_t looks)
@@ -89,6 +96,7 @@ static struct pool begin(void)
 }
 
 static const struct pool_handle root = {0, 0};
+static const struct pool_generator generator = {77};
 
 static void null_and_0(void)
 {
@@ -109,6 +117,7 @@ static void null_and_0(void)
     claim("evict", done_refused(pool_evict(pool, NOTHING, 1), POOL_WRONG_LENGTH, pool));
     claim("settle", done_refused(pool_settle(pool, NOTHING), POOL_WRONG_LENGTH, pool));
     claim("find", found_refused(pool_find(pool, NOTHING, 1), POOL_WRONG_LENGTH));
+    claim("draw", drawn_refused(pool_draw(pool, NOTHING, generator), POOL_WRONG_LENGTH, generator));
 
     struct pool_done written = pool_write(pool, LENT, root, POOL_PAYLOAD_SIZE, NULL, 0);
     claim("a write of no bytes changes nothing", written.refusal == 0 && same_pool(&written.pool, &pool));
@@ -132,6 +141,7 @@ static void refused_answers(void)
     altered.records[0].usage = POOL_MAX_USAGE + 1;
     claim("altered records", fixed_refused(pool_root(altered, LENT), POOL_DISAGREE, altered));
     claim("find in altered records", found_refused(pool_find(altered, LENT, 1), POOL_DISAGREE));
+    claim("draw of altered records", drawn_refused(pool_draw(altered, LENT, generator), POOL_DISAGREE, generator));
     for (unsigned flag = 2; flag < 256; flag++) {
         struct pool used = pool, dirty = pool;
         used.records[0].used = (uint8_t)flag;
@@ -267,6 +277,59 @@ static void staying_pages(void)
     claim("but never the root", done_refused(pool_evict(done.pool, LENT, 0), POOL_IS_ROOT, done.pool));
 }
 
+static pool_page_number page_in(const uint8_t *bytes)
+{
+    return (pool_page_number)(bytes[0] | bytes[1] << 8);
+}
+
+/* Makes the call of a record of root, link, evict or settle. */
+static struct pool_done made(struct pool pool, const uint8_t *entry)
+{
+    if (entry[0] == 1) {
+        struct pool_fixed fixed = pool_root(pool, LENT);
+        struct pool_done done = {fixed.pool, fixed.refusal};
+        return done;
+    }
+    const struct pool_handle parent = {entry[1], page_in(entry + 7)};
+    if (entry[0] == 5)
+        return pool_link(pool, LENT, parent, entry[4], page_in(entry + 2));
+    return entry[0] == 7 ? pool_evict(pool, LENT, page_in(entry + 2)) : pool_settle(pool, LENT);
+}
+
+/* Records are drawn of the pool as the calls before left it: here the second has page 1 for its parent, and the fourth none. */
+static void workloads(void)
+{
+    static const uint8_t entries[][16] = {
+        {1, 2, 6, 0, 10, 158}, {5, 1, 3, 0, 4, 63, 0, 1}, {7, 2, 1, 0, 10, 191},
+        {5, 1, 3, 0, 10, 169}, {7, 2, 0, 0, 8, 86},       {8, 1, 5, 0, 7, 98},
+    };
+    static const uint8_t answers[] = {0, POOL_BAD_HANDLE, 0, POOL_BAD_HANDLE, POOL_IS_ROOT, 0};
+    struct pool_fixed one = pool_fix(begin(), LENT, root, 1);
+    struct pool pool = pool_unfix(one.pool, LENT, one.handle).pool;
+    struct pool_generator along = pool_seeded(344);
+    uint8_t unaltered[sizeof frames + sizeof store];
+    for (size_t i = 0; i < sizeof answers; i++) {
+        memcpy(unaltered, frames, sizeof frames);
+        memcpy(unaltered + sizeof frames, store, sizeof store);
+        struct pool_drawn drawn = pool_draw(pool, LENT, along);
+        claim("a record is drawn", drawn.refusal == 0 && memcmp(drawn.entry, entries[i], sizeof entries[i]) == 0);
+        claim("which alters nothing", memcmp(unaltered, frames, sizeof frames) == 0 &&
+                                          memcmp(unaltered + sizeof frames, store, sizeof store) == 0);
+        along = drawn.generator;
+        struct pool_done done = made(pool, drawn.entry);
+        claim("and run", done.refusal == answers[i]);
+        pool = done.pool;
+    }
+    claim("five draws a record", along.number == 3957910735);
+    claim("a seed of 0 is read as 1", pool_seeded(0).number == 1 && pool_seeded(1).number == 1);
+    claim("any other is the number", pool_seeded(UINT32_MAX).number == UINT32_MAX);
+
+    static const uint8_t of_zero[16] = {1};
+    const struct pool_generator zero = {0};
+    struct pool_drawn drawn = pool_draw(pool, LENT, zero);
+    claim("from 0 each draw gives 0", memcmp(drawn.entry, of_zero, sizeof of_zero) == 0 && drawn.generator.number == 0);
+}
+
 static void payloads(void)
 {
     struct pool_fixed one = pool_fix(begin(), LENT, root, 1);
@@ -305,6 +368,7 @@ int main(void)
     frames_looked_at();
     taken_slots();
     staying_pages();
+    workloads();
     payloads();
     open_forgets();
     return failures != 0;

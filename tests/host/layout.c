@@ -60,5 +60,11 @@ int main(void)
     EXPECT(place.start, 5001);
     EXPECT(place.size, 5002);
 
+    struct pool_drawn drawn = pool_layout_drawn();
+    EXPECT(drawn.refusal, 208);
+    for (unsigned i = 0; i < sizeof drawn.entry; i++)
+        EXPECT(drawn.entry[i], 209 + i);
+    EXPECT(drawn.generator.number, 5003);
+
     return differences != 0;
 }

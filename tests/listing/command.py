@@ -2,9 +2,12 @@
 import os
 import select
 import subprocess
+import tempfile
 
-RECORD = 16
-COMMAND = os.path.join(os.path.dirname(os.path.abspath(__file__)), "../../listing")
+import shared
+from shared import RECORD, compare
+
+COMMAND = "./listing"
 
 
 def line_by_line(program, given):
@@ -21,27 +24,32 @@ def line_by_line(program, given):
     return lines
 
 
-def ends(arguments, stdout=subprocess.PIPE, **given):
-    """The status, the lines and the words on standard error of a run of the command."""
-    run = subprocess.run([COMMAND, *arguments], stdout=stdout, stderr=subprocess.PIPE, **given)
-    printed, said = ((text or b"").decode("utf-8", "replace") for text in (run.stdout, run.stderr))
-    return run.returncode, printed.split("\n")[:-1], said
+def ends(arguments, **given):
+    return shared.ends(COMMAND, arguments, **given)
 
 
 def runs(given, wanted):
     """Each use of the command: its name, what came of it, the status and the lines that are wanted, and what standard error has to say."""
     yield "a recording", ends(["-"], input=given), 0, wanted, ""
+    with tempfile.NamedTemporaryFile() as file:
+        file.write(given)
+        file.flush()
+        yield "a file", ends([file.name]), 0, wanted, ""
+    yield "no argument", ends([]), 0, wanted, ""
     yield "a part record", ends(["-"], input=given + given[:5]), 0, wanted, "a part record of 5 bytes"
     yield "a text", ends(["-"], input=b"a text of 16 by\n"), 0, ["97 17 0 0"], "is this a recording?"
     yield "no such file", ends(["nosuch"]), 2, [], "no such file"
+    yield "a directory", ends(["/"]), 2, [], "a directory"
+    yield "two files", ends(["-", "-"]), 2, [], "give one recording"
     with open("/dev/full", "wb") as full:
         yield "no room for the lines", ends(["-"], stdout=full, input=given), 1, [], "could not all be written"
+    yield "closed standard output", ends(["-"], stdout=None, preexec_fn=lambda: os.close(1), input=given), 2, [], "standard output is closed"
     folder = os.open("/", os.O_RDONLY)
     yield "a directory as standard input", ends(["-"], stdin=folder), 1, [], "could not be read"
     os.close(folder)
 
 
-def results(program, given, wanted, compare):
+def results(program, given, wanted):
     """Whether each comparison holds."""
     yield compare("a record at a time", line_by_line(program, given), wanted)
     for name, (status, lines, said), status_wanted, lines_wanted, words in runs(given, wanted):

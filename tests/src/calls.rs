@@ -25,6 +25,9 @@ pub const NAMES: [&str; 13] = [
     "find",
 ];
 
+/// Request A.10's call, which makes a record and changes nothing, so that a list is the same without it.
+pub const DRAW: &str = "draw";
+
 #[derive(Clone, Copy, Debug, PartialEq, Eq)]
 pub enum Answer {
     Refused(Refusal),

@@ -1,10 +1,12 @@
 //! How often each call met each answer, a link into a taken slot each namer of its page, an evict each reason to stay, a fix what
-//! it can do to usages, and a find each place where it can end.
-use crate::calls::{Answer, Call, NAMES};
+//! it can do to usages, a find each place where it can end, and a draw what it can show.
+use crate::calls::{Answer, Call, DRAW, NAMES};
+use crate::model::drawing::Drawing;
 use crate::model::search::Ended;
 use crate::model::stays::Stay;
 use crate::model::taken::Namer;
 use crate::model::warmth::Warmth;
+use crate::pool::Refusal;
 use std::collections::{BTreeMap, BTreeSet};
 use std::fmt;
 use words::rules::Table;
@@ -19,6 +21,7 @@ pub struct Coverage {
     stays: BTreeMap<Stay, u64>,
     warmths: BTreeMap<Warmth, u64>,
     ends: BTreeMap<Ended, u64>,
+    drawings: BTreeMap<Drawing, u64>,
     sweeps: u64,
     most_looks: u16,
 }
@@ -60,6 +63,14 @@ impl Coverage {
         }
     }
 
+    /// Counts a draw: its refusal's number, 0 if accepted, and what it showed.
+    pub fn count_draw(&mut self, number: Refusal, drawings: BTreeSet<Drawing>) {
+        *self.counts.entry((DRAW, number)).or_default() += 1;
+        for drawing in drawings {
+            *self.drawings.entry(drawing).or_default() += 1;
+        }
+    }
+
     pub fn calls(&self) -> u64 {
         self.counts.values().sum()
     }
@@ -90,6 +101,11 @@ impl Coverage {
         Ended::ALL.into_iter().filter(|ended| !self.ends.contains_key(ended)).collect()
     }
 
+    /// Those of the wanted ones that no draw showed.
+    pub fn missing_drawings(&self, wanted: &[Drawing]) -> Vec<Drawing> {
+        wanted.iter().copied().filter(|drawing| !self.drawings.contains_key(drawing)).collect()
+    }
+
     /// The pairs that occurred and are not in the table.
     pub fn impossible(&self, table: &Table) -> Vec<Pair> {
         let possible = |(call, number): &Pair| table.answers(call).any(|answer| answer == *number);
@@ -100,7 +116,7 @@ impl Coverage {
 /// A line for each call: how often it was accepted, and refused by which number.
 impl fmt::Display for Coverage {
     fn fmt(&self, f: &mut fmt::Formatter) -> fmt::Result {
-        for name in NAMES {
+        for name in NAMES.into_iter().chain([DRAW]) {
             write!(f, "{name:<7}")?;
             for ((_, number), count) in self.counts.range((name, 0)..=(name, u8::MAX)) {
                 write!(f, " {number}:{count}")?;
@@ -122,6 +138,10 @@ impl fmt::Display for Coverage {
         write!(f, "\nfinds, by where they ended:")?;
         for (ended, count) in &self.ends {
             write!(f, " {ended:?}:{count}")?;
+        }
+        write!(f, "\ndraws, by what they showed:")?;
+        for (drawing, count) in &self.drawings {
+            write!(f, " {drawing:?}:{count}")?;
         }
         writeln!(f, "\n{} calls, {} pairs of call and answer", self.calls(), self.counts.len())?;
         write!(f, "{} sweeps took a frame, in up to {} looks", self.sweeps, self.most_looks)

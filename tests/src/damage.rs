@@ -3,8 +3,8 @@ mod buffers;
 mod records;
 mod shapes;
 
-use crate::random::Random;
 use crate::records::{FrameIndex, State};
+use random::Random;
 
 type Change = fn(&mut Random, &mut State);
 

@@ -1,6 +1,6 @@
 //! The linked library `pagepool`, behind the same trait as the model.
 use crate::pool::{Buffer, Fixed, Found, Machine, Place, Refusal};
-use crate::records::{self, FrameIndex, Handle, PageNumber, Pool, State};
+use crate::records::{self, Entry, FrameIndex, Generator, Handle, PageNumber, Pool, State};
 use pagepool::raw;
 
 /// Lends a state to a function that may change it, or to one that only reads.
@@ -62,6 +62,11 @@ fn found(answer: raw::Found) -> Result<Found, Refusal> {
     unless_refused(refusal, zero, Found { frame: present.then_some(frame), looks })
 }
 
+fn drawn(answer: raw::Drawn, generator: &mut Generator) -> Result<Entry, Refusal> {
+    *generator = answer.generator;
+    unless_refused(answer.refusal, answer.entry == [0; 16], answer.entry)
+}
+
 pub struct Library;
 
 impl Machine for Library {
@@ -119,5 +124,14 @@ impl Machine for Library {
 
     fn find(&self, state: &State, page: PageNumber) -> Result<Found, Refusal> {
         found(lend!(state, pool_find, page))
+    }
+
+    fn seeded(&self, seed: u32) -> Generator {
+        // SAFETY: a number is handed over, and one comes back.
+        unsafe { raw::pool_seeded(seed) }
+    }
+
+    fn draw(&self, state: &State, generator: &mut Generator) -> Result<Entry, Refusal> {
+        drawn(lend!(state, pool_draw, *generator), generator)
     }
 }

@@ -1,27 +1,33 @@
 //! A naive model of document 01, the plain map of demand 3, and what drives them against the pool.
 //!
-//! - `records`, `pool`, `calls`: the pool's data, its thirteen calls as a trait, a call as a value.
+//! - `records`, `pool`, `calls`: the pool's data, its thirteen calls and the draw of a record as a trait, a call as a value.
 //! - `model`, `host`, `package`: the machines, document 01 as a program, the linked library, and that through its wrappers.
 //! - `lockstep`: one call on the machine under test, the wrappers and the model; `history` adds `plain`, the plain map.
-//! - `stores`, `steer`, `damage`, `random`, `coverage`: what is called on what, and how often it was met.
-//! - `trial`: a pool for a single case.
+//! - `stores`, `steer`, `draws`, `damage`, `coverage`: what is called and drawn on what, and how often it was met.
+//! - `trial`: a pool for a single case; `listing`: the call that a record makes, and its line.
 pub mod calls;
 pub mod coverage;
 pub mod damage;
+pub mod draws;
 pub mod history;
 #[cfg(feature = "host")]
 pub mod host;
+pub mod listing;
 pub mod lockstep;
 pub mod model;
 #[cfg(feature = "host")]
 pub mod package;
 pub mod plain;
 pub mod pool;
-pub mod random;
 pub mod records;
 pub mod steer;
 pub mod stores;
 pub mod trial;
+
+/// A number from the environment, where it is set.
+pub fn setting(name: &str, otherwise: u64) -> u64 {
+    std::env::var(name).map_or(otherwise, |value| value.parse().expect(name))
+}
 
 /// Gives back the message as an error unless the condition holds.
 #[macro_export]

@@ -1,10 +1,11 @@
-//! One call on the machine under test, through the package's wrappers and on the model, from the same state.
+//! One call, or the draw of a record, on the machine under test, through the package's wrappers and on the model, from the same
+//! state.
 use crate::calls::{Answer, Call};
 use crate::coverage::Coverage;
 use crate::ensure;
-use crate::model::{search, stays, taken, warmth, Model};
-use crate::pool::Machine;
-use crate::records::{PageNumber, State};
+use crate::model::{drawing, search, stays, taken, warmth, Model};
+use crate::pool::{Machine, Refusal};
+use crate::records::{Entry, Generator, PageNumber, State};
 
 /// Makes a call, which must answer what is wanted and leave what is expected.
 fn compare(
@@ -68,4 +69,45 @@ fn requests(
         _ => (),
     }
     Ok(())
+}
+
+/// Draws a record, which must be the one that is wanted, or the refusal, and leave the generator where it is expected and the
+/// state as it was.
+fn compare_draw(
+    machine: &impl Machine,
+    state: &State,
+    mut generator: Generator,
+    wanted: Result<Entry, Refusal>,
+    expected: Generator,
+) -> Result<(), String> {
+    let (lent, before) = (state.clone(), generator);
+    let answer = machine.draw(&lent, &mut generator);
+    ensure!(answer == wanted, "a draw by {before:?} gives {answer:?}, not {wanted:?}, on {:?}", state.pool);
+    ensure!(
+        generator == expected,
+        "a draw by {before:?}, {answer:?}, leaves {generator:?}, not {expected:?}"
+    );
+    if let Some(difference) = lent.difference(state) {
+        return Err(format!("a draw by {before:?}, {answer:?}, leaves other {difference}"));
+    }
+    Ok(())
+}
+
+/// Draws a record of a state, and moves the generator on. All must draw the same and change nothing else, and the record be as
+/// request A.10 says of every one.
+pub fn draw(
+    machine: &impl Machine,
+    state: &State,
+    generator: &mut Generator,
+    coverage: &mut Coverage,
+) -> Result<Result<Entry, Refusal>, String> {
+    let before = *generator;
+    let wanted = Model.draw(state, generator);
+    #[cfg(feature = "host")]
+    compare_draw(&crate::package::Package, state, before, wanted, *generator)
+        .map_err(|fault| format!("wrapped, {fault}"))?;
+    compare_draw(machine, state, before, wanted, *generator)?;
+    let shown = drawing::compare(state, (before, *generator), wanted)?;
+    coverage.count_draw(wanted.err().unwrap_or(0), shown);
+    Ok(wanted)
 }

@@ -1,16 +1,18 @@
 //! Document 01 as a program, with document 02's changes, naive on purpose: each rule and each call reads like its sentence.
 mod agreement;
+pub mod drawing;
 mod moves;
 mod rules;
 pub mod search;
 pub mod stays;
 pub mod taken;
 pub mod warmth;
+pub mod workload;
 
 use crate::pool::{Buffer, Fixed, Found, Machine, Place, Refusal};
 use crate::records::{
-    page_of, page_of_mut, put_word, word_in, FrameIndex, FrameRecord, Handle, PageNumber, Pool, State,
-    MAX_USAGE, PAGE_SIZE, PAYLOAD_SIZE, PAYLOAD_START, SLOTS, SWIZZLE_BIT,
+    page_of, page_of_mut, put_word, word_in, Entry, FrameIndex, FrameRecord, Generator, Handle, PageNumber,
+    Pool, State, MAX_USAGE, PAGE_SIZE, PAYLOAD_SIZE, PAYLOAD_START, SLOTS, SWIZZLE_BIT,
 };
 use rules::rule;
 
@@ -231,5 +233,14 @@ impl Machine for Model {
         rules::state(state)?;
         rules::page(&state.pool, page)?;
         Ok(look_for(&state.pool, page))
+    }
+
+    fn seeded(&self, seed: u32) -> Generator {
+        workload::seeded(seed)
+    }
+
+    fn draw(&self, state: &State, generator: &mut Generator) -> Result<Entry, Refusal> {
+        rules::state(state)?;
+        Ok(workload::record(&state.pool, generator))
     }
 }

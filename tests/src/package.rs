@@ -1,6 +1,6 @@
 //! The linked library through the package's own wrappers, behind the same trait.
 use crate::pool::{Buffer, Fixed, Found, Machine, Place, Refusal};
-use crate::records::{Handle, PageNumber, Pool, State};
+use crate::records::{Entry, Generator, Handle, PageNumber, Pool, State};
 use pagepool::PagePool;
 
 pub struct Package;
@@ -95,5 +95,13 @@ impl Machine for Package {
     fn find(&self, state: &State, page: PageNumber) -> Result<Found, Refusal> {
         let found = numbered(shared(state).find(page));
         found.map(|pagepool::Found { frame, looks }| Found { frame, looks })
+    }
+
+    fn seeded(&self, seed: u32) -> Generator {
+        Generator::seeded(seed)
+    }
+
+    fn draw(&self, state: &State, generator: &mut Generator) -> Result<Entry, Refusal> {
+        numbered(shared(state).draw(generator))
     }
 }

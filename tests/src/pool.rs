@@ -1,5 +1,5 @@
-//! The machine under test: document 01's thirteen calls, behind one trait.
-use crate::records::{FrameIndex, Handle, PageNumber, Pool, State};
+//! The machine under test: document 01's thirteen calls, and request A.10's draw, behind one trait.
+use crate::records::{Entry, FrameIndex, Generator, Handle, PageNumber, Pool, State};
 
 /// The number of the first broken rule.
 pub type Refusal = u8;
@@ -58,6 +58,10 @@ pub trait Machine {
     fn evict(&self, state: &mut State, page: PageNumber) -> Result<(), Refusal>;
     fn settle(&self, state: &mut State) -> Result<(), Refusal>;
     fn find(&self, state: &State, page: PageNumber) -> Result<Found, Refusal>;
+
+    fn seeded(&self, seed: u32) -> Generator;
+    /// A record of the state, by a generator that is moved on.
+    fn draw(&self, state: &State, generator: &mut Generator) -> Result<Entry, Refusal>;
 }
 
 #[cfg(feature = "host")]

@@ -1,7 +1,7 @@
 //! The pool's records and the buffers beside them, laid out as at the C boundary.
 pub use pagepool::{
-    FrameIndex, FrameRecord, Handle, PageNumber, Pool, LEAST_FRAMES, MAX_USAGE, MOST_FRAMES, MOST_PAGES,
-    PAGE_SIZE, PAYLOAD_SIZE, PAYLOAD_START, SLOTS,
+    Entry, FrameIndex, FrameRecord, Generator, Handle, PageNumber, Pool, LEAST_FRAMES, MAX_USAGE,
+    MOST_FRAMES, MOST_PAGES, PAGE_SIZE, PAYLOAD_SIZE, PAYLOAD_START, SLOTS,
 };
 
 pub const SWIZZLE_BIT: u32 = 1 << 31;

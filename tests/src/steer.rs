@@ -1,10 +1,10 @@
 //! Chooses random calls that reach deep into the rules: most arguments fit the state, some break a rule.
 use crate::calls::Call;
-use crate::random::Random;
 use crate::records::{
     self, word_in, FrameIndex, FrameRecord, Handle, PageNumber, State, PAGE_SIZE, PAYLOAD_SIZE,
     PAYLOAD_START, SLOTS, SWIZZLE_BIT,
 };
+use random::Random;
 
 /// How often each call is made, by `Call::index`.
 type Weights = [usize; 13];

@@ -1,6 +1,6 @@
 //! Random sound stores.
-use crate::random::Random;
 use crate::records::{page_of_mut, put_word, word_in, PAGE_SIZE, PAYLOAD_START, SLOTS};
+use random::Random;
 
 /// N pages with random payloads. So many in a hundred are named by a word, most of them in a tree below the root.
 pub fn sound_store(random: &mut Random, pages: usize, named: usize) -> Vec<u8> {

@@ -1,10 +1,11 @@
 //! A pool for a single case: each call is made on the machine under test and compared with the model.
 use crate::calls::{Answer, Call};
 use crate::coverage::Coverage;
-use crate::lockstep::step;
-use crate::pool::UnderTest;
+use crate::lockstep::{draw, step};
+use crate::pool::{Refusal, UnderTest};
 use crate::records::{
-    page_of, page_of_mut, put_word, word_in, FrameIndex, FrameRecord, Handle, Pool, State, PAGE_SIZE,
+    page_of, page_of_mut, put_word, word_in, Entry, FrameIndex, FrameRecord, Generator, Handle, Pool, State,
+    PAGE_SIZE,
 };
 
 /// A word of a stored page: the page, the slot, and the page that it names.
@@ -46,6 +47,11 @@ impl Trial {
 
     pub fn call(&mut self, call: Call) -> Answer {
         step(&UnderTest, &mut self.state, &call, &mut Coverage::default()).unwrap()
+    }
+
+    /// A record of the pool as it is, by a generator that is moved on.
+    pub fn draw(&self, generator: &mut Generator) -> Result<Entry, Refusal> {
+        draw(&UnderTest, &self.state, generator, &mut Coverage::default()).unwrap()
     }
 
     /// The refusal's number of a call, 0 if accepted.

@@ -1,9 +1,9 @@
 //! What `./replay` keeps of a recording, against the records of the pool: by it a refused evict is told with what to do.
 use pool_tests::calls::{Answer, Call};
-use pool_tests::random::Random;
 use pool_tests::records::{handle, FrameIndex, Handle, PageNumber, State, SWIZZLE_BIT};
 use pool_tests::steer::Steer;
 use pool_tests::trial::Trial;
+use random::Random;
 use words::known::Known;
 use words::listing::Line;
 use words::record;

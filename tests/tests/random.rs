@@ -4,13 +4,16 @@
 use pool_tests::calls::NAMES;
 use pool_tests::coverage::Coverage;
 use pool_tests::damage::{alter, damage};
+use pool_tests::draws::Draws;
 use pool_tests::history::History;
 use pool_tests::lockstep::step;
+use pool_tests::model::drawing::Drawing;
 use pool_tests::pool::UnderTest;
-use pool_tests::random::Random;
 use pool_tests::records::{State, PAGE_SIZE};
+use pool_tests::setting;
 use pool_tests::steer::{self, Steer};
 use pool_tests::stores::sound_store;
+use random::Random;
 use std::io::{stderr, Write};
 use std::time::{Duration, Instant};
 use words::rules::Table;
@@ -24,10 +27,6 @@ const RARE: [u8; 4] = [1, 2, 13, 14];
 fn all_but(some: &[u8]) -> Vec<u8> {
     let answered = Table::standing().rules.into_iter().filter(|rule| !rule.calls.is_empty());
     answered.map(|rule| rule.number).filter(|number| !some.contains(number)).collect()
-}
-
-fn setting(name: &str, otherwise: u64) -> u64 {
-    std::env::var(name).map_or(otherwise, |value| value.parse().expect(name))
 }
 
 /// Says something on standard error at once, which a test's output is kept from.
@@ -65,12 +64,13 @@ fn run(
 }
 
 /// A link into a taken slot must have met every namer of its page, an evict every reason to stay, a fix have done everything that
-/// it can do to usages, and a find have ended wherever it can.
-fn met_every_case(coverage: &Coverage) {
+/// it can do to usages, a find have ended wherever it can, and a draw have shown all that it can but for some.
+fn met_every_case(coverage: &Coverage, never_drawn: &[Drawing]) {
     assert_eq!(coverage.missing_namers(), [], "namers that no link into a taken slot met");
     assert_eq!(coverage.missing_stays(), [], "reasons to stay that no evict met");
     assert_eq!(coverage.missing_warmths(), [], "what no fix did to usages");
     assert_eq!(coverage.missing_ends(), [], "where no find ended");
+    assert_eq!(coverage.missing_drawings(&Drawing::ALL), never_drawn, "what no draw showed");
 }
 
 /// F and N, most of them small, so that frames are few and words meet.
@@ -94,7 +94,7 @@ fn begin<'a>(
     History::open(&UnderTest, random.bytes(PAGE_SIZE * frames), store, coverage)
 }
 
-/// Makes so many calls, and checks every so many points whole.
+/// Makes so many calls, draws records between them, and checks every so many points whole.
 fn go_on(
     random: &mut Random,
     history: &mut History<UnderTest>,
@@ -103,10 +103,12 @@ fn go_on(
     coverage: &mut Coverage,
 ) -> Outcome {
     let mut steer = Steer::new(random, &history.state);
+    let mut draws = Draws::beside(random);
     for number in 0..calls {
         if number % every == 0 {
             history.check().map_err(|fault| format!("before call {number}: {fault}"))?;
         }
+        draws.at(&history.state, coverage).map_err(|fault| format!("before call {number}: {fault}"))?;
         let call = steer.next(random, &history.state);
         history.call(&call, coverage).map_err(|fault| format!("call {number}: {fault}"))?;
     }
@@ -126,7 +128,7 @@ fn unaltered_lists() {
         let mut history = begin(random, (frames, pages), coverage)?;
         go_on(random, &mut history, 1000, every, coverage)
     });
-    met_every_case(&coverage);
+    met_every_case(&coverage, &[Drawing::Refused(1), Drawing::Refused(2)]);
 }
 
 /// Every call on a copy of a state, each with arguments of its own.
@@ -139,10 +141,12 @@ fn every_call(random: &mut Random, state: &State, coverage: &mut Coverage) -> Ou
 }
 
 fn damaged_states(random: &mut Random, state: &State, times: usize, coverage: &mut Coverage) -> Outcome {
+    let mut draws = Draws::beside(random);
     for number in 0..times {
         let mut damaged = state.clone();
         damage(random, &mut damaged);
-        every_call(random, &damaged, coverage).map_err(|fault| format!("damaged state {number}: {fault}"))?;
+        let called = draws.at(&damaged, coverage).and_then(|()| every_call(random, &damaged, coverage));
+        called.map_err(|fault| format!("damaged state {number}: {fault}"))?;
     }
     Ok(())
 }
@@ -150,13 +154,14 @@ fn damaged_states(random: &mut Random, state: &State, times: usize, coverage: &m
 /// A list that goes on after an alteration: here the model alone says what holds.
 fn altered_list(random: &mut Random, mut state: State, calls: usize, coverage: &mut Coverage) -> Outcome {
     let mut steer = Steer::new(random, &state);
+    let mut draws = Draws::beside(random);
     for number in 0..calls {
         if number % 10 == 0 {
             alter(random, &mut state);
         }
         let call = steer.next(random, &state);
-        step(&UnderTest, &mut state, &call, coverage)
-            .map_err(|fault| format!("altered, call {number}: {fault}"))?;
+        let called = draws.at(&state, coverage).and_then(|()| step(&UnderTest, &mut state, &call, coverage));
+        called.map_err(|fault| format!("altered, call {number}: {fault}"))?;
     }
     Ok(())
 }
@@ -174,15 +179,16 @@ fn altered_states() {
         }
         damaged_states(random, &history.state, 110, coverage)
     });
-    met_every_case(&coverage);
+    met_every_case(&coverage, &[]);
 }
 
 #[test]
 fn largest_pool() {
-    run("largest pool", 4, &[0, 15], |random, coverage| {
+    let coverage = run("largest pool", 4, &[0, 15], |random, coverage| {
         let mut history = begin(random, (64, 4096), coverage)?;
         go_on(random, &mut history, 1500, 500, coverage)?;
         altered_list(random, history.state.clone(), 500, coverage)?;
         damaged_states(random, &history.state, 25, coverage)
     });
+    assert_eq!(coverage.missing_drawings(&[Drawing::LinkToHighPage]), [], "what no draw showed");
 }

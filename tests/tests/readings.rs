@@ -2,7 +2,7 @@
 use pool_tests::calls::{Answer, Call, NAMES};
 use pool_tests::pool::{Buffer, Fixed, Machine, Place, UnderTest};
 use pool_tests::records::{
-    handle, FrameIndex, FrameRecord, Handle, PageNumber, Pool, PAGE_SIZE, SWIZZLE_BIT,
+    handle, Entry, FrameIndex, FrameRecord, Generator, Handle, PageNumber, Pool, PAGE_SIZE, SWIZZLE_BIT,
 };
 use pool_tests::trial::{three_children, Trial};
 use words::rules::Table;
@@ -663,6 +663,85 @@ fn peek_and_evict_answer_as_before() {
     assert_eq!(peeked, [payload(Buffer::Frames, 0), payload(Buffer::Frames, 3), payload(Buffer::Store, 5)]);
     let evicted = [0, 5, 7, 7].map(|page| trial.call(Call::Evict(page)));
     assert_eq!(evicted, [Answer::Refused(20), Answer::Refused(11), Answer::Done, Answer::Refused(11)]);
+}
+
+/// The record that a number draws, and the generator's number after it.
+fn drawn(trial: &Trial, number: u32) -> (Entry, u32) {
+    let mut generator = Generator { number };
+    (trial.draw(&mut generator).expect("it is accepted"), generator.number)
+}
+
+/// A record with no data.
+fn entry(call: u8, frame: u8, page: u16, slot: u8, offset: u8) -> Entry {
+    let [low, high] = page.to_le_bytes();
+    [call, frame, low, high, slot, offset, 0, 0, 0, 0, 0, 0, 0, 0, 0, 0]
+}
+
+/// A.10: "call, frame, page, slot and offset are remainders by 9 (plus 1), F, N, 16 and 193", each of a draw of its own.
+#[test]
+fn five_draws_make_a_record() {
+    let cases = [
+        ((4, 16), 1, (entry(1, 1, 5, 15, 120), 2_398_689_233)),
+        ((4, 16), 2_398_689_233, (entry(8, 2, 2, 5, 172), 2_916_098_932)),
+        ((64, 4096), 1, (entry(1, 1, 2245, 15, 120), 2_398_689_233)),
+        ((64, 4096), u32::MAX, (entry(4, 63, 2115, 10, 160), 2_049_502_865)),
+        ((64, 4096), 1 << 31, (entry(9, 4, 328, 4, 90), 1_756_881_985)),
+        ((2, 1), 2, (entry(1, 0, 0, 6, 62), 3_819_972_634)),
+    ];
+    for ((frames, pages), number, record) in cases {
+        assert_eq!(drawn(&Trial::open(frames, pages, &[]), number), record, "by {number}");
+    }
+}
+
+/// A.10: only the seed is read so. From number 0 each draw gives 0.
+#[test]
+fn from_0_each_draw_gives_0() {
+    for (frames, pages) in [(2, 1), (4, 16), (64, 4096)] {
+        assert_eq!(drawn(&Trial::open(frames, pages, &[]), 0), (entry(1, 0, 0, 0, 0), 0));
+    }
+}
+
+/// A.10: "Link's parent page is the page resident in the drawn frame, else 0", as the calls before left it.
+#[test]
+fn a_links_parent_is_in_the_drawn_frame() {
+    let (mut trial, _) = three_children(5);
+    let parent = |trial: &Trial, frame: u8, number| {
+        let (entry, _) = drawn(trial, number);
+        assert_eq!(entry[..2], [5, frame]);
+        entry[7..].to_vec()
+    };
+    let alone = |page: u8| vec![page, 0, 0, 0, 0, 0, 0, 0, 0];
+    for (frame, number, page) in [(0, 49, 0), (1, 53, 5), (2, 97, 6), (3, 108, 7), (4, 61, 0)] {
+        assert_eq!(parent(&trial, frame, number), alone(page), "frame {frame}");
+    }
+    trial.accept(Call::Evict(6));
+    assert_eq!(parent(&trial, 2, 97), alone(0));
+}
+
+#[test]
+fn a_links_parent_takes_two_bytes() {
+    let mut trial = Trial::open(2, 4096, &[(0, 3, 4095)]);
+    let root = trial.root();
+    trial.fix(root, 3);
+    let mut wanted = entry(5, 1, 3893, 10, 23);
+    wanted[7..9].copy_from_slice(&[255, 15]);
+    assert_eq!(drawn(&trial, 97), (wanted, 773_620_837));
+}
+
+/// A.10: a record is made of a pool, and refused as any call is; then the generator stays (`host` asserts the zeros beside the
+/// number), and draws the same record once the pool is as it was.
+#[test]
+fn a_refused_draw_leaves_the_generator() {
+    let (mut trial, _) = three_children(4);
+    let mut generator = Generator { number: 53 };
+    trial.record(0).usage = 4;
+    assert_eq!((trial.draw(&mut generator), generator.number), (Err(2), 53));
+    trial.state.store.pop();
+    assert_eq!((trial.draw(&mut generator), generator.number), (Err(1), 53));
+    trial.state.store.push(0);
+    trial.record(0).usage = 1;
+    assert_eq!(trial.draw(&mut generator), Ok(drawn(&trial, 53).0));
+    assert_eq!(generator.number, 3_867_844_562);
 }
 
 /// Rule 14 on each of its grounds.

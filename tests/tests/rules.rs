@@ -1,7 +1,7 @@
 //! The table of rules against the C header and the Rust package: numbers, names, and which call is refused by which, in which order.
 //! And that a number which the table's head calls a hole stays one.
 use pagepool::{NoRule, Refusal};
-use pool_tests::calls::NAMES;
+use pool_tests::calls::{DRAW, NAMES};
 use std::fs;
 use words::rules::Table;
 
@@ -38,7 +38,7 @@ fn in_rust(name: &str) -> String {
 
 #[test]
 fn the_tables_calls_are_those_of_the_tests() {
-    assert_eq!(Table::standing().calls, NAMES);
+    assert_eq!(Table::standing().calls, [&NAMES[..], &[DRAW]].concat());
 }
 
 #[test]
@@ -73,7 +73,10 @@ fn refused_by_which() {
     let (table, package) = (Table::standing(), package());
     for call in &table.calls {
         let rules: Vec<u8> = table.answers(call).filter(|number| *number != 0).collect();
-        assert_eq!(refused(HEADER, &format!(" pool_{call}(")), rules, "include/pagepool.h, pool_{call}");
+        let name = format!(" pool_{call}(");
+        let in_header = |line: &&str| line.starts_with("struct ") && line.contains(&name);
+        let declared = HEADER.lines().find(in_header).expect(call);
+        assert_eq!(refused(HEADER, declared), rules, "include/pagepool.h, pool_{call}");
         let declaration = ["(", "<"].map(|sign| format!("\npub fn {call}{sign}"));
         let declared = declaration.iter().find(|text| package.contains(*text)).expect(call);
         assert_eq!(refused(&package, declared), rules, "rust/src, {call}");

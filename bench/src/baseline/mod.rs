@@ -1,6 +1,7 @@
-//! The thirteen calls of document 01 in safe Rust, on records lent by `&mut`. Each answers what the method of the same name
-//! of `PagePool` does.
+//! The thirteen calls of document 01, and request A.10's draw, in safe Rust, on records lent by `&mut`. Each answers what the
+//! method of the same name of `PagePool` does.
 mod agreement;
+mod drawing;
 mod moves;
 mod naming;
 mod page;
@@ -9,8 +10,8 @@ mod seen;
 
 use page::{pages_of, pages_of_mut, SWIZZLE_BIT};
 use pagepool::{
-    Fixed, Found, FrameIndex, FrameRecord, Handle, PageNumber, Pool, Refusal, MAX_PINS, MAX_USAGE,
-    MOST_PAGES, PAGE_SIZE, PAYLOAD_SIZE, PAYLOAD_START,
+    Entry, Fixed, Found, FrameIndex, FrameRecord, Generator, Handle, PageNumber, Pool, Refusal, MAX_PINS,
+    MAX_USAGE, MOST_PAGES, PAGE_SIZE, PAYLOAD_SIZE, PAYLOAD_START,
 };
 use rules::rule;
 use seen::{Seen, FEW};
@@ -218,6 +219,12 @@ pub fn find(pool: &Pool, frames: &[u8], store: &[u8], page: PageNumber) -> Resul
     let frame = frame_of(pool, page);
     let looks = frame.map_or(pool.count, |frame| u16::from(frame.0) + 1);
     Ok(Found { frame, looks })
+}
+
+#[inline(never)]
+pub fn draw(pool: &Pool, frames: &[u8], store: &[u8], generator: &mut Generator) -> Result<Entry, Refusal> {
+    rules::state(pool, frames, store)?;
+    Ok(drawing::record(pool, generator))
 }
 
 /// The records of the F frames.

@@ -2,6 +2,8 @@
 use crate::answers::Fixed;
 use crate::answers::Found;
 use crate::answers::Named;
+use drawing::Drawn;
+use generator::Generator;
 use pool::Done;
 use pool::FrameIndex;
 use pool::FrameRecord;
@@ -95,5 +97,33 @@ pub extern "C" fn pool_layout_place() -> Place {
         in_store: true,
         start: 5001,
         size: 5002,
+    }
+}
+
+// A drawn record, marked.
+#[no_mangle]
+pub extern "C" fn pool_layout_drawn() -> Drawn {
+    let entry: [u8; 16] = [
+        209,
+        210,
+        211,
+        212,
+        213,
+        214,
+        215,
+        216,
+        217,
+        218,
+        219,
+        220,
+        221,
+        222,
+        223,
+        224,
+    ];
+    Drawn {
+        refusal: 208,
+        entry,
+        generator: Generator { number: 5003 },
     }
 }

@@ -1,4 +1,4 @@
-// The pool's thirteen calls for programs in C and Rust. A lent buffer is a pointer and a length there, and an answer a struct by value.
+// The pool's thirteen calls, and the draws of a workload, for programs in C and Rust. A lent buffer is a pointer and a length there, and an answer a struct by value.
 // include/pagepool.h declares them for C, the package rust/ for Rust.
 mod answers;
 mod layout;
@@ -6,6 +6,8 @@ mod layout;
 use answers::Fixed;
 use answers::Found;
 use answers::Named;
+use drawing::Drawn;
+use generator::Generator;
 use pool::Done;
 use pool::Handle;
 use pool::PageNumber;
@@ -15,6 +17,8 @@ ghost use mathlib.Core.Path.{_≡_};
 ghost use Rattle.machine.specs.Machine.{state};
 ghost use Rattle.machine.specs.Answers.{out, doneAnswer, placeOf};
 ghost use Rattle.machine.specs.Calls.{openCall, rootCall, fixCall, unfixCall, showCall, peekCall, wordCall, writeCall, linkCall, unlinkCall, evictCall, settleCall, findCall};
+ghost use Rattle.generator.specs.Generator.{seedRead};
+ghost use Rattle.drawing.specs.Drawing.{drawnOut};
 ghost use Rattle.pagepool.specs.Structs.{fixedOut, namedOf, foundOf};
 
 // Brings page 0 into frame 0 and gives the records of a new pool; refused, all-zero ones.
@@ -156,4 +160,20 @@ pub extern "C" fn pool_find(pool: Pool, frames: &[u8], store: &[u8], page: PageN
     ensures { λ r. ⌜ r ≡ foundOf (findCall (state pool (now (frames .entry)) (now (store .entry))) page .answer) ⌝ }
 {
     answers::from_find(pool::find(pool, frames, store, page))
+}
+
+// The generator of a seed.
+#[no_mangle]
+pub extern "C" fn pool_seeded(seed: u32) -> Generator
+    ensures { λ r. ⌜ r .number ≡ seedRead seed ⌝ }
+{
+    generator::seeded(seed)
+}
+
+// The next record of a workload on the pool as it stands.
+#[no_mangle]
+pub extern "C" fn pool_draw(pool: Pool, frames: &[u8], store: &[u8], generator: Generator) -> Drawn
+    ensures { λ r. ⌜ r ≡ drawnOut (state pool (now (frames .entry)) (now (store .entry))) generator ⌝ }
+{
+    drawing::draw_record(pool, frames, store, generator)
 }

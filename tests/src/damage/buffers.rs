@@ -1,9 +1,9 @@
 //! Changes of the frames and the store.
 use super::occupied;
-use crate::random::Random;
 use crate::records::{
     page_of_mut, put_word, State, MOST_FRAMES, PAGE_SIZE, PAYLOAD_SIZE, PAYLOAD_START, SLOTS, SWIZZLE_BIT,
 };
+use random::Random;
 
 /// The frames or the store.
 fn either<'a>(random: &mut Random, state: &'a mut State) -> &'a mut Vec<u8> {

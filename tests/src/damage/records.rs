@@ -1,7 +1,7 @@
 //! Changes of the records.
 use super::occupied;
-use crate::random::Random;
 use crate::records::{FrameIndex, FrameRecord, PageNumber, State, MAX_USAGE, MOST_FRAMES};
+use random::Random;
 
 /// A frame, most of the time one of the F.
 fn any_frame(random: &mut Random, state: &State) -> usize {

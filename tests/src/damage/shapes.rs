@@ -1,7 +1,7 @@
 //! Changes of records and words together, each broken in one respect alone.
 use super::occupied;
-use crate::random::Random;
 use crate::records::{page_of_mut, put_word, FrameIndex, State, PAGE_SIZE, SLOTS, SWIZZLE_BIT};
+use random::Random;
 
 fn put_frame_word(state: &mut State, frame: FrameIndex, slot: usize, word: u32) {
     put_word(page_of_mut(&mut state.frames, frame.into()), slot, word);

@@ -1,5 +1,7 @@
-//! A small generator, xorshift64*, so that every run makes the same calls.
+//! A small generator, xorshift64*, so that every run of the tests and of the benchmark makes the same calls. Plain Rust: nothing
+//! of the pool that they run on goes into what they choose.
 
+#[derive(Clone)]
 pub struct Random(u64);
 
 impl Random {

@@ -1,0 +1,4 @@
+pub mod Checksum
+pub mod ChecksumRows
+pub mod ChecksumLaws
+pub mod Parts

@@ -1,0 +1,148 @@
+-- No refusal but these meets a record that is run on the pool that it was drawn on. Assumes nothing.
+use Prim.Native.Nat.{ℕ, _-_, _<_, _≤_}
+use mathlib.Core.Path.{_≡_, refl, sym, _∙_, subst}
+use mathlib.Core.Logic.{_≢_}
+use mathlib.Core.Bool.{Bool, true, false}
+use mathlib.Core.List.{List, [], _∷_, _++_}
+use native.Mathlib.Omega.{arith}
+use borrow.Author.Tests.{lt-ltb, le-leb}
+use lib.Dec.{eqb, leb}
+use lib.ListN.{length}
+use Rattle.page.specs.declared.PageNumber.{PageNumber}
+use Rattle.page.specs.Figures.{slotCount, payloadSize}
+use Rattle.page.specs.Word.{isNumber, frameIn}
+use Rattle.page.specs.Page.{bytesFrom}
+use Rattle.machine.specs.declared.Handle.{Handle}
+use Rattle.machine.specs.Tests.{pick, _and_, _or_, Rule, firstBroken}
+use Rattle.machine.specs.Laws.TestLaws.{and-true, or-off, both, pick-either, first-kept, case, on, off, clash}
+use Rattle.machine.specs.Machine.{State}
+use Rattle.machine.specs.Answers.{Answer, refused, Out}
+use Rattle.machine.specs.Rules.{rangeFits, wordOf, rule3, rule4, rule5, rule6, rule6-link, rule7, rule8, rule9, rule10, rule11, rule13, rule14, rule15}
+use Rattle.machine.specs.Calls.{decide, poolRules, handleRules, wordRules, pageRules, rootRules, fixEntryRules, fixRules, writeRules, linkRules, unlinkRules, stayRules, evictRules, rootCall, fixCall, unfixCall, writeCall, linkCall, unlinkCall, evictCall, settleCall, findCall}
+use Rattle.machine.specs.History.{Call, accepted, row}
+use Rattle.machine.specs.Laws.Outcomes.{kept, broken, outcome, no-refusal, one-refusal, found-accepted, fix-accepted}
+use Rattle.recording.specs.Listing.{callOf, rule17, recordOut, callIn, dataIn}
+use Rattle.recording.specs.ListingLaws.{record-runs}
+use Rattle.generator.specs.declared.Generator.{Generator}
+use Rattle.drawing.specs.Drawing.{drawnOut, InRanges}
+use Rattle.drawing.specs.Ranges.{in-ranges}
+
+-- 3, 6 to 11, 13 to 15 and 20 to 22: not 1 or 2, since the record was drawn; not 4, 5 or 17, since it lies in its ranges; and no other rule is one of its calls'
+unfoldable pub canMeet : ℕ → Bool
+canMeet n = eqb n 3 or (leb 6 n and leb n 11) or (leb 13 n and leb n 15) or (leb 20 n and leb n 22)
+
+-- an answer that is no refusal, or one by these
+abbrev pub MeetsThese : Answer → Type 0
+MeetsThese a = (n : ℕ) → a ≡ refused n → canMeet n ≡ true
+
+-- ---- each rule of a list has such a number, or is kept
+
+unfoldable meet : List Rule → Bool
+meet [] = true
+meet (r ∷ rs) = (canMeet (r .0) or r .1) and meet rs
+
+meet-first : (rs : List Rule) → meet rs ≡ true → firstBroken rs ≢ 0 → canMeet (firstBroken rs) ≡ true
+unfolding meet firstBroken pick
+meet-first [] t z = absurd (z refl)
+meet-first ((m, true) ∷ rs) t z = meet-first rs (and-true (canMeet m or true) (meet rs) t .1) z
+meet-first ((m, false) ∷ rs) t z = elim (case (canMeet m)) [
+  | on y ↦ y
+  | off y ↦ absurd (clash (sym (and-true (canMeet m or false) (meet rs) t .0) ∙ or-off y refl))
+]
+
+meet-both : (xs ys : List Rule) → meet xs ≡ true → meet ys ≡ true → meet (xs ++ ys) ≡ true
+unfolding meet
+meet-both [] ys h k = k
+meet-both (x ∷ xs) ys h k = let a = and-true (canMeet (x .0) or x .1) (meet xs) h in both _ _ (a .0) (meet-both xs ys (a .1) k)
+
+meets-these : (s : State) (rules : List Rule) (a : Out) → accepted (a .answer) ≡ true → meet rules ≡ true → MeetsThese (decide s rules a .answer)
+meets-these s rules a t m n e = elim (outcome s rules rules a refl) [
+  | kept k q ↦ absurd (no-refusal a _ n q t e)
+  | broken j z k q ↦ subst (λ (i : ℕ). canMeet i ≡ true) (k ∙ one-refusal s _ j n q e) (meet-first rules m (λ y. z (sym k ∙ y)))
+]
+
+-- ---- the calls of a record, on a pool that keeps rules 1 and 2
+module _ (s : State) (z : firstBroken (poolRules s) ≡ 0) where
+  pool-meets : meet (poolRules s) ≡ true
+  unfolding meet canMeet _or_ _and_
+  pool-meets = let a = first-kept 0 _ _ z in let b = first-kept 1 _ _ (a .1) in rw (a .0, b .0) refl
+
+  handle-meets : (h : Handle) → meet (handleRules s h) ≡ true
+  unfolding meet canMeet _or_ _and_
+  handle-meets h = meet-both (poolRules s) (rule3 s h ∷ []) pool-meets refl
+
+  slot-meets : (h : Handle) (k : ℕ) → k < slotCount → meet (wordRules s h k) ≡ true
+  unfolding meet canMeet _or_ _and_
+  slot-meets h k l = meet-both (handleRules s h) (rule4 k ∷ []) (handle-meets h) (rw (lt-ltb k slotCount l) refl)
+
+  page-meets : (q : PageNumber) → meet (pageRules s q) ≡ true
+  unfolding meet canMeet _or_ _and_
+  page-meets q = meet-both (poolRules s) (rule6 s (q .0) ∷ []) pool-meets refl
+
+  root-meets : MeetsThese (rootCall s .answer)
+  unfolding rootCall meet canMeet _or_ _and_
+  root-meets = meets-these s (rootRules s) _ refl (meet-both (poolRules s) (rule13 s 0 ∷ []) pool-meets refl)
+
+  fix-meets : (h : Handle) (k : ℕ) → k < slotCount → MeetsThese (fixCall s h k .answer)
+  unfolding fixCall meet canMeet _or_ _and_
+  fix-meets h k l =
+      meets-these s (fixRules s h k) _ (fix-accepted s h k)
+      (meet-both (fixEntryRules s h k) (pick (isNumber (wordOf s h k)) (rule14 s (wordOf s h k) ∷ rule15 s ∷ []) (rule13 s (frameIn (wordOf s h k)) ∷ [])) (meet-both (wordRules s h k) (rule7 (wordOf s h k) ∷ []) (slot-meets h k l) refl) (pick-either (λ (rs : List Rule). meet rs ≡ true) (isNumber (wordOf s h k)) _ _ refl refl))
+
+  unfix-meets : (h : Handle) → MeetsThese (unfixCall s h .answer)
+  unfolding unfixCall
+  unfix-meets h = meets-these s (handleRules s h) _ refl (handle-meets h)
+
+  write-meets : (h : Handle) (offset : ℕ) (d : List ℕ) → offset ≤ payloadSize → length d ≡ 0 → MeetsThese (writeCall s h offset d .answer)
+  unfolding writeCall meet canMeet rangeFits _or_ _and_
+  write-meets h offset d l e = meets-these s (writeRules s h offset (length d)) _ refl (meet-both (handleRules s h) (rule5 offset (length d) ∷ []) (handle-meets h) (rw (e, le-leb offset payloadSize l, le-leb 0 (payloadSize - offset) (omega arith)) refl))
+
+  link-meets : (h : Handle) (k : ℕ) (q : PageNumber) → k < slotCount → MeetsThese (linkCall s h k q .answer)
+  unfolding linkCall meet canMeet _or_ _and_
+  link-meets h k q l = meets-these s (linkRules s h k q) _ refl (meet-both (wordRules s h k) (rule6-link s (q .0) ∷ rule9 s (q .0) ∷ rule8 (wordOf s h k) ∷ []) (slot-meets h k l) refl)
+
+  unlink-meets : (h : Handle) (k : ℕ) → k < slotCount → MeetsThese (unlinkCall s h k .answer)
+  unfolding unlinkCall meet canMeet _or_ _and_
+  unlink-meets h k l = meets-these s (unlinkRules s h k) _ refl (meet-both (wordRules s h k) (rule7 (wordOf s h k) ∷ rule10 (wordOf s h k) ∷ []) (slot-meets h k l) refl)
+
+  evict-meets : (q : PageNumber) → MeetsThese (evictCall s q .answer)
+  unfolding evictCall meet canMeet _or_ _and_
+  evict-meets q = meets-these s (evictRules s q) _ refl (meet-both (pageRules s q) (rule11 s (q .0) ∷ stayRules s (q .0)) (page-meets q) refl)
+
+  settle-meets : MeetsThese (settleCall s .answer)
+  unfolding settleCall
+  settle-meets = meets-these s (poolRules s) _ refl pool-meets
+
+  find-meets : (q : PageNumber) → MeetsThese (findCall s q .answer)
+  unfolding findCall
+  find-meets q = meets-these s (pageRules s q) _ (found-accepted s (q .0)) (page-meets q)
+
+  -- a record in its ranges
+  module _ (b : List ℕ) (r : InRanges s b) where
+    either : (t : Bool) (c d : Call) → MeetsThese (row c .out s .answer) → MeetsThese (row d .out s .answer) → MeetsThese (row (pick t c d) .out s .answer)
+    either = pick-either (λ (c : Call). MeetsThese (row c .out s .answer))
+
+    no-data : length (dataIn b) ≡ 0
+    unfolding bytesFrom
+    no-data = rw (r .empty) refl
+
+    call-meets : MeetsThese (row (callOf b) .out s .answer)
+    unfolding callOf
+    call-meets =
+        either _ _ _ root-meets (either _ _ _ (fix-meets _ _ (r .slot)) (either _ _ _ (unfix-meets _) (either _ _ _ (write-meets _ _ _ (r .offset) no-data)
+        (either _ _ _ (link-meets _ _ _ (r .slot)) (either _ _ _ (unlink-meets _ _ (r .slot)) (either _ _ _ (evict-meets _) (either _ _ _ settle-meets (find-meets _))))))))
+
+    is-call : rule17 b .1 ≡ true
+    unfolding _and_
+    is-call = rw (le-leb 1 (callIn b) (r .call .0), le-leb (callIn b) 9 (r .call .1), r .empty) refl
+
+    -- it is run as its call
+    pub record-called : row (callOf b) .out s ≡ recordOut s b
+    record-called = record-runs s b (callOf b) is-call refl
+
+    record-meets : MeetsThese (recordOut s b .answer)
+    record-meets = subst (λ (o : Out). MeetsThese (o .answer)) record-called call-meets
+
+  -- where it is drawn, and run on the same pool
+  pub drawn-meets : (g : Generator) → MeetsThese (recordOut s (drawnOut s g .entry) .answer)
+  drawn-meets g = record-meets (drawnOut s g .entry) (in-ranges s g z)

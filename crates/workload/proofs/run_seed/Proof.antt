@@ -1,0 +1,38 @@
+-- `workload::run_seed` meets its contract: the pool is the one that open gives, and the generator that of the seed. Assumes nothing.
+use Rattle.workload.specs.WorkloadLaws.{from-seed}
+use borrow.Author.Needs.{needs}
+use Rattle.workload.proofs.run_seed.Statement.{statement}
+use Rattle.workload.proofs.run_seed.Tie as tie
+
+slice-aggregate-open : tie.Need-slice-aggregate-open
+slice-aggregate-open c = search needs
+
+slice-aggregate-open-2 : tie.Need-slice-aggregate-open-2
+slice-aggregate-open-2 c = search needs
+
+open-requires : tie.Need-open-requires
+open-requires c κs = search needs
+
+seeded-requires : tie.Need-seeded-requires
+seeded-requires c κs = search needs
+
+run-all-requires : tie.Need-run-all-requires
+run-all-requires c κs = search needs
+
+returns : tie.Need-returns
+returns c =
+    let at-seeded = c .before .before .before in
+    let at-open = at-seeded .before .before .before in
+    let a = at-open .before .before .before .args in
+    λ e. from-seed (a .seed) (a .count) _ _ (at-open .«open» .ensures) (at-seeded .seeded .ensures) (c .run-all .ensures e)
+
+pub run-seed-spec : {M : Type 1} → statement M
+run-seed-spec =
+    tie.close
+    (tie.spec
+    slice-aggregate-open
+    slice-aggregate-open-2
+    open-requires
+    seeded-requires
+    run-all-requires
+    returns)

@@ -1,0 +1,147 @@
+-- Every record of a workload is drawn, lies in its ranges and is run as its call: from an open on, its calls are a list of demand 3. Assumes nothing.
+use Prim.Native.Nat.{ℕ, zero, suc, _<_}
+use mathlib.Core.Path.{_≡_, refl, sym, _∙_, ap}
+use mathlib.Core.Logic.{_≢_}
+use mathlib.Core.Bool.{Bool, true, false, not}
+use mathlib.Core.List.{List, []}
+use native.Mathlib.Omega.{arith}
+use borrow.Author.Tests.{lt-ltb}
+use lib.ListN.{getD, replicate}
+use Rattle.page.specs.Figures.{slotCount}
+use Rattle.page.specs.Word.{wordAt, nameOf, namesNothing}
+use Rattle.page.specs.Page.{slot, name, bytesFrom}
+use Rattle.page.specs.Octets.{Octets}
+use Rattle.machine.specs.Tests.{pick, _and_, _⇒_, firstBroken}
+use Rattle.machine.specs.Laws.TestLaws.{both, true-every, pick-either, pick-no, kept-then, none-broken}
+use Rattle.machine.specs.Machine.{State}
+use Rattle.machine.specs.Answers.{refused, done, Out}
+use Rattle.machine.specs.Rules.{lengthsFit}
+use Rattle.machine.specs.Calls.{poolRules, openRules, openCall}
+use Rattle.machine.specs.Soundness.{wordsBelow, wordsOnce, sound}
+use Rattle.machine.specs.History.{Call, Point, row, start, next, run, AllBytes}
+use Rattle.machine.specs.Laws.RuleLaws.{answer-yes}
+use Rattle.machine.specs.Laws.Outcomes.{answers-as}
+use Rattle.machine.specs.Theorem.Invariant.{Invariant}
+use Rattle.machine.specs.Theorem.Steps.{step-keeps}
+use Rattle.machine.specs.Theorem.Demand3Holds.{holds, invariant-along}
+use Rattle.recording.specs.Listing.{callOf, recordOut, lengthIn, dataIn}
+use Rattle.generator.specs.Generator.{seedRead}
+use Rattle.drawing.specs.Drawing.{drawnOut}
+use Rattle.drawing.specs.Ranges.{in-ranges}
+use Rattle.drawing.specs.Refusals.{MeetsThese, record-called, drawn-meets}
+use Rattle.drawing.specs.DrawsInList.{point-kept, DrawnThere, drawn-there}
+use Rattle.workload.specs.Workload.{Worked, begun, withNext, workedFrom, listingPool, workloadOf}
+
+-- ---- a record's call is no open, and one without a length hands over no bytes
+
+pub record Plain (c : Call) : Type 0 where
+  pub goesOn : row c .anew ≡ false
+  pub bytes : row c .bytes ≡ []
+
+either : (t : Bool) (c d : Call) → Plain c → Plain d → Plain (pick t c d)
+either = pick-either Plain
+
+no-data : (b : List ℕ) → lengthIn b ≡ 0 → dataIn b ≡ []
+unfolding bytesFrom
+no-data b e = rw e refl
+
+plain : (c : Call) → row c .anew ≡ false → row c .bytes ≡ [] → Plain c
+plain c a b = record { goesOn = a; bytes = b }
+
+plain-call : (b : List ℕ) → lengthIn b ≡ 0 → Plain (callOf b)
+unfolding callOf
+plain-call b e =
+    either _ _ _ (plain _ refl refl) (either _ _ _ (plain _ refl refl) (either _ _ _ (plain _ refl refl) (either _ _ _ (plain _ refl (no-data b e))
+    (either _ _ _ (plain _ refl refl) (either _ _ _ (plain _ refl refl) (either _ _ _ (plain _ refl refl) (either _ _ _ (plain _ refl refl) (plain _ refl refl))))))))
+
+-- ---- so it leads from a point of a list to the next
+
+no-octets : (bs : List ℕ) → bs ≡ [] → Octets bs
+no-octets bs e i = rw e (omega arith)
+
+next-now : (c : Call) (x : Point) → row c .anew ≡ false → next c x .now ≡ row c .out (x .now) .left
+unfolding next
+next-now c x e = ap (λ (y : Point). y .now) (sym (pick-no _ e refl))
+
+-- a point that keeps demand 3's invariant and has this state
+pub record AtPoint (s : State) : Type 0 where
+  pub point : Point
+  pub keeps : Invariant point
+  pub here : point .now ≡ s
+
+kept-there : (s : State) → AtPoint s → firstBroken (poolRules s) ≡ 0
+kept-there s a = rw (← a .here) (point-kept (a .point) (holds (a .point) (a .keeps)))
+
+-- n records lead from such a point to such a point
+point-along : (n : ℕ) (w : Worked) → AtPoint (w .left) → AtPoint (workedFrom n w .left)
+unfolding workedFrom
+point-along zero w a = a
+point-along (suc n) w a =
+    let z = kept-there (w .left) a in
+    let b = drawnOut (w .left) (w .generator) .entry in
+    let r = in-ranges (w .left) (w .generator) z in
+    let p = plain-call b (r .empty) in
+    point-along n (withNext w) (record {
+      point = next (callOf b) (a .point);
+      keeps = step-keeps (a .point) (a .keeps) (callOf b) (no-octets _ (p .bytes));
+      here = next-now (callOf b) (a .point) (p .goesOn) ∙ ap (λ (s : State). row (callOf b) .out s .left) (a .here) ∙ ap (λ (o : Out). o .left) (record-called (w .left) z b r);
+    })
+
+-- ---- the listing's pool opens
+
+zero-byte : (m i : ℕ) → _≡_ {A = ℕ} (getD (replicate m 0) i 0) 0
+zero-byte zero i = refl
+zero-byte (suc m) zero = refl
+zero-byte (suc m) (suc i) = zero-byte m i
+
+zero-octets : (m : ℕ) → Octets (replicate m 0)
+zero-octets m i = rw (zero-byte m i) (omega arith)
+
+zero-name : (m p k : ℕ) → name (replicate m 0) p k ≡ 0
+unfolding nameOf slot wordAt
+zero-name m p k = let a = zero-byte m in rw (a _, a _, a _, a _) refl
+
+unnamed : (m p k : ℕ) (a b : Bool) → ((not (namesNothing (name (replicate m 0) p k)) and a) ⇒ b) ≡ true
+unfolding _⇒_ _and_
+unnamed m p k a b = rw (zero-name m p k) refl
+
+zeros-sound : (m N : ℕ) → 0 < N → sound (replicate m 0) N ≡ true
+unfolding sound wordsBelow wordsOnce
+zeros-sound m N l = both _ _
+    (true-every N _ (λ p _. true-every slotCount _ (λ k _. rw (zero-name m p k) (lt-ltb 0 N l))))
+    (true-every N _ (λ p _. true-every slotCount _ (λ k _. true-every N _ (λ q _. true-every slotCount _ (λ j _. unnamed m p k _ _)))))
+
+pub listing-opens : listingPool .answer ≡ done
+unfolding openCall lengthsFit _and_
+listing-opens = sym (answer-yes _ (openRules (replicate 1024 0) (replicate 4096 0)) _ (sym (kept-then 1 _ refl ∙ kept-then 16 [] (zeros-sound 4096 16 (omega arith)) ∙ none-broken)) refl refl)
+
+-- ---- the claim: the record that comes after n of any seed is drawn in its ranges, and meets no refusal but those of canMeet, nor 14
+
+pub record Works (w : Worked) : Type 0 where
+  pub drawn : DrawnThere (w .left) (w .generator)
+  pub meets : MeetsThese (recordOut (w .left) (drawnOut (w .left) (w .generator) .entry) .answer)
+  -- 14 is "only after outside alteration"
+  pub unaltered : recordOut (w .left) (drawnOut (w .left) (w .generator) .entry) .answer ≢ refused 14
+
+works : (w : Worked) → AtPoint (w .left) → Works w
+works w a =
+    let z = kept-there (w .left) a in
+    let b = drawnOut (w .left) (w .generator) .entry in
+    let called = record-called (w .left) z b (in-ranges (w .left) (w .generator) z) in
+    record {
+      drawn = drawn-there (w .left) (w .generator) z;
+      meets = drawn-meets (w .left) z (w .generator);
+      unaltered = λ e. holds (a .point) (a .keeps) .neverRefused (callOf b) 14 (ap (λ (s : State). row (callOf b) .out s .answer) (a .here) ∙ answers-as called ∙ e) .2 refl;
+    }
+
+listing-point : AtPoint (listingPool .left)
+unfolding AllBytes run
+listing-point = record {
+  point = start (listingPool .left);
+  keeps = invariant-along (replicate 1024 0) (replicate 4096 0) (zero-octets 1024) (zero-octets 4096) listing-opens [] tt;
+  here = refl;
+}
+
+pub all-work : (seed n : ℕ) → Works (workloadOf seed n)
+unfolding workloadOf
+all-work seed n = works _ (point-along n (begun (listingPool .left) (record { number = seedRead seed })) listing-point)
