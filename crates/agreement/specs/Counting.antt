@@ -10,8 +10,8 @@ use native.Mathlib.Decide.{ℕ-discrete}
 use borrow.Author.Tests.{eqb-true, eqb-false, eq-eqb, ne-eqb, not-true}
 use mir.Val.{boolByte}
 use lib.Dec.{eqb}
-use Rattle.machine.specs.Tests.{_and_, some}
-use Rattle.machine.specs.Laws.TestLaws.{clash, case, on, off, same, and-left, and-true, and-off, both, some-true, some-false}
+use Rattle.rules.specs.Tests.{_and_, some}
+use Rattle.rules.specs.TestLaws.{clash, case, on, off, same, and-left, and-true, and-off, both, some-true, some-false}
 
 -- how many numbers below n pass
 unfoldable pub countIf : ℕ → (ℕ → Bool) → ℕ

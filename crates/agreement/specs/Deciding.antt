@@ -5,7 +5,7 @@ use mathlib.Core.Bool.{Bool, true, false}
 use native.Mathlib.Decide.{ℕ-discrete}
 use borrow.Author.Tests.{eq-eqb, ne-eqb}
 use lib.Dec.{eqb}
-use Rattle.machine.specs.Laws.TestLaws.{clash}
+use Rattle.rules.specs.TestLaws.{clash}
 
 -- the answer is true where the fact holds, and false where it doesn't
 abbrev pub Decides : Bool → Type 0 → Type 0

@@ -11,7 +11,7 @@ use Rattle.page.specs.Word.{nameAt, frameWord}
 use Rattle.page.specs.Page.{name}
 use Rattle.machine.specs.declared.FrameRecord.{FrameRecord}
 use Rattle.machine.specs.declared.Pool.{Pool}
-use Rattle.machine.specs.Tests.{pick, _and_}
+use Rattle.rules.specs.Tests.{pick, _and_}
 use Rattle.machine.specs.Machine.{isUsed, recordAt, pageIn}
 use Rattle.machine.specs.Agreement.{agree}
 use Rattle.machine.specs.Laws.Parents.{climb}

@@ -19,8 +19,8 @@ use Rattle.page.specs.Figures.{slotCount, pageSize, wordSize, mostPages}
 use Rattle.page.specs.Word.{nameAt}
 use Rattle.page.specs.Page.{slot, name, name-row}
 use Rattle.machine.specs.declared.FrameRecord.{FrameRecord}
-use Rattle.machine.specs.Tests.{_and_}
-use Rattle.machine.specs.Laws.TestLaws.{case, on, off, pick-yes, pick-no, both, and-true, and-yes, and-no, clash}
+use Rattle.rules.specs.Tests.{_and_}
+use Rattle.rules.specs.TestLaws.{case, on, off, pick-yes, pick-no, both, and-true, and-yes, and-no, clash}
 use Rattle.machine.specs.Machine.{isUsed, recordAt, pageIn}
 use Rattle.machine.specs.Agreement.{isBlank}
 use Rattle.seen.specs.Fold.{fold}

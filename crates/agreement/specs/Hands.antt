@@ -9,8 +9,8 @@ use Rattle.page.specs.Figures.{slotCount, mostPages}
 use Rattle.page.specs.Word.{Number}
 use Rattle.page.specs.Page.{name, name-row}
 use Rattle.machine.specs.declared.Pool.{Pool}
-use Rattle.machine.specs.Tests.{_or_}
-use Rattle.machine.specs.Laws.TestLaws.{case, on, off, same, or-left, or-right, or-second}
+use Rattle.rules.specs.Tests.{_or_}
+use Rattle.rules.specs.TestLaws.{case, on, off, same, or-left, or-right, or-second}
 use Rattle.machine.specs.Machine.{State, state, pageIn, occupied}
 use Rattle.machine.specs.Laws.AgreementFacts.{occupied-lt, occupied-used, Agreed, facts}
 use Rattle.machine.specs.Naming.{namedByResident}

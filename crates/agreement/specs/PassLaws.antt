@@ -11,7 +11,7 @@ use lib.ListN.{length, set, replicate, length-set, length-replicate, getD-replic
 use lib.Seq.{getD-set-other}
 use Rattle.page.specs.Figures.{slotCount, mostFrames, recordCount}
 use Rattle.machine.specs.declared.FrameRecord.{FrameRecord}
-use Rattle.machine.specs.Laws.TestLaws.{case, on, off}
+use Rattle.rules.specs.TestLaws.{case, on, off}
 use Rattle.machine.specs.Machine.{isUsed, recordAt, pageIn}
 use Rattle.seen.specs.Seen.{Seen}
 use Rattle.residents.specs.Residents.{Residents}

@@ -14,8 +14,8 @@ use Rattle.page.specs.Word.{frameIn, frameWord, Number, Swizzled, high, low, re
 use Rattle.page.specs.Page.{name}
 use Rattle.machine.specs.declared.FrameRecord.{FrameRecord}
 use Rattle.machine.specs.declared.Pool.{Pool}
-use Rattle.machine.specs.Tests.{_and_}
-use Rattle.machine.specs.Laws.TestLaws.{clash, case, on, off, is-off, both, and-true}
+use Rattle.rules.specs.Tests.{_and_}
+use Rattle.rules.specs.TestLaws.{clash, case, on, off, is-off, both, and-true}
 use Rattle.machine.specs.Machine.{isUsed, recordAt, pageIn, occupied}
 use Rattle.machine.specs.Agreement.{parentOf, parentSlotOf, agree}
 use Rattle.machine.specs.Laws.AgreementFacts.{occupied-lt, occupied-used, make-occupied, InRange, Points, Agreed, facts, tests}

@@ -6,8 +6,8 @@ use mathlib.Core.Bool.{Bool, true, false}
 use native.Mathlib.Omega.{arith}
 use native.Mathlib.Decide.{ℕ-discrete, decLt}
 use Rattle.page.specs.Figures.{mostPages}
-use Rattle.machine.specs.Tests.{_or_, every}
-use Rattle.machine.specs.Laws.TestLaws.{clash, case, on, off, same, or-left, or-right, or-second, and-yes, every-true, true-every, false-every}
+use Rattle.rules.specs.Tests.{_or_, every}
+use Rattle.rules.specs.TestLaws.{clash, case, on, off, same, or-left, or-right, or-second, and-yes, every-true, true-every, false-every}
 use Rattle.seen.specs.Fold.{or-same}
 use Rattle.seen.specs.Among.{among, among-zero, is-among, among-is, not-among}
 use Rattle.seen.specs.Seen.{Seen, none, noted, Tells, Notes, fresh, Marked}

@@ -15,8 +15,8 @@ use Rattle.page.specs.Page.{payloadAt, putPayload, putPayload-none, putSlot}
 use Rattle.machine.specs.declared.FrameRecord.{FrameRecord}
 use Rattle.machine.specs.declared.Handle.{Handle}
 use Rattle.machine.specs.declared.Pool.{Pool}
-use Rattle.machine.specs.Tests.{firstBroken}
-use Rattle.machine.specs.Laws.TestLaws.{and-true, first-kept, pick-yes, pick-no}
+use Rattle.rules.specs.Tests.{firstBroken}
+use Rattle.rules.specs.TestLaws.{and-true, first-kept, pick-yes, pick-no}
 use Rattle.machine.specs.Machine.{State, state, blank, recordAt, withRecord, withRecords, dirtied}
 use Rattle.machine.specs.Rules.{rangeFits, wordOf, rule5, rule6-link, rule7, rule8, rule9, rule10}
 use Rattle.machine.specs.Answers.{out, doneAnswer}

@@ -6,7 +6,7 @@ use page::PageNumber;
 use residents::Residents;
 use seen::Seen;
 ghost use mathlib.Core.Path.{_≡_};
-ghost use Rattle.machine.specs.Tests.{firstBroken};
+ghost use Rattle.rules.specs.Tests.{firstBroken};
 ghost use Rattle.machine.specs.Machine.{state, recordAt};
 ghost use Rattle.machine.specs.Rules.{rangeFits};
 ghost use Rattle.machine.specs.Calls.{writeRules, linkRules, unlinkRules};

@@ -10,8 +10,8 @@ use lib.ListN.{length}
 use Rattle.page.specs.declared.PageNumber.{PageNumber}
 use Rattle.page.specs.Figures.{pageSize, payloadSize}
 use Rattle.page.specs.Page.{payloadAt}
-use Rattle.machine.specs.Tests.{firstBroken}
-use Rattle.machine.specs.Laws.TestLaws.{pick-yes, pick-no}
+use Rattle.rules.specs.Tests.{firstBroken}
+use Rattle.rules.specs.TestLaws.{pick-yes, pick-no}
 use Rattle.machine.specs.Machine.{State, found}
 use Rattle.machine.specs.Answers.{payload, inFrames, inStore, frame, nowhere}
 use Rattle.machine.specs.Calls.{pageRules, payloadPlace, peekCall, foundAnswer, findCall}

@@ -13,8 +13,8 @@ use Rattle.page.specs.Figures.{payloadSize}
 use Rattle.page.specs.Page.{payloadAt, bytesFrom}
 use Rattle.machine.specs.declared.Handle.{Handle}
 use Rattle.machine.specs.declared.Place.{Place}
-use Rattle.machine.specs.Tests.{Rule, firstBroken}
-use Rattle.machine.specs.Laws.TestLaws.{clash, pick-yes, pick-no, verdict-no, verdict-yes, case, on, off}
+use Rattle.rules.specs.Tests.{Rule, firstBroken}
+use Rattle.rules.specs.TestLaws.{clash, pick-yes, pick-no, verdict-no, verdict-yes, case, on, off}
 use Rattle.machine.specs.Machine.{State, found}
 use Rattle.machine.specs.Answers.{Answer, payload, inStore, out, placeOf, Lent, cut, Shown, lentIf, handedAt}
 use Rattle.machine.specs.Calls.{decide, handleRules, pageRules, payloadPlace, showCall, peekCall}

@@ -10,7 +10,7 @@ use Rattle.page.specs.declared.PageNumber.{PageNumber}
 use Rattle.page.specs.Figures.{pageSize, slotCount, mostPages, mostFrames}
 use Rattle.page.specs.Word.{frameIn, reading, low, high, Number, Swizzled}
 use Rattle.machine.specs.declared.Handle.{Handle}
-use Rattle.machine.specs.Tests.{firstBroken}
+use Rattle.rules.specs.Tests.{firstBroken}
 use Rattle.machine.specs.Machine.{State, pageNumber, pageIn}
 use Rattle.machine.specs.Laws.AgreementFacts.{occupied-lt}
 use Rattle.machine.specs.Moves.{plain}

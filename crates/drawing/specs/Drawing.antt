@@ -7,7 +7,7 @@ use lib.Dec.{eqb}
 use lib.ListN.{length, replicate}
 use Rattle.page.specs.Figures.{slotCount, payloadSize, byteRadix}
 use Rattle.page.specs.Page.{bytesFrom}
-use Rattle.machine.specs.Tests.{pick, firstBroken, verdict}
+use Rattle.rules.specs.Tests.{pick, firstBroken, verdict}
 use Rattle.machine.specs.Machine.{State, frameIndex, pageNumber, occupied, pageIn}
 use Rattle.machine.specs.Calls.{poolRules}
 use Rattle.recording.specs.Listing.{callIn, pageInRecord, handleIn, parentIn, slotIn, offsetIn, lengthIn}

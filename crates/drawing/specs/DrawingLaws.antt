@@ -11,8 +11,8 @@ use lib.Dec.{eqb}
 use lib.ListN.{length}
 use Rattle.page.specs.declared.PageNumber.{PageNumber}
 use Rattle.page.specs.Figures.{pageSize, mostFrames, mostPages}
-use Rattle.machine.specs.Tests.{pick, firstBroken}
-use Rattle.machine.specs.Laws.TestLaws.{case, on, off, or-none, pick-yes, pick-no, verdict-yes, verdict-no}
+use Rattle.rules.specs.Tests.{pick, firstBroken}
+use Rattle.rules.specs.TestLaws.{case, on, off, or-none, pick-yes, pick-no, verdict-yes, verdict-no}
 use Rattle.machine.specs.Machine.{State, frameIndex, pageNumber, occupied}
 use Rattle.machine.specs.Calls.{poolRules}
 use Rattle.machine.specs.Laws.Ready.{Kept, rules-kept}

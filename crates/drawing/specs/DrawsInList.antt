@@ -4,8 +4,8 @@ use mathlib.Core.Path.{_≡_, refl, ap, _∙_}
 use mathlib.Core.List.{List, [], _∷_}
 use native.Mathlib.Omega.{arith}
 use Rattle.page.specs.Octets.{Octets}
-use Rattle.machine.specs.Tests.{firstBroken}
-use Rattle.machine.specs.Laws.TestLaws.{case, on, off, broken-here, kept-then, none-broken}
+use Rattle.rules.specs.Tests.{firstBroken}
+use Rattle.rules.specs.TestLaws.{case, on, off, broken-here, kept-then, none-broken}
 use Rattle.machine.specs.Machine.{State}
 use Rattle.machine.specs.Agreement.{agree}
 use Rattle.machine.specs.Answers.{refused, done}

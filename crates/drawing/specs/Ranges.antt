@@ -10,8 +10,8 @@ use borrow.Author.Tests.{ne-eqb}
 use lib.ListN.{length, replicate}
 use Rattle.page.specs.Figures.{byteRadix}
 use Rattle.page.specs.Page.{bytesFrom}
-use Rattle.machine.specs.Tests.{firstBroken}
-use Rattle.machine.specs.Laws.TestLaws.{pick-either, pick-no, verdict-yes, verdict-no}
+use Rattle.rules.specs.Tests.{firstBroken}
+use Rattle.rules.specs.TestLaws.{pick-either, pick-no, verdict-yes, verdict-no}
 use Rattle.machine.specs.Machine.{State, pageNumber}
 use Rattle.machine.specs.Calls.{poolRules}
 use Rattle.machine.specs.Laws.Ready.{Kept, rules-kept}

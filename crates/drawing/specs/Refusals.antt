@@ -13,8 +13,8 @@ use Rattle.page.specs.Figures.{slotCount, payloadSize}
 use Rattle.page.specs.Word.{isNumber, frameIn}
 use Rattle.page.specs.Page.{bytesFrom}
 use Rattle.machine.specs.declared.Handle.{Handle}
-use Rattle.machine.specs.Tests.{pick, _and_, _or_, Rule, firstBroken}
-use Rattle.machine.specs.Laws.TestLaws.{and-true, or-off, both, pick-either, first-kept, case, on, off, clash}
+use Rattle.rules.specs.Tests.{pick, _and_, _or_, Rule, firstBroken}
+use Rattle.rules.specs.TestLaws.{and-true, or-off, both, pick-either, first-kept, case, on, off, clash}
 use Rattle.machine.specs.Machine.{State}
 use Rattle.machine.specs.Answers.{Answer, refused, Out}
 use Rattle.machine.specs.Rules.{rangeFits, wordOf, rule3, rule4, rule5, rule6, rule6-link, rule7, rule8, rule9, rule10, rule11, rule13, rule14, rule15}

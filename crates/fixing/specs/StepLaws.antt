@@ -15,8 +15,8 @@ use Rattle.machine.specs.declared.FrameRecord.{FrameRecord}
 use Rattle.machine.specs.declared.Pool.{Pool}
 use Rattle.machine.specs.declared.Handle.{Handle}
 use Rattle.machine.specs.declared.Fix.{Fix}
-use Rattle.machine.specs.Tests.{pick, Rule, firstBroken, verdict}
-use Rattle.machine.specs.Laws.TestLaws.{pick-yes, pick-no, or-left, or-skip, kept-then, broken-here, none-broken}
+use Rattle.rules.specs.Tests.{pick, Rule, firstBroken, verdict}
+use Rattle.rules.specs.TestLaws.{pick-yes, pick-no, or-left, or-skip, kept-then, broken-here, none-broken}
 use Rattle.machine.specs.Machine.{State, state, withPool, recordAt, pageIn, withRecords, withRecord, withUsage, pinned, loadedRecord}
 use Rattle.machine.specs.Answers.{refused, handle, Out, out}
 use Rattle.machine.specs.Sweep.{Swept, childless, firstEmpty, kind, sweep, withSwept}

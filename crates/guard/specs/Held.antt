@@ -11,8 +11,8 @@ use Rattle.page.specs.Figures.{pageSize, mostFrames}
 use Rattle.machine.specs.declared.FrameRecord.{FrameRecord}
 use Rattle.machine.specs.declared.Handle.{Handle}
 use Rattle.machine.specs.declared.Pool.{Pool}
-use Rattle.machine.specs.Tests.{_and_, firstBroken}
-use Rattle.machine.specs.Laws.TestLaws.{and-no}
+use Rattle.rules.specs.Tests.{_and_, firstBroken}
+use Rattle.rules.specs.TestLaws.{and-no}
 use Rattle.machine.specs.Machine.{State, isUsed, recordAt}
 use Rattle.machine.specs.Rules.{handleFits}
 use Rattle.machine.specs.Calls.{poolRules}

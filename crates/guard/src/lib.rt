@@ -9,7 +9,7 @@ use page::PageNumber;
 use residents::Residents;
 use seen::Seen;
 ghost use mathlib.Core.Path.{_≡_};
-ghost use Rattle.machine.specs.Tests.{firstBroken};
+ghost use Rattle.rules.specs.Tests.{firstBroken};
 ghost use Rattle.machine.specs.Machine.{state, recordAt};
 ghost use Rattle.machine.specs.Rules.{lengthsFit};
 ghost use Rattle.machine.specs.Calls.{poolRules, handleRules, wordRules, pageRules};

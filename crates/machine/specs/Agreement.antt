@@ -8,7 +8,7 @@ use Rattle.page.specs.Word.{isNumber, frameIn, frameWord, givesPage, namesNothi
 use Rattle.page.specs.Page.{name}
 use Rattle.machine.specs.declared.FrameRecord.{FrameRecord}
 use Rattle.machine.specs.declared.Pool.{Pool}
-use Rattle.machine.specs.Tests.{_and_, _or_, _⇒_, every}
+use Rattle.rules.specs.Tests.{_and_, _or_, _⇒_, every}
 use Rattle.machine.specs.Machine.{isRoot, recordAt, pageIn, occupied}
 
 abbrev pub parentOf : Pool → ℕ → ℕ

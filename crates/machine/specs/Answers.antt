@@ -11,7 +11,7 @@ use Rattle.machine.specs.declared.WordAnswer.the-variants.{Names, Refuse
 use Rattle.machine.specs.declared.FindAnswer.{FindAnswer}
 use Rattle.machine.specs.declared.FindAnswer.the-variants.{At, Absent, Refused as RefusedFind}
 use Rattle.page.specs.Page.{bytesFrom}
-use Rattle.machine.specs.Tests.{verdict}
+use Rattle.rules.specs.Tests.{verdict}
 use Rattle.machine.specs.Machine.{State}
 
 -- the lent buffer that a payload lies in

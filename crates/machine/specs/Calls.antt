@@ -9,7 +9,7 @@ use Rattle.page.specs.Word.{isNumber, frameIn, numberWord}
 use Rattle.page.specs.Page.{putSlot, pageOf, putPage, payloadAt, putPayload}
 use Rattle.machine.specs.declared.FrameRecord.{FrameRecord}
 use Rattle.machine.specs.declared.Handle.{Handle}
-use Rattle.machine.specs.Tests.{pick, firstBroken, verdict, Rule}
+use Rattle.rules.specs.Tests.{pick, firstBroken, verdict, Rule}
 use Rattle.machine.specs.Machine.{State, state, withPool, recordAt, pageIn, withRecord, pinned, unpinned, dirtied, zeroPool, openedPool, found}
 use Rattle.machine.specs.Moves.{plain, settled, evicted, loaded}
 use Rattle.machine.specs.Sweep.{Swept, firstEmpty, sweep, withSwept}

@@ -9,7 +9,7 @@ use Rattle.page.specs.Word.{isNumber, frameWord, numberWord, renamed}
 use Rattle.page.specs.Page.{slot, name, byte, payloadAt, payloadOf}
 use Rattle.page.specs.Octets.{Octets}
 use Rattle.machine.specs.declared.Handle.{Handle}
-use Rattle.machine.specs.Tests.{firstBroken}
+use Rattle.rules.specs.Tests.{firstBroken}
 use Rattle.machine.specs.Machine.{State, pageNumber, recordAt, blank}
 use Rattle.machine.specs.Answers.{Answer, refused, done, handle, number, frame, Shown, handedBack}
 use Rattle.machine.specs.Rules.{rule14}

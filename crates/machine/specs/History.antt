@@ -7,7 +7,7 @@ use Rattle.page.specs.declared.PageNumber.{PageNumber}
 use Rattle.page.specs.Octets.{Octets}
 use Rattle.page.specs.Page.{putSlot, putPayload}
 use Rattle.machine.specs.declared.Handle.{Handle}
-use Rattle.machine.specs.Tests.{pick}
+use Rattle.rules.specs.Tests.{pick}
 use Rattle.machine.specs.Machine.{State, state}
 use Rattle.machine.specs.Answers.{Answer, refused, done, handle, payload, number, frame, nowhere, Out}
 use Rattle.machine.specs.Calls.{openCall, rootCall, fixCall, unfixCall, showCall, peekCall, wordCall, writeCall, linkCall, unlinkCall, evictCall, settleCall, findCall}

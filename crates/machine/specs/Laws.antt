@@ -1,5 +1,4 @@
 -- Laws of the definitions, for the code and for the theorem, and what requests claim of them.
-pub mod TestLaws
 pub mod PlainLaws
 pub mod AgreementFacts
 pub mod Flags

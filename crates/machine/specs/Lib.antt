@@ -1,5 +1,4 @@
 -- Document 01 as definitions: what a reader needs to know what is promised.
-pub mod Tests
 pub mod Machine
 pub mod Agreement
 pub mod Soundness

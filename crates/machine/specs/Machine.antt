@@ -9,7 +9,7 @@ use Rattle.page.specs.declared.FrameIndex.{FrameIndex}
 use Rattle.page.specs.Figures.{maxUsage, recordCount}
 use Rattle.machine.specs.declared.FrameRecord.{FrameRecord}
 use Rattle.machine.specs.declared.Pool.{Pool}
-use Rattle.machine.specs.Tests.{pick, _and_}
+use Rattle.rules.specs.Tests.{pick, _and_}
 
 pub record State : Type 0 where
   pub pool : Pool

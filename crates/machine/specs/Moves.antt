@@ -7,7 +7,7 @@ use Rattle.page.specs.Word.{nameOf, renamed, isNumber, frameIn, frameWord, numb
 use Rattle.page.specs.Page.{slot, putSlot, pageOf, putPage}
 use Rattle.machine.specs.declared.FrameRecord.{FrameRecord}
 use Rattle.machine.specs.declared.Pool.{Pool}
-use Rattle.machine.specs.Tests.{pick}
+use Rattle.rules.specs.Tests.{pick}
 use Rattle.machine.specs.Machine.{State, state, blank, loadedRecord, cleaned, isDirty, recordAt, pageIn, withRecord, withRecords}
 
 -- ---- "The image of a resident page is its bytes with each swizzled word replaced by the number of the page in that frame."

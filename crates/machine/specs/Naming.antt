@@ -6,7 +6,7 @@ use lib.Dec.{eqb, ltb}
 use Rattle.page.specs.Figures.{slotCount}
 use Rattle.page.specs.Word.{namesNothing}
 use Rattle.page.specs.Page.{name}
-use Rattle.machine.specs.Tests.{pick, _and_, _or_, every, some}
+use Rattle.rules.specs.Tests.{pick, _and_, _or_, every, some}
 use Rattle.machine.specs.Machine.{State, pageIn, occupied, found}
 use Rattle.machine.specs.Moves.{plain}
 

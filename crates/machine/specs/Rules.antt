@@ -9,7 +9,7 @@ use Rattle.page.specs.Word.{isNumber, namesNothing}
 use Rattle.page.specs.Page.{name}
 use Rattle.machine.specs.declared.Pool.{Pool}
 use Rattle.machine.specs.declared.Handle.{Handle}
-use Rattle.machine.specs.Tests.{_and_, _or_, Rule}
+use Rattle.rules.specs.Tests.{_and_, _or_, Rule}
 use Rattle.machine.specs.Machine.{State, isUsed, recordAt, isRoot, found}
 use Rattle.machine.specs.Agreement.{agree}
 use Rattle.machine.specs.Soundness.{sound}

@@ -6,7 +6,7 @@ use lib.Dec.{eqb, ltb}
 use Rattle.page.specs.Figures.{slotCount}
 use Rattle.page.specs.Word.{namesNothing}
 use Rattle.page.specs.Page.{name}
-use Rattle.machine.specs.Tests.{_and_, _⇒_, every}
+use Rattle.rules.specs.Tests.{_and_, _⇒_, every}
 
 -- every word is 0 or a page number from 1 to N − 1
 unfoldable pub wordsBelow : List ℕ → ℕ → Bool

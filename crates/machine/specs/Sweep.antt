@@ -12,7 +12,7 @@ use Rattle.machine.specs.declared.FrameRecord.{FrameRecord}
 use Rattle.machine.specs.declared.Pool.{Pool}
 use Rattle.machine.specs.declared.Standing.{Standing}
 use Rattle.machine.specs.declared.Standing.the-variants.{Root, Pinned, Parent, Evictable}
-use Rattle.machine.specs.Tests.{pick, _and_, every}
+use Rattle.rules.specs.Tests.{pick, _and_, every}
 use Rattle.machine.specs.Machine.{isUsed, recordAt, frameIndex, isRoot, cooled, warmed}
 
 -- what a sweep ends with: whether a frame was taken and which, the looks, and the records and the hand after it

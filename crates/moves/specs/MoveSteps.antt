@@ -13,7 +13,7 @@ use Rattle.page.specs.Octets.{Octets}
 use Rattle.page.specs.Page.{slot, name, pageOf, putSlot, putPage, slot-pageOf, pageOf-whole, part-is-page, put-part}
 use Rattle.machine.specs.declared.FrameRecord.{FrameRecord}
 use Rattle.machine.specs.declared.Pool.{Pool}
-use Rattle.machine.specs.Laws.TestLaws.{every-true, pick-yes, pick-no}
+use Rattle.rules.specs.TestLaws.{every-true, pick-yes, pick-no}
 use Rattle.machine.specs.Machine.{State, state, cleaned, isDirty, recordAt, pageIn, withRecord, withRecords}
 use Rattle.machine.specs.Moves.{imageTo, writtenOutBy, writtenOutTo, cleanedTo, settled}
 use Rattle.machine.specs.Sweep.{childless}

@@ -6,7 +6,7 @@ ghost use lib.ListN.{length};
 ghost use Prim.Native.Nat.{_+_, _<_};
 ghost use Rattle.page.specs.Figures.{pageSize, slotCount, mostFrames};
 ghost use Rattle.page.specs.Word.{isNumber, frameWord};
-ghost use Rattle.machine.specs.Tests.{pick};
+ghost use Rattle.rules.specs.Tests.{pick};
 ghost use Rattle.machine.specs.Moves.{imageTo};
 ghost use Rattle.residents.specs.Residents.{pageBy};
 ghost use Rattle.moves.specs.WriteOut.{Named};

@@ -9,8 +9,8 @@ use borrow.Author.Tests.{eq-eqb, ne-eqb, lt-ltb, eqb-true, eqb-false, ltb-true, 
 use lib.Dec.{eqb, ltb}
 use Rattle.page.specs.Figures.{slotCount}
 use Rattle.page.specs.Page.{slot, pageWords}
-use Rattle.machine.specs.Tests.{every}
-use Rattle.machine.specs.Laws.TestLaws.{clash, same, is-off, both, and-true, or-left, or-right, or-second, every-true, true-every, some-true, true-some}
+use Rattle.rules.specs.Tests.{every}
+use Rattle.rules.specs.TestLaws.{clash, same, is-off, both, and-true, or-left, or-right, or-second, every-true, true-every, some-true, true-some}
 use Rattle.machine.specs.Machine.{State}
 use Rattle.machine.specs.Naming.{namedByResident, repeated, wordLoadable, loadable}
 use Rattle.seen.specs.Among.{not-among, none-among}

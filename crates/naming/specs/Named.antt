@@ -9,8 +9,8 @@ use borrow.Author.Tests.{eq-eqb, eqb-true, lt-ltb, le-ltb}
 use lib.Dec.{eqb}
 use Rattle.page.specs.Figures.{slotCount}
 use Rattle.page.specs.Page.{slot, pageWords}
-use Rattle.machine.specs.Tests.{_or_}
-use Rattle.machine.specs.Laws.TestLaws.{case, on, off, same, is-off, or-left, or-right, or-second, some-true, true-some, pick-yes, pick-no}
+use Rattle.rules.specs.Tests.{_or_}
+use Rattle.rules.specs.TestLaws.{case, on, off, same, is-off, or-left, or-right, or-second, some-true, true-some, pick-yes, pick-no}
 use Rattle.machine.specs.Machine.{State, pageIn, occupied, found}
 use Rattle.machine.specs.Laws.AgreementFacts.{occupied-lt}
 use Rattle.machine.specs.Laws.FoundLaws.{found-holds, found-is, none-found}

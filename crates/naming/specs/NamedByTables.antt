@@ -6,8 +6,8 @@ use mathlib.Core.List.{List, []}
 use native.Mathlib.Omega.{arith}
 use Rattle.page.specs.Figures.{slotCount}
 use Rattle.page.specs.Page.{pageWords}
-use Rattle.machine.specs.Tests.{_or_, every}
-use Rattle.machine.specs.Laws.TestLaws.{true-every, every-ext}
+use Rattle.rules.specs.Tests.{_or_, every}
+use Rattle.rules.specs.TestLaws.{true-every, every-ext}
 use Rattle.machine.specs.Machine.{State, state}
 use Rattle.machine.specs.Naming.{named, namedByResident, loadable}
 use Rattle.machine.specs.Laws.Ready.{Kept}

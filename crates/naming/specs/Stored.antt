@@ -6,8 +6,8 @@ use mathlib.Core.List.{List}
 use borrow.Author.Tests.{not-true}
 use Rattle.page.specs.Figures.{slotCount}
 use Rattle.page.specs.Page.{pageWords}
-use Rattle.machine.specs.Tests.{_and_, some}
-use Rattle.machine.specs.Laws.TestLaws.{both, and-true, and-no, and-off, some-zero, some-true, true-some}
+use Rattle.rules.specs.Tests.{_and_, some}
+use Rattle.rules.specs.TestLaws.{both, and-true, and-no, and-off, some-zero, some-true, true-some}
 use Rattle.seen.specs.Among.{among, some-keep, is-among, among-is}
 use Rattle.residents.specs.Residents.{inTable}
 

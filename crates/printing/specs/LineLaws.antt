@@ -6,7 +6,7 @@ use native.Mathlib.Omega.{arith}
 use lib.Dec.{ltb}
 use lib.ListN.{length, length-append}
 use Rattle.io.specs.Digits.{digits}
-use Rattle.machine.specs.Laws.TestLaws.{pick-either}
+use Rattle.rules.specs.TestLaws.{pick-either}
 use Rattle.recording.specs.Listing.{Numbers}
 use Rattle.printing.specs.Printing.{places, withNumber, withLine}
 

@@ -4,7 +4,7 @@ use mathlib.Core.List.{List, [], _∷_, _++_}
 use lib.Dec.{ltb}
 use Rattle.io.specs.Digits.{digits}
 use Rattle.page.specs.Page.{bytesFrom}
-use Rattle.machine.specs.Tests.{pick}
+use Rattle.rules.specs.Tests.{pick}
 use Rattle.machine.specs.Machine.{State}
 use Rattle.recording.specs.Listing.{Numbers, Listed, listed}
 

@@ -12,7 +12,7 @@ use mir.Syntax.{w16}
 use lib.ListN.{length, take, set, getD}
 use lib.Seq.{take-suc, take-suc-set}
 use Rattle.io.specs.Digits.{digits, Fewest}
-use Rattle.machine.specs.Laws.TestLaws.{pick-yes, pick-no}
+use Rattle.rules.specs.TestLaws.{pick-yes, pick-no}
 use Rattle.machine.specs.Machine.{State}
 use Rattle.recording.specs.Listing.{Numbers, lineNumbers, Listed}
 use Rattle.printing.specs.Printing.{places, withNumber, withLine, printed, withListed}

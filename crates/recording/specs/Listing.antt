@@ -7,7 +7,7 @@ use Rattle.page.specs.declared.PageNumber.{PageNumber}
 use Rattle.page.specs.Figures.{byteRadix}
 use Rattle.page.specs.Page.{bytesFrom}
 use Rattle.machine.specs.declared.Handle.{Handle}
-use Rattle.machine.specs.Tests.{pick, _and_, Rule, firstBroken, verdict}
+use Rattle.rules.specs.Tests.{pick, _and_, Rule, firstBroken, verdict}
 use Rattle.machine.specs.Machine.{State, frameIndex, pageNumber}
 use Rattle.machine.specs.Answers.{Answer, refused, done, handle, payload, number, frame, nowhere, Out, out}
 use Rattle.machine.specs.History.{Call, root, fix, unfix, write, link, unlink, evict, settle, find, row}

@@ -9,8 +9,8 @@ use lib.Dec.{eqb, leb}
 use borrow.Author.Tests.{eqb-true, leb-true}
 use Rattle.page.specs.declared.PageNumber.{PageNumber}
 use Rattle.machine.specs.declared.Pool.{Pool}
-use Rattle.machine.specs.Tests.{pick, verdict, firstBroken}
-use Rattle.machine.specs.Laws.TestLaws.{case, on, off, and-true, verdict-no, verdict-yes, kept-then, broken-here, none-broken}
+use Rattle.rules.specs.Tests.{pick, verdict, firstBroken}
+use Rattle.rules.specs.TestLaws.{case, on, off, and-true, verdict-no, verdict-yes, kept-then, broken-here, none-broken}
 use Rattle.machine.specs.Machine.{State, state}
 use Rattle.machine.specs.Answers.{Answer, refused, done, handle, payload, number, frame, nowhere, doneAnswer, Out, out}
 use Rattle.machine.specs.Calls.{decide, pageRules, findCall}

@@ -13,8 +13,8 @@ use Rattle.page.specs.Page.{pageOf, putPage}
 use Rattle.machine.specs.declared.FrameRecord.{FrameRecord}
 use Rattle.machine.specs.declared.Handle.{Handle}
 use Rattle.machine.specs.declared.Pool.{Pool}
-use Rattle.machine.specs.Tests.{Rule, firstBroken}
-use Rattle.machine.specs.Laws.TestLaws.{kept-then, broken-here, none-broken}
+use Rattle.rules.specs.Tests.{Rule, firstBroken}
+use Rattle.rules.specs.TestLaws.{kept-then, broken-here, none-broken}
 use Rattle.machine.specs.Machine.{State, state, withPool, blank, rootRecord, unpinned, recordAt, withRecord, zeroPool, openedPool, found}
 use Rattle.machine.specs.Soundness.{sound}
 use Rattle.machine.specs.Sweep.{standing}

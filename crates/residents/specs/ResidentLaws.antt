@@ -12,8 +12,8 @@ use Rattle.page.specs.Figures.{slotCount, mostFrames}
 use Rattle.page.specs.Word.{frameIn, frameWord, reading, low, high, Number}
 use Rattle.page.specs.Page.{slot, name, pageWords, name-row}
 use Rattle.machine.specs.declared.FrameRecord.{FrameRecord}
-use Rattle.machine.specs.Tests.{_and_, _or_}
-use Rattle.machine.specs.Laws.TestLaws.{clash, case, on, off, same, both, and-true, or-left, or-right, or-second, some-true, true-some}
+use Rattle.rules.specs.Tests.{_and_, _or_}
+use Rattle.rules.specs.TestLaws.{clash, case, on, off, same, both, and-true, or-left, or-right, or-second, some-true, true-some}
 use Rattle.machine.specs.Machine.{State, pageIn, occupied}
 use Rattle.machine.specs.Agreement.{parentOf, parentSlotOf, isBlank}
 use Rattle.machine.specs.Laws.AgreementFacts.{occupied-lt, Points, Agreed}

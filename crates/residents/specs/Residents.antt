@@ -7,7 +7,7 @@ use lib.Dec.{eqb}
 use lib.ListN.{length, getD}
 use Rattle.page.specs.Figures.{slotCount, mostFrames}
 use Rattle.page.specs.Page.{pageWords}
-use Rattle.machine.specs.Tests.{_and_, _or_, some}
+use Rattle.rules.specs.Tests.{_and_, _or_, some}
 use Rattle.seen.specs.Among.{among}
 use Rattle.machine.specs.declared.FrameRecord.{FrameRecord}
 use Rattle.machine.specs.Machine.{pageIn}

@@ -11,8 +11,8 @@ use lib.Dec.{eqb}
 use lib.ListN.{length}
 use Rattle.page.specs.declared.PageNumber.{PageNumber}
 use Rattle.page.specs.Figures.{pageSize, mostFrames}
-use Rattle.machine.specs.Tests.{pick, _and_, firstBroken}
-use Rattle.machine.specs.Laws.TestLaws.{case, on, off, both, and-yes, and-no, or-none, pick-yes}
+use Rattle.rules.specs.Tests.{pick, _and_, firstBroken}
+use Rattle.rules.specs.TestLaws.{case, on, off, both, and-yes, and-no, or-none, pick-yes}
 use Rattle.machine.specs.Machine.{State, isUsed, recordAt, pageIn, occupied, foundFrom, found}
 use Rattle.machine.specs.Sweep.{after, emptyFrom, firstEmpty}
 use Rattle.machine.specs.Laws.SweepLaws.{after-in}

@@ -14,8 +14,8 @@ use Rattle.page.specs.Figures.{mostFrames, maxUsage}
 use Rattle.machine.specs.declared.FrameRecord.{FrameRecord}
 use Rattle.machine.specs.declared.Standing.{Standing}
 use Rattle.machine.specs.declared.Pool.{Pool}
-use Rattle.machine.specs.Tests.{pick}
-use Rattle.machine.specs.Laws.TestLaws.{and-yes, and-no, pick-no, pick-two}
+use Rattle.rules.specs.Tests.{pick}
+use Rattle.rules.specs.TestLaws.{and-yes, and-no, pick-no, pick-two}
 use Rattle.machine.specs.Machine.{blank, frameIndex, withUsage, recordAt}
 use Rattle.machine.specs.Sweep.{Class, rest, warm, yield, Kind, classOf, kind, standing, Swept, after, lookLeaves, lookTakes, mostLooks, sweepFrom, sweep}
 use Rattle.machine.specs.Laws.SweepLaws.{after-in, Cooler, UsageBlind, looked, looked-cooler, looked-here, looked-other, kind-usage-blind, cooled-from}

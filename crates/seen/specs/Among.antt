@@ -9,8 +9,8 @@ use native.Mathlib.Omega.{arith}
 use borrow.Author.Tests.{eq-eqb, ne-eqb, eqb-true, not-false}
 use lib.Dec.{eqb}
 use Rattle.page.specs.Figures.{slotCount}
-use Rattle.machine.specs.Tests.{_or_, some}
-use Rattle.machine.specs.Laws.TestLaws.{clash, is-off, some-zero, some-suc, true-some, some-true, some-false}
+use Rattle.rules.specs.Tests.{_or_, some}
+use Rattle.rules.specs.TestLaws.{clash, is-off, some-zero, some-suc, true-some, some-true, some-false}
 use Rattle.seen.specs.Fold.{or-same}
 
 -- one of the first m numbers is x

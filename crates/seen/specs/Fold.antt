@@ -3,8 +3,8 @@ use Prim.Native.Nat.{ℕ, zero, suc, _+_}
 use mathlib.Core.Path.{_≡_, refl, sym, _∙_, ap}
 use mathlib.Core.Bool.{Bool, true, false}
 use native.Mathlib.Numerals.{add-one}
-use Rattle.machine.specs.Tests.{_and_, _or_, every, some}
-use Rattle.machine.specs.Laws.TestLaws.{and-yes, and-no, and-off, or-left, or-right, or-skip}
+use Rattle.rules.specs.Tests.{_and_, _or_, every, some}
+use Rattle.rules.specs.TestLaws.{and-yes, and-no, and-off, or-left, or-right, or-skip}
 
 -- the value after n steps
 unfoldable pub fold : {A : Type 0} → (ℕ → A → A) → A → ℕ → A

@@ -7,7 +7,7 @@ use mathlib.Core.List.{List}
 use lib.Dec.{eqb, ltb}
 use lib.ListN.{length, getD, set, replicate}
 use Rattle.page.specs.Figures.{slotCount, mostPages}
-use Rattle.machine.specs.Tests.{_and_, _or_, every}
+use Rattle.rules.specs.Tests.{_and_, _or_, every}
 use Rattle.seen.specs.Among.{among}
 
 abbrev pub Seen : Type 0

@@ -15,8 +15,8 @@ use lib.Seq.{getD-set-same, getD-set-other}
 use Rattle.page.specs.Figures.{wordSize, mostPages}
 use Rattle.page.specs.Word.{nameAt}
 use Rattle.page.specs.Page.{wordsFrom}
-use Rattle.machine.specs.Tests.{_and_, _or_, every}
-use Rattle.machine.specs.Laws.TestLaws.{clash, case, on, off, same, is-off, both, and-true, and-yes, and-no, or-left, or-right, or-second, or-none, or-off, every-zero, every-true, true-every, every-false}
+use Rattle.rules.specs.Tests.{_and_, _or_, every}
+use Rattle.rules.specs.TestLaws.{clash, case, on, off, same, is-off, both, and-true, and-yes, and-no, or-left, or-right, or-second, or-none, or-off, every-zero, every-true, true-every, every-false}
 use Rattle.seen.specs.Fold.{or-same}
 use Rattle.seen.specs.Among.{among, among-zero, among-hit, among-none, hasAny, not-any}
 use Rattle.seen.specs.Seen.{Seen, none, noted, Table, Tells, Marks, Notes, fresh, Marked, MarksOn}

@@ -11,8 +11,8 @@ use borrow.Author.Tests.{eq-eqb, ne-eqb, lt-ltb, eqb-true, eqb-false, ltb-true, 
 use lib.Dec.{eqb}
 use Rattle.page.specs.Figures.{slotCount, mostPages}
 use Rattle.page.specs.Page.{slot, pageWords}
-use Rattle.machine.specs.Tests.{_or_, every, some}
-use Rattle.machine.specs.Laws.TestLaws.{clash, same, is-off, both, and-true, use⇒, make⇒, every-true, true-every, every-false, every-ext, every-step, every-zero, some-zero, some-suc, some-true, true-some}
+use Rattle.rules.specs.Tests.{_or_, every, some}
+use Rattle.rules.specs.TestLaws.{clash, same, is-off, both, and-true, use⇒, make⇒, every-true, true-every, every-false, every-ext, every-step, every-zero, some-zero, some-suc, some-true, true-some}
 use Rattle.machine.specs.Soundness.{wordsBelow, wordsOnce, sound}
 use Rattle.seen.specs.Fold.{or-same}
 use Rattle.seen.specs.Among.{among, hasWord, is-among, among-is, not-among, none-among, no-word, no-word-among}

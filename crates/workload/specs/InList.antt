@@ -11,8 +11,8 @@ use Rattle.page.specs.Figures.{slotCount}
 use Rattle.page.specs.Word.{wordAt, nameOf, namesNothing}
 use Rattle.page.specs.Page.{slot, name, bytesFrom}
 use Rattle.page.specs.Octets.{Octets}
-use Rattle.machine.specs.Tests.{pick, _and_, _⇒_, firstBroken}
-use Rattle.machine.specs.Laws.TestLaws.{both, true-every, pick-either, pick-no, kept-then, none-broken}
+use Rattle.rules.specs.Tests.{pick, _and_, _⇒_, firstBroken}
+use Rattle.rules.specs.TestLaws.{both, true-every, pick-either, pick-no, kept-then, none-broken}
 use Rattle.machine.specs.Machine.{State}
 use Rattle.machine.specs.Answers.{refused, done, Out}
 use Rattle.machine.specs.Rules.{lengthsFit}

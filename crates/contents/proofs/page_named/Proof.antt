@@ -3,7 +3,7 @@ use Prim.Native.Nat.{_<_, _≤_}
 use mathlib.Core.Path.{refl, sym, ap, _∙_}
 use native.Mathlib.Omega.{arith}
 use Rattle.page.specs.Word.{Number, Swizzled, number-yes, number-no}
-use Rattle.machine.specs.Laws.TestLaws.{pick-yes, pick-no}
+use Rattle.rules.specs.TestLaws.{pick-yes, pick-no}
 use Rattle.machine.specs.Machine.{pageNumber}
 use Rattle.machine.specs.Moves.{plain}
 use borrow.Author.Needs.{needs}

@@ -1,7 +1,7 @@
 -- `guard::handle_fits` meets its contract: the tests of rule 3, one after the other. Assumes nothing.
 use mathlib.Core.Path.{refl}
 use borrow.Author.Tests.{lt-ltb, le-ltb, eq-eqb, ne-eqb}
-use Rattle.machine.specs.Laws.TestLaws.{and-yes, and-no}
+use Rattle.rules.specs.TestLaws.{and-yes, and-no}
 use Rattle.guard.specs.Held.{heldFits}
 use borrow.Author.Needs.{needs}
 use Rattle.guard.proofs.handle_fits.Statement.{statement}

@@ -2,7 +2,7 @@
 use mathlib.Core.Path.{sym, _∙_}
 use mathlib.Core.List.{[], _∷_}
 use native.Mathlib.Omega.{arith}
-use Rattle.machine.specs.Laws.TestLaws.{call-no, call-yes, kept-then, broken-here, none-broken}
+use Rattle.rules.specs.TestLaws.{call-no, call-yes, kept-then, broken-here, none-broken}
 use Rattle.machine.specs.Machine.{State, state}
 use Rattle.machine.specs.Rules.{rule3}
 use Rattle.machine.specs.Laws.RuleLaws.{pool-stops, pool-passes}

@@ -1,7 +1,7 @@
 -- `guard::lengths_fit` meets its contract: the tests of rule 1, one after the other. Assumes nothing.
 use mathlib.Core.Path.{refl}
 use borrow.Author.Tests.{le-leb, lt-leb, eq-eqb, ne-eqb}
-use Rattle.machine.specs.Laws.TestLaws.{and-yes, and-no}
+use Rattle.rules.specs.TestLaws.{and-yes, and-no}
 use Rattle.machine.specs.Rules.{lengthsFit}
 use borrow.Author.Needs.{needs}
 use Rattle.guard.proofs.lengths_fit.Statement.{statement}

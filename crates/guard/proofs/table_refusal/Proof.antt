@@ -2,7 +2,7 @@
 use mathlib.Core.Path.{refl, sym, _∙_}
 use mathlib.Core.List.{[]}
 use native.Mathlib.Omega.{arith}
-use Rattle.machine.specs.Laws.TestLaws.{call-no, call-yes, kept-then, broken-here, none-broken}
+use Rattle.rules.specs.TestLaws.{call-no, call-yes, kept-then, broken-here, none-broken}
 use Rattle.machine.specs.Machine.{state}
 use Rattle.machine.specs.Laws.Ready.{Sized, lengths-of}
 use borrow.Author.Needs.{needs}

@@ -11,8 +11,8 @@ use Rattle.page.specs.Word.{frameIn, frameWord, Number, Swizzled, number-yes, n
 use Rattle.page.specs.Page.{name}
 use Rattle.machine.specs.declared.FrameRecord.{FrameRecord}
 use Rattle.machine.specs.declared.Pool.{Pool}
-use Rattle.machine.specs.Tests.{_and_, _or_, _⇒_}
-use Rattle.machine.specs.Laws.TestLaws.{case, on, off, use⇒, make⇒, both, and-true, or-second, or-left, or-right, every-true, true-every}
+use Rattle.rules.specs.Tests.{_and_, _or_, _⇒_}
+use Rattle.rules.specs.TestLaws.{case, on, off, use⇒, make⇒, both, and-true, or-second, or-left, or-right, every-true, true-every}
 use Rattle.machine.specs.Machine.{isUsed, recordAt, pageIn, occupied}
 use Rattle.machine.specs.Agreement.{parentOf, parentSlotOf, isBlank, rootInPlace, pagesApart, handInRange, fieldsInRange, allInRange, emptyBlank, parentsName, pointsBack, swizzledPointBack, absent, numbersAbsent, numbersOnce, reachesRoot, allReachRoot, agree}
 

@@ -11,7 +11,7 @@ use Rattle.page.specs.declared.PageNumber.{PageNumber}
 use Rattle.page.specs.Word.{isNumber, frameIn}
 use Rattle.machine.specs.declared.Handle.{Handle}
 use Rattle.machine.specs.declared.Standing.{Standing}
-use Rattle.machine.specs.Tests.{_and_, Rule, firstBroken}
+use Rattle.rules.specs.Tests.{_and_, Rule, firstBroken}
 use Rattle.machine.specs.Machine.{State, recordAt, pageIn, found}
 use Rattle.machine.specs.Sweep.{standing, evictable, isOpen}
 use Rattle.machine.specs.Moves.{evicted}
@@ -19,7 +19,7 @@ use Rattle.machine.specs.Answers.{refused, done, Out, out}
 use Rattle.machine.specs.Rules.{wordOf, rule11, rule13, rule14, rule15}
 use Rattle.machine.specs.Calls.{decide, pageRules, openCall, rootCall, fixEntryRules, fixRules, fixCall, unfixCall, showCall, peekCall, wordCall, writeCall, linkCall, unlinkCall, stayRules, evictRules, evictCall, settleCall, findCall}
 use Rattle.machine.specs.History.{Call, reopen, root, fix, unfix, show, peek, word, write, link, unlink, evict, settle, find, row}
-use Rattle.machine.specs.Laws.TestLaws.{pick-either, first-kept, kept-then, broken-here, none-broken, numbered, parts-kept}
+use Rattle.rules.specs.TestLaws.{pick-either, first-kept, kept-then, broken-here, none-broken, numbered, parts-kept}
 use Rattle.machine.specs.Laws.FoundLaws.{found-holds, found-is}
 use Rattle.machine.specs.Laws.Ready.{Kept}
 use Rattle.machine.specs.Laws.RuleLaws.{page-kept}

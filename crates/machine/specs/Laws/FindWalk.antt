@@ -8,12 +8,12 @@ use native.Mathlib.Decide.{ℕ-discrete}
 use borrow.Author.Tests.{eq-eqb, eqb-true, lt-ltb, ltb-true, ltb-false}
 use lib.Dec.{eqb, ltb}
 use Rattle.page.specs.declared.PageNumber.{PageNumber}
-use Rattle.machine.specs.Tests.{pick, _and_, firstBroken}
+use Rattle.rules.specs.Tests.{pick, _and_, firstBroken}
 use Rattle.machine.specs.Machine.{State, isUsed, recordAt, pageIn, occupied, foundFrom, found}
 use Rattle.machine.specs.Answers.{Answer, refused, done, handle, payload, number, frame, nowhere, Out, out}
 use Rattle.machine.specs.Calls.{decide, pageRules, foundAnswer, findCall}
 use Rattle.machine.specs.History.{accepted}
-use Rattle.machine.specs.Laws.TestLaws.{clash, case, on, off, is-off, both, and-true, and-yes, pick-yes, pick-no}
+use Rattle.rules.specs.TestLaws.{clash, case, on, off, is-off, both, and-true, and-yes, pick-yes, pick-no}
 use Rattle.machine.specs.Laws.FoundLaws.{found-holds, found-none, found-le}
 use Rattle.machine.specs.Laws.RuleLaws.{decide-yes, page-kept}
 use Rattle.machine.specs.Laws.Outcomes.{refused-by, answers-as, leaves-as, no-refusal, absent-no-frame, one-found, one-absence}

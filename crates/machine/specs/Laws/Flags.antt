@@ -7,7 +7,7 @@ use native.Mathlib.Omega.{arith}
 use lib.Dec.{eqb}
 use Rattle.page.specs.Figures.{recordCount}
 use Rattle.machine.specs.declared.Pool.{Pool}
-use Rattle.machine.specs.Laws.TestLaws.{is-off}
+use Rattle.rules.specs.TestLaws.{is-off}
 use Rattle.machine.specs.Machine.{recordAt}
 use Rattle.machine.specs.Agreement.{agree}
 use Rattle.machine.specs.Laws.AgreementFacts.{facts}

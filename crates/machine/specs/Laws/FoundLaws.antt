@@ -10,8 +10,8 @@ use borrow.Author.Tests.{eq-eqb, eqb-true}
 use lib.Dec.{eqb}
 use Rattle.machine.specs.declared.FrameRecord.{FrameRecord}
 use Rattle.machine.specs.declared.Pool.{Pool}
-use Rattle.machine.specs.Tests.{_and_}
-use Rattle.machine.specs.Laws.TestLaws.{clash, case, on, off, both, and-left, and-right, pick-yes, pick-no}
+use Rattle.rules.specs.Tests.{_and_}
+use Rattle.rules.specs.TestLaws.{clash, case, on, off, both, and-left, and-right, pick-yes, pick-no}
 use Rattle.machine.specs.Machine.{isUsed, recordAt, pageIn, occupied, foundFrom, found}
 use Rattle.machine.specs.Laws.AgreementFacts.{occupied-lt, occupied-used, make-occupied, Agreed}
 

@@ -12,14 +12,14 @@ use Rattle.page.specs.Figures.{slotCount}
 use Rattle.page.specs.Word.{Swizzled, numberWord, namesNothing, high, low, reading}
 use Rattle.page.specs.Page.{name}
 use Rattle.machine.specs.declared.Handle.{Handle}
-use Rattle.machine.specs.Tests.{pick, _and_, Rule, firstBroken}
+use Rattle.rules.specs.Tests.{pick, _and_, Rule, firstBroken}
 use Rattle.machine.specs.Machine.{State, pageIn, occupied, found}
 use Rattle.machine.specs.Moves.{plain}
 use Rattle.machine.specs.Naming.{currentWord, named}
 use Rattle.machine.specs.Answers.{refused, done, number, Out, out}
 use Rattle.machine.specs.Rules.{wordOf, rule6-link, rule8, rule9}
 use Rattle.machine.specs.Calls.{decide, wordRules, relinked, wordCall, linkRules, linkCall}
-use Rattle.machine.specs.Laws.TestLaws.{clash, and-true, both, true-some, pick-yes, kept-then, none-broken}
+use Rattle.rules.specs.TestLaws.{clash, and-true, both, true-some, pick-yes, kept-then, none-broken}
 use Rattle.machine.specs.Laws.PlainLaws.{plain-low, plain-swizzled}
 use Rattle.machine.specs.Laws.AgreementFacts.{occupied-lt}
 use Rattle.machine.specs.Laws.FoundLaws.{holds-found, found-is}

@@ -13,8 +13,8 @@ use Rattle.page.specs.Word.{isNumber, frameIn, frameWord, putWord-before, putWo
 use Rattle.page.specs.Page.{slot, name, byte, pageOf, putSlot, putPage, putSlot-length, slot-putSlot-same, slot-putSlot-slot, byte-putSlot, pageOf-length, putPage-length, byte-first, byte-pageOf, slot-pageOf, pageOf-putPage}
 use Rattle.page.specs.Octets.{Octets, octets-putSlot, octets-pageOf, slot-lt, buffer-ext}
 use Rattle.machine.specs.declared.FrameRecord.{FrameRecord}
-use Rattle.machine.specs.Tests.{pick}
-use Rattle.machine.specs.Laws.TestLaws.{every-true, pick-yes, pick-either}
+use Rattle.rules.specs.Tests.{pick}
+use Rattle.rules.specs.TestLaws.{every-true, pick-yes, pick-either}
 use Rattle.machine.specs.Machine.{State, blank, cleaned, isDirty, recordAt, pageIn}
 use Rattle.machine.specs.Moves.{plain, imaged, imageTo, imageOf, writtenOutBy, writtenOut, writtenOutTo, cleanedTo, settled, evicted, loaded}
 use Rattle.machine.specs.Sweep.{childless}

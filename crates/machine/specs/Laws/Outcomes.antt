@@ -10,8 +10,8 @@ use borrow.Author.Tests.{eqb-false, not-true}
 use lib.Dec.{eqb}
 use Rattle.page.specs.Word.{isNumber, frameIn}
 use Rattle.machine.specs.declared.Handle.{Handle}
-use Rattle.machine.specs.Tests.{_and_, pick, Rule, firstBroken, verdict}
-use Rattle.machine.specs.Laws.TestLaws.{clash, and-true, pick-either, verdict-yes, verdict-no, numbered, broken-then}
+use Rattle.rules.specs.Tests.{_and_, pick, Rule, firstBroken, verdict}
+use Rattle.rules.specs.TestLaws.{clash, and-true, pick-either, verdict-yes, verdict-no, numbered, broken-then}
 use Rattle.machine.specs.Machine.{State}
 use Rattle.machine.specs.Answers.{Answer, refused, frame, nowhere, Out, out}
 use Rattle.machine.specs.Rules.{wordOf}

@@ -9,7 +9,7 @@ use native.Mathlib.Decide.{ℕ-discrete, decLt}
 use borrow.Author.Tests.{eqb-true, eq-eqb, ne-eqb}
 use lib.Dec.{eqb}
 use Rattle.machine.specs.declared.Pool.{Pool}
-use Rattle.machine.specs.Laws.TestLaws.{case, on, off, or-left, or-right, or-second}
+use Rattle.rules.specs.TestLaws.{case, on, off, or-left, or-right, or-second}
 use Rattle.machine.specs.Agreement.{parentOf, reachesRoot}
 
 -- ---- steps to the parent, which `up` gives

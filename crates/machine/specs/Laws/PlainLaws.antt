@@ -4,7 +4,7 @@ use Prim.Native.Nat.{ℕ, _<_}
 use native.Mathlib.Omega.{arith}
 use Rattle.page.specs.Figures.{mostPages, wordRadix}
 use Rattle.page.specs.Word.{nameOf, Number, Swizzled, frameIn, frameWord, yes-number, no-number, name-renamed-number, renamed-same, renamed-lt}
-use Rattle.machine.specs.Tests.{pick}
+use Rattle.rules.specs.Tests.{pick}
 use Rattle.machine.specs.Moves.{plain, imaged}
 
 pub plain-low : (page : ℕ → ℕ) (w : ℕ) → Number w → plain page w ≡ w

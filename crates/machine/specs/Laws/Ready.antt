@@ -12,8 +12,8 @@ use Rattle.page.specs.Figures.{pageSize, slotCount, leastFrames, mostFrames, mo
 use Rattle.page.specs.Word.{frameIn, frameWord, high, low, reading}
 use Rattle.page.specs.Page.{name}
 use Rattle.machine.specs.declared.FrameRecord.{FrameRecord}
-use Rattle.machine.specs.Tests.{_and_, firstBroken}
-use Rattle.machine.specs.Laws.TestLaws.{clash, and-true, both, first-kept, case, on, off}
+use Rattle.rules.specs.Tests.{_and_, firstBroken}
+use Rattle.rules.specs.TestLaws.{clash, and-true, both, first-kept, case, on, off}
 use Rattle.machine.specs.Machine.{State, isUsed, isDirty, recordAt, occupied}
 use Rattle.machine.specs.Agreement.{isBlank, agree}
 use Rattle.machine.specs.Laws.AgreementFacts.{InRange, Points, Agreed, facts, make-occupied, occupied-lt, occupied-used}

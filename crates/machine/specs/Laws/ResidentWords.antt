@@ -12,12 +12,12 @@ use Rattle.page.specs.Word.{isNumber, frameIn, yes-number, no-number, high, low
 use Rattle.page.specs.Page.{name}
 use Rattle.machine.specs.declared.Pool.{Pool}
 use Rattle.machine.specs.declared.Handle.{Handle}
-use Rattle.machine.specs.Tests.{firstBroken}
+use Rattle.rules.specs.Tests.{firstBroken}
 use Rattle.machine.specs.Machine.{State, pageIn, occupied, found}
 use Rattle.machine.specs.Moves.{plain}
 use Rattle.machine.specs.Rules.{wordOf, rule10}
 use Rattle.machine.specs.Calls.{fixEntryRules}
-use Rattle.machine.specs.Laws.TestLaws.{first-kept}
+use Rattle.rules.specs.TestLaws.{first-kept}
 use Rattle.machine.specs.Laws.AgreementFacts.{Agreed}
 use Rattle.machine.specs.Laws.FoundLaws.{holds-found, none-found}
 use Rattle.machine.specs.Laws.PlainLaws.{plain-low, plain-swizzled}

@@ -9,8 +9,8 @@ use Rattle.page.specs.declared.PageNumber.{PageNumber}
 use Rattle.page.specs.Figures.{slotCount}
 use Rattle.machine.specs.declared.Pool.{Pool}
 use Rattle.machine.specs.declared.Handle.{Handle}
-use Rattle.machine.specs.Tests.{_and_, Rule, firstBroken, verdict}
-use Rattle.machine.specs.Laws.TestLaws.{and-true, first-kept, pick-either, verdict-no, verdict-yes, numbered, broken-then, parts-kept}
+use Rattle.rules.specs.Tests.{_and_, Rule, firstBroken, verdict}
+use Rattle.rules.specs.TestLaws.{and-true, first-kept, pick-either, verdict-no, verdict-yes, numbered, broken-then, parts-kept}
 use Rattle.machine.specs.Machine.{State, isUsed, recordAt, pageIn, occupied}
 use Rattle.machine.specs.Laws.AgreementFacts.{make-occupied}
 use Rattle.machine.specs.Answers.{Answer, refused, done, Out, out, doneAnswer}

@@ -13,8 +13,8 @@ use Rattle.page.specs.Page.{name}
 use Rattle.machine.specs.declared.FrameRecord.{FrameRecord}
 use Rattle.machine.specs.declared.Standing.{Standing}
 use Rattle.machine.specs.declared.Standing.the-variants.{Root, Pinned, Parent, Evictable}
-use Rattle.machine.specs.Tests.{pick, firstBroken}
-use Rattle.machine.specs.Laws.TestLaws.{clash, case, on, off, every-true, false-every, pick-yes, pick-no}
+use Rattle.rules.specs.Tests.{pick, firstBroken}
+use Rattle.rules.specs.TestLaws.{clash, case, on, off, every-true, false-every, pick-yes, pick-no}
 use Rattle.machine.specs.Machine.{State, recordAt, isRoot, found}
 use Rattle.machine.specs.Sweep.{childless, standing, evictable, isOpen}
 use Rattle.machine.specs.Calls.{stayRules}

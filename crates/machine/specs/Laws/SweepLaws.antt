@@ -16,9 +16,9 @@ use Rattle.machine.specs.declared.FrameRecord.{FrameRecord}
 use Rattle.machine.specs.declared.Pool.{Pool}
 use Rattle.machine.specs.declared.Standing.{Standing}
 use Rattle.machine.specs.declared.Standing.the-variants.{Root, Pinned, Parent, Evictable}
-use Rattle.machine.specs.Tests.{pick, some}
+use Rattle.rules.specs.Tests.{pick, some}
 use Rattle.machine.specs.Laws.Flags.{same-flag}
-use Rattle.machine.specs.Laws.TestLaws.{clash, case, on, off, is-off, same, and-left, both, or-none, or-off, true-some, some-true, pick-either, pick-by}
+use Rattle.rules.specs.TestLaws.{clash, case, on, off, is-off, same, and-left, both, or-none, or-off, true-some, some-true, pick-either, pick-by}
 use Rattle.machine.specs.Machine.{State, withPool, blank, isUsed, recordAt}
 use Rattle.machine.specs.Laws.AgreementFacts.{InRange}
 use Rattle.machine.specs.Sweep.{Class, rest, warm, yield, yields, Kind, classOf, kind, Swept, after, emptyFrom, firstEmpty, standing, evictable, isOpen, lookLeaves, lookTakes, sweepFrom, mostLooks, sweep, withSwept}

@@ -10,8 +10,8 @@ use borrow.Author.Tests.{eq-eqb, ne-eqb, eqb-true}
 use lib.Dec.{eqb}
 use Rattle.page.specs.Figures.{maxUsage}
 use Rattle.machine.specs.declared.FrameRecord.{FrameRecord}
-use Rattle.machine.specs.Tests.{pick}
-use Rattle.machine.specs.Laws.TestLaws.{clash, and-right, pick-either, pick-by}
+use Rattle.rules.specs.Tests.{pick}
+use Rattle.rules.specs.TestLaws.{clash, and-right, pick-either, pick-by}
 use Rattle.machine.specs.Machine.{recordAt, withUsage}
 use Rattle.machine.specs.Sweep.{Class, rest, warm, yield, yields, Kind, Swept, after, lookLeaves, lookTakes, sweepFrom}
 use Rattle.machine.specs.Laws.SweepLaws.{after-in, Away, away-few, away-own, away-here, away-next, away-left, UsageBlind, looked, looked-here, looked-other, looked-open, looked-cooler, takes-open, looks-least, due, nearer}

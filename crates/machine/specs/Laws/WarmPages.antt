@@ -16,7 +16,7 @@ use Rattle.machine.specs.declared.Handle.{Handle}
 use Rattle.machine.specs.declared.Pool.{Pool}
 use Rattle.machine.specs.declared.Standing.{Standing}
 use Rattle.machine.specs.declared.Standing.the-variants.{Root, Pinned, Parent, Evictable}
-use Rattle.machine.specs.Tests.{pick, _and_, _or_, some, Rule, firstBroken, verdict}
+use Rattle.rules.specs.Tests.{pick, _and_, _or_, some, Rule, firstBroken, verdict}
 use Rattle.machine.specs.Machine.{State, withPool, blank, loadedRecord, pinned, warmed, cooled, withUsage, recordAt, pageIn}
 use Rattle.machine.specs.Moves.{writtenOutBy, evicted, loaded}
 use Rattle.machine.specs.Sweep.{Class, rest, warm, yield, Kind, classOf, kind, standing, isOpen, Swept, after, firstEmpty, lookLeaves, lookTakes, sweepFrom, mostLooks, sweep, withSwept}
@@ -24,7 +24,7 @@ use Rattle.machine.specs.Answers.{refused, handle, Out, out}
 use Rattle.machine.specs.Rules.{wordOf, rule13, rule14, rule15}
 use Rattle.machine.specs.Calls.{decide, changeRecord, pinnedOut, loadedOut, sweptOut, missOut, fixEntryRules, fixRules, fixCall}
 use Rattle.machine.specs.History.{accepted}
-use Rattle.machine.specs.Laws.TestLaws.{clash, case, on, off, or-second, first-kept, numbered, parts-kept, pick-yes, pick-no, pick-two}
+use Rattle.rules.specs.TestLaws.{clash, case, on, off, or-second, first-kept, numbered, parts-kept, pick-yes, pick-no, pick-two}
 use Rattle.machine.specs.Laws.Standings.{HasSwizzled, numbers-alone, rootStands, pinnedStands, parentStands, openStands, stands}
 use Rattle.machine.specs.Laws.SweepLaws.{Away, rest-not-warm, yield-not-warm, UsageBlind, open-class, standing-same, kind-usage-blind, looked, set-past, looked-here, looked-other, looked-cooler, sweep-looks, sweep-looked, taken-exactly}
 use Rattle.machine.specs.Laws.Turns.{looksAt, Times, looks-at, looksLeave, looks-rest, looks-warm, looks-yield, looks-leave, Chosen, chosen}

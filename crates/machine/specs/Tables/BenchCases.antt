@@ -8,7 +8,7 @@ use Rattle.page.specs.Word.{wordAt, nameOf, isNumber, frameIn}
 use Rattle.page.specs.Page.{slot}
 use Rattle.machine.specs.declared.FrameRecord.{FrameRecord}
 use Rattle.machine.specs.declared.Handle.{Handle}
-use Rattle.machine.specs.Tests.{pick}
+use Rattle.rules.specs.Tests.{pick}
 use Rattle.machine.specs.Machine.{State}
 use Rattle.machine.specs.Moves.{imageOf}
 use Rattle.machine.specs.Answers.{Out}

@@ -9,7 +9,7 @@ use Rattle.page.specs.Page.{slot, putSlot, pageOf, putPage, putPayload, bytesFr
 use Rattle.machine.specs.declared.FrameRecord.{FrameRecord}
 use Rattle.machine.specs.declared.Handle.{Handle}
 use Rattle.machine.specs.declared.Place.{Place}
-use Rattle.machine.specs.Tests.{pick, _and_, _or_, _⇒_, every, some, firstBroken, verdict}
+use Rattle.rules.specs.Tests.{pick, _and_, _or_, _⇒_, every, some, firstBroken, verdict}
 use Rattle.machine.specs.Machine.{State, state, frameIndex, pageNumber, zeroPool, openedPool, occupied, foundFrom}
 use Rattle.machine.specs.Agreement.{isBlank, rootInPlace, pagesApart, handInRange, fieldsInRange, allInRange, emptyBlank, parentsName, pointsBack, swizzledPointBack, absent, numbersAbsent, numbersOnce, reachesRoot, allReachRoot, agree}
 use Rattle.machine.specs.Soundness.{wordsBelow, wordsOnce, sound}

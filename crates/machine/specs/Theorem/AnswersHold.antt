@@ -10,7 +10,7 @@ use lib.Seq.{getD-take, getD-drop, ext-getD}
 use Rattle.page.specs.Figures.{pageSize, payloadStart, payloadSize}
 use Rattle.page.specs.Page.{name, byte, bytesFrom, payloadAt, payloadOf}
 use Rattle.machine.specs.declared.Handle.{Handle}
-use Rattle.machine.specs.Tests.{pick}
+use Rattle.rules.specs.Tests.{pick}
 use Rattle.machine.specs.Machine.{pageNumber, found}
 use Rattle.machine.specs.Answers.{Answer, refused, payload, inFrames, inStore, number, frame, Out, cut}
 use Rattle.machine.specs.Calls.{showCall, payloadPlace, peekCall, wordCall, fixCall}

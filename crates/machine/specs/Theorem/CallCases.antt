@@ -13,8 +13,8 @@ use Rattle.page.specs.Figures.{pageSize, slotCount, payloadSize, maxPins}
 use Rattle.page.specs.Word.{numberWord, Number, number-yes}
 use Rattle.page.specs.Page.{name}
 use Rattle.machine.specs.declared.Handle.{Handle}
-use Rattle.machine.specs.Tests.{_and_, Rule, firstBroken}
-use Rattle.machine.specs.Laws.TestLaws.{and-true, first-kept, kept-then}
+use Rattle.rules.specs.Tests.{_and_, Rule, firstBroken}
+use Rattle.rules.specs.TestLaws.{and-true, first-kept, kept-then}
 use Rattle.machine.specs.Machine.{State, state, zeroPool, pageIn, found, unpinned}
 use Rattle.machine.specs.Moves.{plain, settled, evicted}
 use Rattle.machine.specs.Naming.{named}

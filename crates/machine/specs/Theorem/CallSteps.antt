@@ -8,8 +8,8 @@ use Rattle.page.specs.declared.PageNumber.{PageNumber}
 use Rattle.page.specs.Figures.{pageSize, payloadSize}
 use Rattle.page.specs.Page.{payloadAt}
 use Rattle.machine.specs.declared.Handle.{Handle}
-use Rattle.machine.specs.Tests.{pick}
-use Rattle.machine.specs.Laws.TestLaws.{pick-either}
+use Rattle.rules.specs.Tests.{pick}
+use Rattle.rules.specs.TestLaws.{pick-either}
 use Rattle.machine.specs.Machine.{state, zeroPool, found}
 use Rattle.machine.specs.Soundness.{sound}
 use Rattle.machine.specs.Sweep.{firstEmpty}

@@ -6,7 +6,7 @@ use native.Mathlib.Omega.{arith}
 use lib.ListN.{length}
 use Rattle.page.specs.Figures.{pageSize}
 use Rattle.page.specs.Octets.{Octets}
-use Rattle.machine.specs.Laws.TestLaws.{first-kept}
+use Rattle.rules.specs.TestLaws.{first-kept}
 use Rattle.machine.specs.Machine.{state, zeroPool}
 use Rattle.machine.specs.Soundness.{sound}
 use Rattle.machine.specs.Rules.{lengthsFit}

@@ -10,8 +10,8 @@ use Rattle.page.specs.Figures.{slotCount}
 use Rattle.page.specs.Word.{isNumber, frameIn, frameWord, Number, Swizzled, number-yes, yes-number}
 use Rattle.page.specs.Page.{name}
 use Rattle.machine.specs.declared.Handle.{Handle}
-use Rattle.machine.specs.Tests.{_and_, Rule, firstBroken}
-use Rattle.machine.specs.Laws.TestLaws.{case, on, off, is-off, kept-then, broken-here, none-broken, numbered, parts-kept}
+use Rattle.rules.specs.Tests.{_and_, Rule, firstBroken}
+use Rattle.rules.specs.TestLaws.{case, on, off, is-off, kept-then, broken-here, none-broken, numbered, parts-kept}
 use Rattle.machine.specs.Rules.{wordOf, rule13, rule14, rule15}
 use Rattle.machine.specs.Laws.Ready.{Ready, ready}
 use Rattle.machine.specs.Answers.{refused, Out}

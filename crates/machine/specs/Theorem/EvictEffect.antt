@@ -8,7 +8,7 @@ use native.Mathlib.Decide.{ℕ-discrete, decLt}
 use Rattle.page.specs.Figures.{pageSize, slotCount, payloadStart}
 use Rattle.page.specs.Word.{frameWord, Number, reading, low, high, frame-word-inj}
 use Rattle.machine.specs.Moves.{plain}
-use Rattle.machine.specs.Laws.TestLaws.{clash, case, on, off}
+use Rattle.rules.specs.TestLaws.{clash, case, on, off}
 use Rattle.machine.specs.Laws.PlainLaws.{plain-low, plain-high}
 use Rattle.machine.specs.Theorem.View.{View, Reach, top, via, Occupied, Absent, Parent, Child, Shape, Map, Content}
 

@@ -10,8 +10,8 @@ use lib.Dec.{ltb}
 use Rattle.page.specs.Figures.{maxPins}
 use Rattle.page.specs.Word.{isNumber, frameIn, frameWord, Number, Swizzled, number-yes, number-no}
 use Rattle.machine.specs.declared.Handle.{Handle}
-use Rattle.machine.specs.Tests.{pick, _and_, Rule}
-use Rattle.machine.specs.Laws.TestLaws.{case, on, off, or-second, first-kept, kept-then, numbered, pick-yes, pick-no}
+use Rattle.rules.specs.Tests.{pick, _and_, Rule}
+use Rattle.rules.specs.TestLaws.{case, on, off, or-second, first-kept, kept-then, numbered, pick-yes, pick-no}
 use Rattle.machine.specs.Machine.{State}
 use Rattle.machine.specs.Naming.{loadable}
 use Rattle.machine.specs.Sweep.{firstEmpty, sweep}

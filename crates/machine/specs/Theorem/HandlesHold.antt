@@ -7,8 +7,8 @@ use Rattle.page.specs.Word.{Number}
 use Rattle.page.specs.Page.{name}
 use Rattle.machine.specs.declared.FrameRecord.{FrameRecord}
 use Rattle.machine.specs.declared.Handle.{Handle}
-use Rattle.machine.specs.Tests.{pick}
-use Rattle.machine.specs.Laws.TestLaws.{clash}
+use Rattle.rules.specs.Tests.{pick}
+use Rattle.rules.specs.TestLaws.{clash}
 use Rattle.machine.specs.Machine.{State, blank, isUsed, recordAt, pinned, loadedRecord}
 use Rattle.machine.specs.Moves.{plain, evicted, loaded}
 use Rattle.machine.specs.Sweep.{sweep}

@@ -4,7 +4,7 @@ use mathlib.Core.Path.{_≡_, sym, _∙_}
 use mathlib.Core.Bool.{true, false}
 use borrow.Author.Tests.{ltb-true, ltb-false}
 use lib.Dec.{ltb}
-use Rattle.machine.specs.Laws.TestLaws.{case, on, off}
+use Rattle.rules.specs.TestLaws.{case, on, off}
 use Rattle.machine.specs.Machine.{State, occupied, found}
 use Rattle.machine.specs.Laws.AgreementFacts.{occupied-lt, occupied-used, make-occupied}
 use Rattle.machine.specs.Laws.FoundLaws.{found-holds, holds-found, found-none, none-found}

@@ -12,7 +12,7 @@ use Rattle.page.specs.Page.{slot, name, byte, pageOf, putPage, pageOf-length, b
 use Rattle.page.specs.Octets.{Octets, octets-pageOf, octets-putPage}
 use Rattle.machine.specs.declared.FrameRecord.{FrameRecord}
 use Rattle.machine.specs.Machine.{isDirty}
-use Rattle.machine.specs.Laws.TestLaws.{clash, pick-yes, pick-no, pick-either, case, on, off}
+use Rattle.rules.specs.TestLaws.{clash, pick-yes, pick-no, pick-either, case, on, off}
 use Rattle.machine.specs.Moves.{plain, imaged, imageTo, writtenOutBy}
 use Rattle.machine.specs.Laws.PlainLaws.{plain-low, plain-high, name-imaged, imaged-lt}
 use Rattle.machine.specs.Theorem.View.{View, Occupied, Child, Shape, first-root, first-page}

@@ -11,8 +11,8 @@ use lib.Dec.{eqb, ltb}
 use lib.ListN.{length}
 use Rattle.page.specs.Figures.{pageSize, slotCount}
 use Rattle.page.specs.Page.{name}
-use Rattle.machine.specs.Tests.{some, Rule, firstBroken}
-use Rattle.machine.specs.Laws.TestLaws.{case, on, off, is-off, and-true, both, or-left, or-right, true-every, some-true, some-false, false-some, pick-yes, pick-no}
+use Rattle.rules.specs.Tests.{some, Rule, firstBroken}
+use Rattle.rules.specs.TestLaws.{case, on, off, is-off, and-true, both, or-left, or-right, true-every, some-true, some-false, false-some, pick-yes, pick-no}
 use Rattle.machine.specs.Machine.{recordAt, occupied, found, blank}
 use Rattle.machine.specs.Laws.AgreementFacts.{Agreed}
 use Rattle.machine.specs.Naming.{currentWord, named, namedByResident, repeated, wordLoadable, loadable}

@@ -11,7 +11,7 @@ use Rattle.page.specs.Word.{Number, frameWord, name-renamed-frame, nameOf, rena
 use Rattle.page.specs.Page.{slot, name, pageOf, putPage, putSlot-length, slot-putSlot-same, slot-putSlot-page, byte-putSlot, pageOf-length, putPage-length, slot-putPage-same, slot-putPage-other, byte-putPage-same, byte-putPage-other, slot-pageOf, byte-pageOf, byte-first}
 use Rattle.page.specs.Octets.{octets-putSlot, octets-pageOf, octets-putPage}
 use Rattle.machine.specs.declared.FrameRecord.{FrameRecord}
-use Rattle.machine.specs.Laws.TestLaws.{clash}
+use Rattle.rules.specs.TestLaws.{clash}
 use Rattle.machine.specs.Machine.{State, loadedRecord, isUsed, isDirty}
 use Rattle.machine.specs.Moves.{loaded}
 use Rattle.machine.specs.History.{Point, fixedIn}

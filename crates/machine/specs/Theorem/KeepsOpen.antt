@@ -14,7 +14,7 @@ use Rattle.page.specs.Figures.{pageSize, slotCount, recordCount}
 use Rattle.page.specs.Word.{nameOf}
 use Rattle.page.specs.Page.{name, byte, pageOf, putPage, pageOf-length, putPage-length, slot-putPage-same, byte-putPage-same, slot-pageOf, byte-pageOf, byte-first}
 use Rattle.page.specs.Octets.{Octets, octets-putPage, octets-pageOf}
-use Rattle.machine.specs.Laws.TestLaws.{clash, and-true, both, use⇒, every-true}
+use Rattle.rules.specs.TestLaws.{clash, and-true, both, use⇒, every-true}
 use Rattle.machine.specs.Machine.{State, blank, rootRecord, isUsed, recordAt, openedPool}
 use Rattle.machine.specs.Soundness.{wordsBelow, wordsOnce, sound}
 use Rattle.machine.specs.Rules.{lengthsFit}

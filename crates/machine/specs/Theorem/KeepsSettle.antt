@@ -13,7 +13,7 @@ use Rattle.page.specs.Page.{name, byte}
 use Rattle.page.specs.Octets.{Octets, buffer-ext}
 use Rattle.machine.specs.declared.FrameRecord.{FrameRecord}
 use Rattle.machine.specs.declared.Pool.{Pool}
-use Rattle.machine.specs.Laws.TestLaws.{clash, case, on, off}
+use Rattle.rules.specs.TestLaws.{clash, case, on, off}
 use Rattle.machine.specs.Machine.{State, isUsed, isDirty, recordAt, cleaned, withRecords, found}
 use Rattle.machine.specs.Laws.AgreementFacts.{occupied-used, make-occupied}
 use Rattle.machine.specs.Moves.{plain, writtenOut, writtenOutTo, cleanedTo, settled}

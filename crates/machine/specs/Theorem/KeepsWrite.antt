@@ -14,7 +14,7 @@ use Rattle.page.specs.Word.{nameOf}
 use Rattle.page.specs.Page.{name, byte, putPayload, putPayload-length, slot-putPayload, byte-putPayload-other, byte-putPayload-both, putPayload-none}
 use Rattle.page.specs.Octets.{Octets, octets-putPayload}
 use Rattle.machine.specs.declared.FrameRecord.{FrameRecord}
-use Rattle.machine.specs.Laws.TestLaws.{clash, pick-yes, pick-no, pick-either, case, on, off}
+use Rattle.rules.specs.TestLaws.{clash, pick-yes, pick-no, pick-either, case, on, off}
 use Rattle.machine.specs.Machine.{State, isDirty, recordAt, dirtied}
 use Rattle.machine.specs.Calls.{dirtiedBy, written}
 use Rattle.machine.specs.History.{Point}

@@ -8,7 +8,7 @@ use native.Mathlib.Decide.{ℕ-discrete, decLt}
 use Rattle.page.specs.Figures.{pageSize, slotCount, payloadStart}
 use Rattle.page.specs.Word.{frameWord, Number}
 use Rattle.machine.specs.Moves.{plain}
-use Rattle.machine.specs.Laws.TestLaws.{clash}
+use Rattle.rules.specs.TestLaws.{clash}
 use Rattle.machine.specs.Laws.PlainLaws.{plain-low, plain-high}
 use Rattle.machine.specs.Theorem.View.{View, Occupied, Absent, Parent, Child, Shape, Map, Content, MapSound, NoRoot}
 use Rattle.machine.specs.Theorem.KeepEffect.{Steady, steady-was, steady-is, steady-reach, steady-absent, steady-absentWas, steady-plain}

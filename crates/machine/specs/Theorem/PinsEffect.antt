@@ -6,7 +6,7 @@ use Prim.Native.Nat.{ℕ, _+_, _-_, _<_}
 use native.Mathlib.Omega.{arith}
 use native.Mathlib.Decide.{ℕ-discrete}
 use borrow.Author.Tests.{eq-eqb, ne-eqb, ltb-true}
-use Rattle.machine.specs.Laws.TestLaws.{pick-yes, pick-no, pick-either, case, on, off}
+use Rattle.rules.specs.TestLaws.{pick-yes, pick-no, pick-either, case, on, off}
 use Rattle.machine.specs.History.{Balance, isPinned, update, fixedIn, unfixed}
 use Rattle.machine.specs.Theorem.View.{View, Occupied, Absent, Shape}
 use Rattle.machine.specs.Theorem.Invariant.{Pins}

@@ -10,7 +10,7 @@ use Rattle.page.specs.Word.{isNumber, frameWord, Number, yes-number, reading, l
 use Rattle.page.specs.Page.{slot, name, byte}
 use Rattle.machine.specs.Machine.{recordAt, occupied, blank}
 use Rattle.machine.specs.Moves.{plain}
-use Rattle.machine.specs.Laws.TestLaws.{case, on, off}
+use Rattle.rules.specs.TestLaws.{case, on, off}
 use Rattle.machine.specs.History.{Point}
 use Rattle.machine.specs.Demand3.{InFrame, Resident, Pinned, Names, LeadsToRoot, atRoot, toParent}
 use Rattle.machine.specs.Laws.PlainLaws.{plain-low, plain-high}

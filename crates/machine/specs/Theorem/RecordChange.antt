@@ -11,7 +11,7 @@ use lib.Seq.{getD-set-same, getD-set-other}
 use Rattle.page.specs.Figures.{maxUsage, maxPins}
 use Rattle.machine.specs.declared.FrameRecord.{FrameRecord}
 use Rattle.machine.specs.declared.Pool.{Pool}
-use Rattle.machine.specs.Laws.TestLaws.{clash}
+use Rattle.rules.specs.TestLaws.{clash}
 use Rattle.machine.specs.Machine.{State, state, blank, isUsed, recordAt, withRecord}
 use Rattle.machine.specs.Laws.Flags.{same-flag}
 use Rattle.machine.specs.Laws.Ready.{Lengths}

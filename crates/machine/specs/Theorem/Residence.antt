@@ -5,7 +5,7 @@ use mathlib.Core.Logic.{_≢_}
 use mathlib.Core.List.{[], _∷_}
 use native.Mathlib.Omega.{arith}
 use borrow.Author.Tests.{lt-ltb, le-ltb, ltb-true}
-use Rattle.machine.specs.Laws.TestLaws.{kept-then, none-broken, pick-yes, pick-no}
+use Rattle.rules.specs.TestLaws.{kept-then, none-broken, pick-yes, pick-no}
 use Rattle.machine.specs.Machine.{pageNumber, found}
 use Rattle.machine.specs.Answers.{frame, nowhere, out}
 use Rattle.machine.specs.Rules.{rule6}

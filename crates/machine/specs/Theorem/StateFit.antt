@@ -15,8 +15,8 @@ use Rattle.page.specs.Word.{frameIn, frameWord, Swizzled}
 use Rattle.page.specs.Page.{name}
 use Rattle.page.specs.Octets.{Octets}
 use Rattle.machine.specs.declared.FrameRecord.{FrameRecord}
-use Rattle.machine.specs.Tests.{_and_, Rule, firstBroken}
-use Rattle.machine.specs.Laws.TestLaws.{clash, case, on, off, is-off, and-true, or-second, kept-then}
+use Rattle.rules.specs.Tests.{_and_, Rule, firstBroken}
+use Rattle.rules.specs.TestLaws.{clash, case, on, off, is-off, and-true, or-second, kept-then}
 use Rattle.machine.specs.Machine.{State, isUsed, recordAt, occupied, blank, frameIndex, pageNumber}
 use Rattle.machine.specs.Agreement.{parentOf, isBlank, reachesRoot}
 use Rattle.machine.specs.Laws.Parents.{climb, climb-reach}

@@ -9,8 +9,8 @@ use Rattle.page.specs.Figures.{slotCount}
 use Rattle.page.specs.Word.{Number}
 use Rattle.page.specs.Page.{name}
 use Rattle.machine.specs.declared.Handle.{Handle}
-use Rattle.machine.specs.Tests.{firstBroken}
-use Rattle.machine.specs.Laws.TestLaws.{clash, and-true}
+use Rattle.rules.specs.Tests.{firstBroken}
+use Rattle.rules.specs.TestLaws.{clash, and-true}
 use Rattle.machine.specs.Machine.{State, isUsed, recordAt, pageIn, found}
 use Rattle.machine.specs.Sweep.{evictable, isOpen}
 use Rattle.machine.specs.Laws.Standings.{HasSwizzled, numbers-alone, rootStands, pinnedStands, parentStands, openStands, stands, open-stands, none-stays, stays-first}

@@ -1,6 +1,6 @@
 -- `naming::is_loadable` meets its contract. Assumes nothing.
 use borrow.Author.Needs.{needs}
-use Rattle.machine.specs.Laws.TestLaws.{call-no}
+use Rattle.rules.specs.TestLaws.{call-no}
 use Rattle.naming.specs.NamedByTables.{loadableBy, loadable-empty}
 use Rattle.naming.proofs.is_loadable.Statement.{statement}
 use Rattle.naming.proofs.is_loadable.Tie as tie

@@ -1,7 +1,7 @@
 -- `naming::is_named` meets its contract. Assumes nothing.
 use borrow.Author.Needs.{needs}
 use mathlib.Core.Path.{sym, _∙_, ap}
-use Rattle.machine.specs.Laws.TestLaws.{or-left, or-skip}
+use Rattle.rules.specs.TestLaws.{or-left, or-skip}
 use Rattle.naming.specs.Stored.{inStore}
 use Rattle.naming.specs.NamedByTables.{namedBy}
 use Rattle.naming.proofs.is_named.Statement.{statement}

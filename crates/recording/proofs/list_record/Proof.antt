@@ -4,7 +4,7 @@ use mathlib.Core.Path.{_≡_, _∙_, ap}
 use mathlib.Core.Bool.{true}
 use mathlib.Core.List.{List}
 use borrow.Author.Needs.{needs}
-use Rattle.machine.specs.Laws.TestLaws.{call-no, call-yes}
+use Rattle.rules.specs.TestLaws.{call-no, call-yes}
 use Rattle.machine.specs.Machine.{State, state}
 use Rattle.machine.specs.Answers.{refused}
 use Rattle.machine.specs.History.{Call, row}

@@ -2,7 +2,7 @@
 use borrow.Author.Needs.{needs}
 use borrow.Author.Tests.{eq-eqb, ne-eqb}
 use mathlib.Core.Path.{sym}
-use Rattle.machine.specs.Laws.TestLaws.{or-left, or-skip}
+use Rattle.rules.specs.TestLaws.{or-left, or-skip}
 use Rattle.residents.specs.Residents.{holdsPage}
 use Rattle.residents.proofs.holds_page.Statement.{statement}
 use Rattle.residents.proofs.holds_page.Tie as tie

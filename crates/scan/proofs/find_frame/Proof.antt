@@ -6,7 +6,7 @@ use native.Mathlib.Omega.{arith}
 use native.Mathlib.Nat.{sub-zero}
 use borrow.Author.Needs.{needs}
 use borrow.Author.Tests.{eq-eqb, ne-eqb}
-use Rattle.machine.specs.Laws.TestLaws.{pick-yes, pick-no}
+use Rattle.rules.specs.TestLaws.{pick-yes, pick-no}
 use Rattle.residents.specs.Residents.{pageBy}
 use Rattle.scan.specs.FoundByTable.{foundBy}
 use Rattle.scan.proofs.find_frame.Statement.{statement}

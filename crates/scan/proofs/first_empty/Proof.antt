@@ -7,7 +7,7 @@ use native.Mathlib.Omega.{arith}
 use native.Mathlib.Nat.{sub-zero}
 use borrow.Author.Needs.{needs}
 use Rattle.page.specs.declared.FrameIndex.{FrameIndex}
-use Rattle.machine.specs.Laws.TestLaws.{call-no, call-yes, pick-yes, pick-no}
+use Rattle.rules.specs.TestLaws.{call-no, call-yes, pick-yes, pick-no}
 use Rattle.machine.specs.Machine.{frameIndex}
 use Rattle.machine.specs.Sweep.{after}
 use Rattle.residents.specs.Residents.{holdsPage}

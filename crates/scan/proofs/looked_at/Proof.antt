@@ -2,7 +2,7 @@
 use mathlib.Core.Path.{refl}
 use borrow.Author.Needs.{needs}
 use borrow.Author.Tests.{lt-ltb, le-ltb}
-use Rattle.machine.specs.Laws.TestLaws.{pick-yes, pick-no}
+use Rattle.rules.specs.TestLaws.{pick-yes, pick-no}
 use Rattle.scan.specs.Walk.{lookedAt}
 use Rattle.scan.proofs.looked_at.Statement.{statement}
 use Rattle.scan.proofs.looked_at.Tie as tie

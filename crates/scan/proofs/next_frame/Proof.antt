@@ -3,7 +3,7 @@ use mathlib.Core.Path.{refl, ap}
 use native.Mathlib.Omega.{arith}
 use borrow.Author.Needs.{needs}
 use borrow.Author.Tests.{lt-ltb, le-ltb}
-use Rattle.machine.specs.Laws.TestLaws.{pick-yes, pick-no}
+use Rattle.rules.specs.TestLaws.{pick-yes, pick-no}
 use Rattle.machine.specs.Machine.{frameIndex}
 use Rattle.machine.specs.Sweep.{after}
 use Rattle.scan.proofs.next_frame.Statement.{statement}

@@ -3,7 +3,7 @@ use Prim.Native.Nat.{_-_, _^_, _≤_, _<_}
 use mathlib.Core.Path.{refl, sym, _∙_}
 use native.Mathlib.Omega.{arith}
 use borrow.Author.Needs.{needs}
-use Rattle.machine.specs.Laws.TestLaws.{clash, call-no}
+use Rattle.rules.specs.TestLaws.{clash, call-no}
 use Rattle.machine.specs.Machine.{state}
 use Rattle.workload.specs.Workload.{summed}
 use Rattle.workload.specs.Blocks.{Reached, none-reached, block-reached, all-reached}

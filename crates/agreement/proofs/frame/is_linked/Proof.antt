@@ -1,6 +1,6 @@
 -- `is_linked` meets its contract. Assumes nothing.
 use mathlib.Core.Path.{sym, _∙_}
-use Rattle.machine.specs.Laws.TestLaws.{clash}
+use Rattle.rules.specs.TestLaws.{clash}
 use Rattle.agreement.specs.Deciding.{decide-equal}
 use borrow.Author.Needs.{needs}
 use Rattle.agreement.proofs.frame.is_linked.Statement.{statement}

@@ -3,7 +3,7 @@ use borrow.Author.Needs.{needs}
 use borrow.Author.Tests.{eq-eqb, ne-eqb}
 use native.Mathlib.Omega.{arith}
 use mathlib.Core.Path.{refl, sym, _∙_}
-use Rattle.machine.specs.Laws.TestLaws.{clash}
+use Rattle.rules.specs.TestLaws.{clash}
 use Rattle.agreement.specs.Twice.{pass-zeros}
 use Rattle.agreement.proofs.frame.note.Statement.{statement}
 use Rattle.agreement.proofs.frame.note.Tie as tie

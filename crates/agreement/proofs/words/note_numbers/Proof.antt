@@ -4,7 +4,7 @@ use borrow.Author.Tests.{not-true, not-false}
 use Prim.Native.Nat.{_≤_, _+_}
 use native.Mathlib.Omega.{arith}
 use mathlib.Core.Path.{_≡_, sym, _∙_}
-use Rattle.machine.specs.Laws.TestLaws.{clash}
+use Rattle.rules.specs.TestLaws.{clash}
 use Rattle.agreement.specs.Counting.{count-le}
 use Rattle.agreement.specs.Twice.{twice-more, pass-one, pass-zeros, goes-on}
 use Rattle.agreement.specs.Fit.{overFrom}

@@ -8,8 +8,8 @@ use borrow.Author.Tests.{lt-ltb, le-ltb, eq-eqb, ne-eqb}
 use lib.Dec.{ltb}
 use lib.ListN.{length}
 use Rattle.page.specs.Figures.{pageSize}
-use Rattle.machine.specs.Tests.{_and_, Rule, firstBroken}
-use Rattle.machine.specs.Laws.TestLaws.{and-yes, and-no, kept-then, broken-here, none-broken}
+use Rattle.rules.specs.Tests.{_and_, Rule, firstBroken}
+use Rattle.rules.specs.TestLaws.{and-yes, and-no, kept-then, broken-here, none-broken}
 use Rattle.machine.specs.Machine.{State, state}
 use Rattle.machine.specs.Naming.{named}
 use Rattle.machine.specs.Rules.{wordOf, rule6-link, rule8, rule9}

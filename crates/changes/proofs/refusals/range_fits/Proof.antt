@@ -1,7 +1,7 @@
 -- `changes::refusals::range_fits` meets its contract: the two tests of rule 5. Assumes nothing.
 use mathlib.Core.Path.{refl}
 use borrow.Author.Tests.{le-leb, lt-leb}
-use Rattle.machine.specs.Laws.TestLaws.{and-yes, and-no}
+use Rattle.rules.specs.TestLaws.{and-yes, and-no}
 use Rattle.machine.specs.Rules.{rangeFits}
 use Rattle.changes.proofs.refusals.range_fits.Statement.{statement}
 use Rattle.changes.proofs.refusals.range_fits.Tie as tie

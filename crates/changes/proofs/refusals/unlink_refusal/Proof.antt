@@ -6,8 +6,8 @@ use mathlib.Core.List.{List, [], _∷_}
 use native.Mathlib.Omega.{arith}
 use borrow.Author.Tests.{eq-eqb, ne-eqb}
 use Rattle.page.specs.Word.{isNumber}
-use Rattle.machine.specs.Tests.{Rule, firstBroken}
-use Rattle.machine.specs.Laws.TestLaws.{call-no, call-yes, kept-then, broken-here, none-broken}
+use Rattle.rules.specs.Tests.{Rule, firstBroken}
+use Rattle.rules.specs.TestLaws.{call-no, call-yes, kept-then, broken-here, none-broken}
 use Rattle.machine.specs.Machine.{State, state}
 use Rattle.machine.specs.Rules.{wordOf, rule7, rule10}
 use Rattle.machine.specs.Calls.{unlinkRules}

@@ -1,8 +1,8 @@
 -- `changes::refusals::write_refusal` meets its contract: the rules of the handle, and then rule 5. Assumes nothing.
 use mathlib.Core.Path.{sym, _∙_}
 use mathlib.Core.List.{List, [], _∷_}
-use Rattle.machine.specs.Tests.{Rule}
-use Rattle.machine.specs.Laws.TestLaws.{call-no, call-yes, kept-then, broken-here, none-broken}
+use Rattle.rules.specs.Tests.{Rule}
+use Rattle.rules.specs.TestLaws.{call-no, call-yes, kept-then, broken-here, none-broken}
 use Rattle.machine.specs.Machine.{State, state}
 use Rattle.machine.specs.Rules.{rule5}
 use Rattle.machine.specs.Laws.RuleLaws.{handle-stops, handle-passes}

@@ -1,6 +1,6 @@
 -- `contents::part::part_at` meets its contract: in the store, in the frames. Assumes nothing.
 use native.Mathlib.Omega.{arith}
-use Rattle.machine.specs.Laws.TestLaws.{case, on, off}
+use Rattle.rules.specs.TestLaws.{case, on, off}
 use Rattle.machine.specs.Answers.{lent}
 use Rattle.contents.specs.Places.{handed-part}
 use borrow.Author.Needs.{needs}

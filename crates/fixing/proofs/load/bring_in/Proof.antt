@@ -3,7 +3,7 @@ use Prim.Native.Nat.{_≤_, _-_}
 use mathlib.Core.Path.{_≡_, refl}
 use native.Mathlib.Omega.{arith}
 use borrow.Author.Tests.{not-true, not-false}
-use Rattle.machine.specs.Laws.TestLaws.{call-no, call-yes}
+use Rattle.rules.specs.TestLaws.{call-no, call-yes}
 use Rattle.machine.specs.Machine.{state}
 use Rattle.machine.specs.Sweep.{kind}
 use Rattle.machine.specs.Answers.{Out}

@@ -2,7 +2,7 @@
 use mathlib.Core.Path.{refl, sym, _∙_}
 use native.Mathlib.Omega.{arith}
 use Rattle.page.specs.Word.{Number, number-yes}
-use Rattle.machine.specs.Laws.TestLaws.{pick-yes, pick-no}
+use Rattle.rules.specs.TestLaws.{pick-yes, pick-no}
 use borrow.Author.Needs.{needs}
 use Rattle.moves.proofs.image.plain_name.Statement.{statement}
 use Rattle.moves.proofs.image.plain_name.Tie as tie

@@ -9,7 +9,7 @@ use lib.ListN.{length}
 use Rattle.page.specs.Figures.{pageSize, slotCount, wordSize, mostFrames}
 use Rattle.page.specs.Word.{wordAt, nameOf, renamed, putWord, putWord-length, isNumber, frameIn, frameWord}
 use Rattle.page.specs.Page.{slot, name, slot-first, putSlot-first}
-use Rattle.machine.specs.Tests.{pick}
+use Rattle.rules.specs.Tests.{pick}
 use Rattle.machine.specs.Moves.{plain, imageTo}
 use Rattle.machine.specs.Laws.MoveLaws.{image-suc, image-zero}
 use Rattle.residents.specs.Residents.{pageBy}

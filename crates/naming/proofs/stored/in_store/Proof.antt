@@ -5,7 +5,7 @@ use mathlib.Core.Path.{_≡_, sym, _∙_}
 use mathlib.Core.Bool.{false}
 use mathlib.Core.Logic.{⊎-elim}
 use native.Mathlib.Omega.{arith}
-use Rattle.machine.specs.Laws.TestLaws.{call-yes, call-no}
+use Rattle.rules.specs.TestLaws.{call-yes, call-no}
 use Rattle.naming.specs.Stored.{inStore, in-no-page, in-page, pass-other, pass-resident}
 use Rattle.naming.proofs.stored.in_store.Statement.{statement}
 use Rattle.naming.proofs.stored.in_store.Tie as tie

@@ -1,7 +1,7 @@
 -- `recording::fields::is_call` meets its contract: rule 17's three tests, in their order. Assumes nothing.
 use mathlib.Core.Path.{refl}
 use borrow.Author.Tests.{le-leb, lt-leb}
-use Rattle.machine.specs.Laws.TestLaws.{and-yes, and-no}
+use Rattle.rules.specs.TestLaws.{and-yes, and-no}
 use borrow.Author.Needs.{needs}
 use Rattle.recording.proofs.fields.is_call.Statement.{statement}
 use Rattle.recording.proofs.fields.is_call.Tie as tie

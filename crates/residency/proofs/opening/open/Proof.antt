@@ -3,7 +3,7 @@ use native.Mathlib.Omega.{arith}
 use Prim.Native.Nat.{_/_}
 use lib.ListN.{length}
 use Rattle.page.specs.Figures.{pageSize}
-use Rattle.machine.specs.Laws.TestLaws.{call-no, call-yes}
+use Rattle.rules.specs.TestLaws.{call-no, call-yes}
 use Rattle.machine.specs.Laws.Ready.{Lengths, lengths-of}
 use Rattle.residency.specs.CallLaws.{open-unfit, open-unsound, open-done}
 use borrow.Author.Needs.{needs}

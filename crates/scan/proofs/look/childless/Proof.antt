@@ -9,7 +9,7 @@ use borrow.Author.Needs.{needs}
 use Rattle.page.specs.Figures.{slotCount}
 use Rattle.page.specs.Word.{nameAt, isNumber}
 use Rattle.page.specs.Page.{slot}
-use Rattle.machine.specs.Laws.TestLaws.{call-no, call-yes}
+use Rattle.rules.specs.TestLaws.{call-no, call-yes}
 use Rattle.machine.specs.Sweep.{childless}
 use Rattle.seen.specs.Fold.{fold, fold-none, fold-more, everyOf, every-fold, flag-cleared, flag-kept}
 use Rattle.scan.proofs.look.childless.Statement.{statement}

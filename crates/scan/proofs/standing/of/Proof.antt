@@ -2,7 +2,7 @@
 use mathlib.Core.Path.{refl, sym, _∙_}
 use borrow.Author.Needs.{needs}
 use borrow.Author.Tests.{eq-eqb, ne-eqb}
-use Rattle.machine.specs.Laws.TestLaws.{pick-yes, pick-no}
+use Rattle.rules.specs.TestLaws.{pick-yes, pick-no}
 use Rattle.machine.specs.Sweep.{standing}
 use Rattle.scan.proofs.standing.of.Statement.{statement}
 use Rattle.scan.proofs.standing.of.Tie as tie

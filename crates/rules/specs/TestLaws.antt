@@ -8,7 +8,7 @@ use borrow.Author.Tests.{not-true, not-false, eq-eqb, ne-eqb, eqb-false}
 use native.Mathlib.Omega.{arith}
 use native.Mathlib.Decide.{ℕ-discrete}
 use native.Mathlib.Numerals.{add-one}
-use Rattle.machine.specs.Tests.{pick, _and_, _or_, _⇒_, every, some, Rule, firstBroken, verdict}
+use Rattle.rules.specs.Tests.{pick, _and_, _or_, _⇒_, every, some, Rule, firstBroken, verdict}
 
 pub clash : true ≡ false → ⊥
 clash e = let y : _≡_ {A = ℕ} 0 1 = cc in omega arith
