@@ -1,9 +1,10 @@
 /*
  * A pool of 4 frames over a store of 16 empty pages: links and fixes a few pages, writes, reads back, settles, and reads the
- * store again through a new pool. Prints what it did, as demo.rs does.
+ * store again through a new pool. Then tells from its fixes what caches of a few sizes hit. Prints what it did, as demo.rs does.
  */
 #include "pagepool.h"
 
+#include <inttypes.h>
 #include <stdio.h>
 #include <stdlib.h>
 #include <string.h>
@@ -14,6 +15,9 @@
 static uint8_t store[PAGES * POOL_PAGE_SIZE];
 static uint8_t frames[FRAMES * POOL_PAGE_SIZE];
 static struct pool pool;
+/* The recording: the page of each fix. */
+static uint16_t recorded[POOL_MOST_REFERENCES];
+static size_t fixes;
 
 /* Ends the program where a call was refused that should not be. */
 static void accept(uint8_t refusal)
@@ -54,6 +58,8 @@ static struct pool_handle fix_slot(struct pool_handle parent, size_t slot)
     struct pool_fixed fixed = pool_fix(pool, frames, sizeof frames, store, sizeof store, parent, slot);
     accept(fixed.refusal);
     pool = fixed.pool;
+    if (fixes < POOL_MOST_REFERENCES)
+        recorded[fixes++] = fixed.handle.page;
     printf("fix slot %zu of page %d: page %d in frame %d, %d looks\n", slot, parent.page, fixed.handle.page,
            fixed.handle.frame, fixed.looks);
     return fixed.handle;
@@ -144,6 +150,20 @@ static void settle(void)
     printf("settle\n");
 }
 
+/* How many frames to buy: what a flat cache of a size, which replaces the page least recently used, hits of the fixes. */
+static void print_hits(uint64_t most)
+{
+    static uint32_t counts[POOL_DEPTHS];
+    const struct pool_tally none = {0, 0};
+    struct pool_added added = pool_tally_add(none, counts, POOL_DEPTHS, recorded, fixes);
+    accept(added.refusal);
+    for (uint64_t size = 2; size <= most; size++) {
+        struct pool_share share = pool_tally_share(added.tally, counts, POOL_DEPTHS, size);
+        accept(share.refusal);
+        printf("a cache of %" PRIu64 " pages hits %" PRIu64 " of %" PRIu64 " fixes\n", size, share.within, share.all);
+    }
+}
+
 int main(void)
 {
     struct pool_handle root = open_pool();
@@ -182,5 +202,6 @@ int main(void)
     parent = fix_slot(root, 3);
     show_page(parent);
     print_word(parent, 0);
+    print_hits(5);
     return 0;
 }

@@ -1,9 +1,13 @@
 //! A pool of 4 frames over a store of 16 empty pages: links and fixes a few pages, writes, reads back, settles, and reads the
-//! store again through a new pool. Prints what it did, as demo.c does.
-use pagepool::{Found, Handle, PageNumber, PagePool, Refusal, PAGE_SIZE};
+//! store again through a new pool. Then tells from its fixes what caches of a few sizes hit. Prints what it did, as demo.c does.
+use pagepool::{Found, Handle, PageNumber, PagePool, Refusal, Share, Tally, PAGE_SIZE};
 
 /// The pool with its buffers. Each method makes a call and prints it.
-struct Demo(PagePool<[u8; 4 * PAGE_SIZE], [u8; 16 * PAGE_SIZE]>);
+struct Demo {
+    pool: PagePool<[u8; 4 * PAGE_SIZE], [u8; 16 * PAGE_SIZE]>,
+    /// The recording: the page of each fix.
+    recorded: Vec<u16>,
+}
 
 /// A payload's text, up to the first byte of 0.
 fn text(payload: &[u8]) -> String {
@@ -18,31 +22,32 @@ fn text(payload: &[u8]) -> String {
 impl Demo {
     /// Opens the pool, and pins its root.
     fn open(&mut self) -> Result<Handle, Refusal> {
-        self.0.open()?;
+        self.pool.open()?;
         println!(
             "open: {} pages, {} frames",
-            self.0.records.pages, self.0.records.count
+            self.pool.records.pages, self.pool.records.count
         );
-        let root = self.0.root()?.handle;
+        let root = self.pool.root()?.handle;
         println!("root: page {} in frame {}", root.page, root.frame);
         Ok(root)
     }
 
     fn link(&mut self, parent: Handle, slot: usize, page: PageNumber) -> Result<(), Refusal> {
-        self.0.link(parent, slot, page)?;
+        self.pool.link(parent, slot, page)?;
         println!("link page {page} to slot {slot} of page {}", parent.page);
         Ok(())
     }
 
     fn unlink(&mut self, parent: Handle, slot: usize) -> Result<(), Refusal> {
-        self.0.unlink(parent, slot)?;
+        self.pool.unlink(parent, slot)?;
         println!("unlink slot {slot} of page {}", parent.page);
         Ok(())
     }
 
     fn fix(&mut self, parent: Handle, slot: usize) -> Result<Handle, Refusal> {
-        let fixed = self.0.fix(parent, slot)?;
+        let fixed = self.pool.fix(parent, slot)?;
         let Handle { frame, page } = fixed.handle;
+        self.recorded.push(page.0);
         let looks = fixed.looks;
         println!(
             "fix slot {slot} of page {}: page {page} in frame {frame}, {looks} looks",
@@ -52,26 +57,26 @@ impl Demo {
     }
 
     fn unfix(&mut self, handle: Handle) -> Result<(), Refusal> {
-        self.0.unfix(handle)?;
+        self.pool.unfix(handle)?;
         println!("unfix page {}", handle.page);
         Ok(())
     }
 
     fn write(&mut self, handle: Handle, text: &str) -> Result<(), Refusal> {
-        self.0.write(handle, 0, text.as_bytes())?;
+        self.pool.write(handle, 0, text.as_bytes())?;
         println!("write to page {}: {text}", handle.page);
         Ok(())
     }
 
     fn evict(&mut self, page: PageNumber) {
-        match self.0.evict(page) {
+        match self.pool.evict(page) {
             Ok(()) => println!("evict page {page}"),
             Err(refusal) => println!("evict page {page}: {refusal}"),
         }
     }
 
     fn find(&self, page: PageNumber) -> Result<(), Refusal> {
-        let Found { frame, looks } = self.0.find(page)?;
+        let Found { frame, looks } = self.pool.find(page)?;
         match frame {
             Some(frame) => println!("find page {page}: frame {frame}, {looks} looks"),
             None => println!("find page {page}: absent, {looks} looks"),
@@ -80,17 +85,21 @@ impl Demo {
     }
 
     fn show(&self, handle: Handle) -> Result<(), Refusal> {
-        println!("show page {}: {}", handle.page, text(self.0.show(handle)?));
+        println!(
+            "show page {}: {}",
+            handle.page,
+            text(self.pool.show(handle)?)
+        );
         Ok(())
     }
 
     fn peek(&self, page: PageNumber) -> Result<(), Refusal> {
-        println!("peek page {page}: {}", text(self.0.peek(page)?));
+        println!("peek page {page}: {}", text(self.pool.peek(page)?));
         Ok(())
     }
 
     fn word(&self, handle: Handle, slot: usize) -> Result<(), Refusal> {
-        match self.0.word(handle, slot)? {
+        match self.pool.word(handle, slot)? {
             Some(page) => println!("word in slot {slot} of page {}: page {page}", handle.page),
             None => println!("word in slot {slot} of page {}: nothing", handle.page),
         }
@@ -98,14 +107,28 @@ impl Demo {
     }
 
     fn settle(&mut self) -> Result<(), Refusal> {
-        self.0.settle()?;
+        self.pool.settle()?;
         println!("settle");
+        Ok(())
+    }
+
+    /// How many frames to buy: what a flat cache of a size, which replaces the page least recently used, hits of the fixes.
+    fn hits(&self, most: u64) -> Result<(), Refusal> {
+        let mut tally = Tally::new();
+        tally.add(&self.recorded)?;
+        for size in 2..=most {
+            let Share { within, all } = tally.share(size);
+            println!("a cache of {size} pages hits {within} of {all} fixes");
+        }
         Ok(())
     }
 }
 
 fn main() -> Result<(), Refusal> {
-    let mut demo = Demo(PagePool::new([0; 4 * PAGE_SIZE], [0; 16 * PAGE_SIZE]));
+    let mut demo = Demo {
+        pool: PagePool::new([0; 4 * PAGE_SIZE], [0; 16 * PAGE_SIZE]),
+        recorded: Vec::new(),
+    };
     let root = demo.open()?;
     demo.link(root, 3, PageNumber(7))?;
     let parent = demo.fix(root, 3)?;
@@ -141,5 +164,6 @@ fn main() -> Result<(), Refusal> {
     let root = demo.open()?;
     let parent = demo.fix(root, 3)?;
     demo.show(parent)?;
-    demo.word(parent, 0)
+    demo.word(parent, 0)?;
+    demo.hits(5)
 }

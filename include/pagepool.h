@@ -7,11 +7,12 @@
  *
  * The host owns everything. It keeps the store (N pages of 256 bytes), the frames (F of 256 bytes) and the pool's records,
  * and hands all three to every call; a call keeps nothing. The records are passed by value: go on with those in the answer.
+ * A tally of recorded fixes stands by itself: its calls take no pool.
  *
  * Answers. `refusal` is 0 where the call was accepted, and otherwise the number of the first broken rule (enum pool_refusal).
  * An accepted answer's fields all count. A refused call has changed nothing: the records in its answer are those that it was
- * handed, to go on with, and so is the generator in draw's; every other field is 0. Open alone takes no records: refused, it
- * answers all-zero ones, and the host goes on with its old ones.
+ * handed, to go on with, and so are the generator in draw's and the tally in add's; every other field is 0. Open alone takes no
+ * records: refused, it answers all-zero ones, and the host goes on with its old ones.
  *
  * Handles. A handle is a frame and the page in it. It is good from the answer of root or fix that gave it until each of the
  * page's pins was taken off by an unfix: as long as the page is pinned it stays in that frame, whatever else is called but
@@ -24,10 +25,10 @@
  *     uint8_t copy[POOL_PAYLOAD_SIZE];
  *     memcpy(copy, pool_payload(place, frames, store), sizeof copy);
  *
- * Arguments. A call takes any lengths, records, handle, slot, offset and page number, and refuses what it can't use. Of the
- * pointers it asks what C asks: each has its length's bytes behind it, and a buffer that is not const overlaps no other.
- * NULL with a length of 0 is fine throughout: frames or store of no bytes are refused by 1, and a write of no bytes changes
- * nothing. NULL with any other length is not.
+ * Arguments. A call takes any lengths, records, handle, slot, offset, page number and tally, and refuses what it can't use. Of
+ * the pointers it asks what C asks: each has as many bytes behind it as its size says, or elements as its length says, and a
+ * buffer that is not const overlaps no other. NULL with a length of 0 is fine throughout: frames, store, counters, hits and
+ * recordings of no length are refused by 1, and a write of no bytes changes nothing. NULL with any other length is not.
  */
 #ifndef PAGEPOOL_H
 #define PAGEPOOL_H
@@ -47,7 +48,7 @@ extern "C" {
  * compiled for the version before go on working with the new archive, otherwise MAJOR.
  */
 #define PAGEPOOL_VERSION_MAJOR 3
-#define PAGEPOOL_VERSION_MINOR 1
+#define PAGEPOOL_VERSION_MINOR 2
 #define PAGEPOOL_VERSION (1000 * PAGEPOOL_VERSION_MAJOR + PAGEPOOL_VERSION_MINOR)
 
 /* ---- figures */
@@ -63,14 +64,19 @@ extern "C" {
 #define POOL_MOST_FRAMES 64
 #define POOL_MAX_USAGE 3
 #define POOL_MAX_PINS 65535
+/* A tally has a counter for each depth from 1 to this. */
+#define POOL_DEPTHS 4095
+/* A recording has 1 to so many page numbers, each below POOL_MOST_PAGES. */
+#define POOL_MOST_REFERENCES 4096
+#define POOL_MOST_RECORDINGS 65535
 
 /* ---- refusals, in checking order: 9 is tested before 8, and 20 to 22 after 11 */
 
 enum pool_refusal {
     POOL_ACCEPTED = 0,
-    /* Frames or store have a length out of range, or another one than at opening. */
+    /* Frames, store, counters, hits or recording have a length out of range or other than at opening, or the tally is full. */
     POOL_WRONG_LENGTH = 1,
-    /* Records and frames don't agree. */
+    /* Records and frames don't agree, or a tally's references with its recordings or its counters. */
     POOL_DISAGREE = 2,
     /* The handle's frame isn't below F or doesn't hold its page, or that has no pins. */
     POOL_BAD_HANDLE = 3,
@@ -78,7 +84,7 @@ enum pool_refusal {
     POOL_BAD_SLOT = 4,
     /* The offset is above 192, or the length above 192 - offset. */
     POOL_BAD_RANGE = 5,
-    /* The page number isn't below N, or is 0 in link. */
+    /* The page number isn't below N, is 0 in link, or is above 4,095 in a recording. */
     POOL_BAD_PAGE = 6,
     /* Fix or unlink meets a word of 0. */
     POOL_EMPTY_SLOT = 7,
@@ -155,6 +161,15 @@ struct pool_generator {
     uint32_t number;
 };
 
+/*
+ * The head of a tally: the recordings that were added, and all their references. Its 4,095 counters are lent beside it. With all
+ * of them 0 it is the tally of no recordings.
+ */
+struct pool_tally {
+    uint16_t recordings;
+    uint32_t references;
+};
+
 /* ---- answers */
 
 struct pool_done {
@@ -209,6 +224,19 @@ struct pool_drawn {
      */
     uint8_t entry[16];
     struct pool_generator generator;
+};
+
+/* The tally to go on with. Beside a refusal it is the one that was handed in. */
+struct pool_added {
+    uint8_t refusal;
+    struct pool_tally tally;
+};
+
+/* The references whose depth is at most a size, which are the hits of a cache of that size, and all references. */
+struct pool_share {
+    uint8_t refusal;
+    uint64_t within;
+    uint64_t all;
 };
 
 /* The payload there, in the host's own buffer: `place.size` bytes. */
@@ -329,6 +357,56 @@ struct pool_generator pool_seeded(uint32_t seed);
 struct pool_drawn pool_draw(struct pool pool, const uint8_t *frames, size_t frames_size, const uint8_t *store,
                             size_t store_size, struct pool_generator generator);
 
+/*
+ * ---- how many frames to buy
+ *
+ * A recording is a list of page numbers, one for each recorded fix, in their order: 1 to 4,096 of them, none above 4,095. Each is
+ * a reference to its page. The depth of a reference is 1 plus the count of different other pages since the last reference to the
+ * same page; the first reference to a page in its recording has none:
+ *     page    5  7  5  5  9  7
+ *     depth   -  -  2  1  -  3
+ * A cache of f pages hits exactly the references whose depth is at most f, and so the depths give the hits of every size at once.
+ * That cache is flat and without pins, is empty at each recording's start, and replaces the page least recently used; a larger one
+ * always contains the smaller. The pool goes by its sweep, and keeps the root, pinned pages and parents, so that its own hits can
+ * differ.
+ *
+ * A tally sums up to 65,535 recordings: its head counts them and all their references, the first ones included, and counts[k] the
+ * references of depth k + 1. The host keeps head and counters, sets both to 0 at the start, and goes on with the answer's head:
+ *     static uint32_t counts[POOL_DEPTHS];
+ *     struct pool_tally tally = {0, 0};
+ *     struct pool_added added = pool_tally_add(tally, counts, POOL_DEPTHS, pages, length);
+ *     tally = added.tally;
+ * Lengths are in elements, not in bytes, and the counters must be 4,095.
+ */
+
+/*
+ * Adds a recording to a tally: its references, and to the counter of each depth those of that depth. Refused: 1, 2, 6.
+ *
+ * By 1 where the counters aren't 4,095, where the recording has no page or more than 4,096, and where the tally is full, with
+ * 65,535 recordings. By 2 where the tally so far can't be one: it has more references than 4,096 for each recording, or fewer
+ * than its counters come to. By 6 where a page is above 4,095, wherever it stands. Refused, nothing is added: head and counters
+ * are as they were. After 6, or where only the recording's length was wrong, other recordings can be added.
+ */
+struct pool_added pool_tally_add(struct pool_tally tally, uint32_t *counts, size_t counts_length, const uint16_t *pages,
+                                 size_t pages_length);
+
+/*
+ * Gives the hits of a cache of a size, and all references: the share that a cache of so many pages hits. Any size will do: 0 has
+ * no hits, and from 4,095 on every depth is within it. Refused: 1.
+ *
+ * By 1 where the counters aren't 4,095. Nothing else of a tally is tested: share and report sum its counters as they are, in 64
+ * bits.
+ */
+struct pool_share pool_tally_share(struct pool_tally tally, const uint32_t *counts, size_t counts_length, uint64_t size);
+
+/*
+ * Reports every size at once: hits[k] becomes the hits of a cache of k + 1 pages, the sum of the counters from 0 to k. Beside it
+ * stands counts[k], the references of depth k + 1. Answers the refusal's number alone. Refused: 1.
+ *
+ * By 1 where counters or hits aren't 4,095; the hits then stay as they were.
+ */
+uint8_t pool_tally_report(const uint32_t *counts, size_t counts_length, uint64_t *hits, size_t hits_length);
+
 /* ---- the layout of these structs, as the archive has it */
 
 #if defined(__cplusplus)
@@ -394,6 +472,19 @@ POOL_OFFSET(pool_drawn, refusal, 0);
 POOL_OFFSET(pool_drawn, entry, 1);
 POOL_OFFSET(pool_drawn, generator, 20);
 
+POOL_SIZE(pool_tally, 8);
+POOL_OFFSET(pool_tally, recordings, 0);
+POOL_OFFSET(pool_tally, references, 4);
+
+POOL_SIZE(pool_added, 12);
+POOL_OFFSET(pool_added, refusal, 0);
+POOL_OFFSET(pool_added, tally, 4);
+
+POOL_SIZE(pool_share, 24);
+POOL_OFFSET(pool_share, refusal, 0);
+POOL_OFFSET(pool_share, within, 8);
+POOL_OFFSET(pool_share, all, 16);
+
 #undef POOL_OFFSET
 #undef POOL_SIZE
 #undef POOL_ASSERT
@@ -406,6 +497,8 @@ struct pool_named pool_layout_named(void);
 struct pool_found pool_layout_found(void);
 struct pool_place pool_layout_place(void);
 struct pool_drawn pool_layout_drawn(void);
+struct pool_added pool_layout_added(void);
+struct pool_share pool_layout_share(void);
 
 #ifdef __cplusplus
 }

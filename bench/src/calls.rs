@@ -1,11 +1,21 @@
 //! The calls that are timed, each with the state that it is made on.
 use crate::boundary;
-use crate::timing::{repeat, Variants};
+use crate::timing::{repeat, Variant};
 use pagepool::{raw, Entry, Generator, NoRule, PageNumber, Refusal, MAX_PINS, MAX_USAGE, PAGE_SIZE};
 use pool_bench::baseline;
 use pool_bench::shapes::{absent, last_named, last_resident, pinned, unnamed, State, EMPTY_SLOT, ROOT};
 use std::cell::Cell;
 use std::hint::black_box;
+
+/// What is timed of a call.
+pub struct Variants {
+    pub library: Variant<State>,
+    pub baseline: Variant<State>,
+    /// The records passed and answered as the library does, and nothing else.
+    pub copy: Variant<State>,
+    /// What undoes a call before the next one, alone.
+    pub undo: Variant<State>,
+}
 
 pub fn accept<T>(answer: Result<T, Refusal>) {
     assert!(black_box(answer).is_ok());
@@ -34,15 +44,15 @@ macro_rules! variants {
         let undo = $undo;
         let (undo_library, undo_baseline, undo_copy) = (undo.clone(), undo.clone(), undo.clone());
         Variants {
-            library: repeat(move |s| {
+            library: repeat(move |s: &mut State| {
                 $expect(s.$call($($argument),*));
                 undo_library(black_box(s));
             }),
-            baseline: repeat(move |s| {
+            baseline: repeat(move |s: &mut State| {
                 $expect(baseline::$call(&mut s.records, &mut s.frames, &mut s.store $(, $argument)*));
                 undo_baseline(black_box(s));
             }),
-            copy: repeat(move |s| {
+            copy: repeat(move |s: &mut State| {
                 $copy(s);
                 undo_copy(black_box(s));
             }),
@@ -228,8 +238,8 @@ pub fn evict_parent(state: &State) -> (State, Variants) {
     state.unfix(parent).expect("it was pinned");
     let page = parent.page;
     let variants = Variants {
-        library: repeat(move |s| evict_refused(s, page)),
-        baseline: repeat(move |s| {
+        library: repeat(move |s: &mut State| evict_refused(s, page)),
+        baseline: repeat(move |s: &mut State| {
             let answer = baseline::evict(&mut s.records, &mut s.frames, &mut s.store, page);
             assert_eq!(black_box(answer), Err(Refusal::IsParent));
         }),

@@ -1,6 +1,6 @@
 //! Two programs, each linked to an archive of its own, timed in turn. A busy moment of the machine falls on a round or two:
 //! the least times of all rounds and the middle one of the rounds' ratios both have to tell before a row counts as slower.
-use crate::rows::Figure;
+use crate::{rows, tallies};
 use std::io;
 use std::process::Command;
 
@@ -10,7 +10,7 @@ const ROUNDS: usize = 10;
 const MOST: f64 = 1.03;
 
 const HEAD: &str = "\
-| call | shape | F | N | A, ns | B, ns | A to baseline | B to baseline | B to A | middle of the rounds |
+| call | shape or recording | F | N | A, ns | B, ns | A to baseline | B to baseline | B to A | middle of the rounds |
 |---|---|--:|--:|--:|--:|--:|--:|--:|--:|
 ";
 
@@ -22,27 +22,32 @@ struct Round {
 }
 
 /// What a round of a comparison reads.
-pub fn lines(figures: &[Figure]) -> String {
-    let line = |figure: &Figure| {
-        let Figure { label, shape, count, pages, times, .. } = figure;
+pub fn lines(of_pool: &[rows::Figure], of_tally: &[tallies::Figure]) -> String {
+    let line = |figure: &rows::Figure| {
+        let rows::Figure { label, shape, count, pages, times, .. } = figure;
         format!("{label} | {} | {count} | {pages}\t{}\t{}\n", shape.name(), times.library, times.baseline)
     };
-    figures.iter().map(line).collect()
+    let tally_line = |figure: &tallies::Figure| {
+        let tallies::Figure { label, added, library, baseline } = figure;
+        let added = added.map(|added| format!("{}, {} references", added.name(), added.length));
+        format!("{label} | {} | | \t{library}\t{baseline}\n", added.unwrap_or_default())
+    };
+    of_pool.iter().map(line).chain(of_tally.iter().map(tally_line)).collect()
 }
 
 /// The table of two programs.
-pub fn text(programs: [&str; 2], call: &str) -> io::Result<String> {
+pub fn text(programs: [&str; 2], calls: &[&str]) -> io::Result<String> {
     let mut rounds = [Vec::new(), Vec::new()];
     for round in 0..ROUNDS {
         for side in [round % 2, 1 - round % 2] {
-            rounds[side].push(run(programs[side], call)?);
+            rounds[side].push(run(programs[side], calls)?);
         }
     }
     Ok(table(&rounds))
 }
 
-fn run(program: &str, call: &str) -> io::Result<Vec<Round>> {
-    let output = Command::new(program).args(["--figures", call]).output()?;
+fn run(program: &str, calls: &[&str]) -> io::Result<Vec<Round>> {
+    let output = Command::new(program).arg("--figures").args(calls).output()?;
     if !output.status.success() {
         return Err(io::Error::other(String::from_utf8_lossy(&output.stderr)));
     }

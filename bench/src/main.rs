@@ -1,15 +1,19 @@
-//! Times each call of the proved library and of the baseline, or one of them, and measures the library's stack. `--write` puts
-//! the figures into docs/PERFORMANCE.md and the plot into docs/performance.svg.
+//! Times each call of the proved library and of the baseline, or one of them, and measures the library's stack; and times the forms
+//! of counting depths. `--write` puts the figures into docs/PERFORMANCE.md and the plots beside it.
+mod asked;
 mod boundary;
 mod calls;
 mod compare;
+mod contest;
 mod plot;
 mod report;
 mod rows;
 mod stack;
+mod tallies;
 mod timing;
 
-use rows::Figure;
+use asked::{once, Asked};
+use report::Part;
 use std::path::Path;
 use std::process::ExitCode;
 use std::{env, fs, io};
@@ -21,32 +25,39 @@ const PASSES_OF_A_ROUND: u32 = 5;
 const DOCS: &str = concat!(env!("CARGO_MANIFEST_DIR"), "/../docs");
 
 const USAGE: &str = "\
-usage: pool-bench [CALL]                   print the table, or the rows of one call
-       pool-bench --write                  also put it into docs/
-       pool-bench --check FOLDER           put it into another folder, after one pass, and print nothing
-       pool-bench --figures CALL           print a round of a comparison
-       pool-bench --compare A B [CALL]     print the table of two programs; -CALL for the rows of all calls but one
+usage: pool-bench [CALL]                   print the tables, or the rows of one call
+       pool-bench --forms                  print the forms of counting depths side by side
+       pool-bench --write [PART]           put them into docs/, or one part: pool, tally or forms
+       pool-bench --check FOLDER           put them into another folder, after one pass, and print nothing
+       pool-bench --figures [CALL]..       print a round of a comparison
+       pool-bench --compare A B [CALL]..   print the table of two programs; -CALL leaves rows out
 ";
 
 fn main() -> io::Result<ExitCode> {
     let words: Vec<String> = env::args().skip(1).collect();
     let words: Vec<&str> = words.iter().map(String::as_str).collect();
-    let call = match words[..] {
-        [] | ["--write"] | ["--check", _] | ["--compare", _, _] => "",
-        ["--figures", call] | ["--compare", _, _, call] => call,
-        [call] if !call.starts_with('-') => call,
+    let asked = match &words[..] {
+        ["--figures", calls @ ..] | ["--compare", _, _, calls @ ..] => Asked(calls),
+        ["--forms"] | ["--write"] | ["--check", _] => Asked::ALL,
+        ["--write", part] if part_of(part).is_some() => Asked::ALL,
+        calls @ ([] | [_]) if !calls.iter().any(|call| call.starts_with('-')) => Asked(calls),
         _ => return Ok(refused(USAGE)),
     };
-    if !rows::any(call) {
-        let calls = rows::calls().join(", ");
-        return Ok(refused(&format!("no row begins with '{call}'; the calls are {calls}\n")));
+    if !labels().any(|label| asked.has(label)) {
+        let calls = once(labels().filter_map(|label| label.split(',').next())).join(", ");
+        return Ok(refused(&format!("no row for '{}'; the calls are {calls}\n", asked.0.join(" "))));
     }
     match words[..] {
-        ["--write"] => print!("{}", write(Path::new(DOCS), PASSES)?),
+        ["--forms"] => print!("{}", Part::Forms.measured(&asked, PASSES).text),
+        ["--write"] => print!("{}", write(Path::new(DOCS), &Part::ALL, PASSES)?),
+        ["--write", part] => {
+            let parts: Vec<Part> = part_of(part).into_iter().collect();
+            print!("{}", write(Path::new(DOCS), &parts, PASSES)?);
+        }
         ["--check", folder] => check(Path::new(folder))?,
-        ["--figures", _] => print!("{}", compare::lines(&rows::measured(call, PASSES_OF_A_ROUND))),
-        ["--compare", a, b, ..] => print!("{}", compare::text([a, b], call)?),
-        _ => print!("{}", text(&rows::measured(call, PASSES))),
+        ["--figures", ..] => print!("{}", round(&asked)),
+        ["--compare", a, b, ..] => print!("{}", compare::text([a, b], asked.0)?),
+        _ => print!("{}", tables(&asked)),
     }
     Ok(ExitCode::SUCCESS)
 }
@@ -56,24 +67,70 @@ fn refused(why: &str) -> ExitCode {
     ExitCode::from(2)
 }
 
-fn text(figures: &[Figure]) -> String {
-    report::text(figures, &stack::measured())
+fn part_of(name: &str) -> Option<Part> {
+    Part::ALL.into_iter().find(|part| part.name() == name)
 }
 
-/// Puts the figures of so many passes into a folder's page and plot. Gives the table.
-fn write(folder: &Path, passes: u32) -> io::Result<String> {
-    let figures = rows::measured("", passes);
-    let text = text(&figures);
-    fs::write(folder.join("performance.svg"), plot::svg(&figures))?;
-    let page = folder.join("PERFORMANCE.md");
-    let filled = report::filled(&fs::read_to_string(&page)?, &text);
-    fs::write(page, filled)?;
-    Ok(text)
+/// How rows begin, all of them.
+fn labels() -> impl Iterator<Item = &'static str> {
+    rows::labels().chain(tallies::labels())
+}
+
+/// What is printed of a part, and its plot, by the file's name.
+struct Measured {
+    text: String,
+    plot: Option<(&'static str, String)>,
+}
+
+impl Part {
+    fn measured(self, asked: &Asked, passes: u32) -> Measured {
+        match self {
+            Part::Pool => {
+                let figures = rows::measured(asked, passes);
+                let text = report::text(&figures, &stack::measured());
+                Measured { text, plot: Some(("performance.svg", plot::of_pool(&figures))) }
+            }
+            Part::Tally => {
+                let figures = tallies::measured(asked, passes);
+                let text = report::tally::text(&figures, &stack::measured_on_a_tally());
+                Measured { text, plot: Some(("performance-tally.svg", plot::of_tally(&figures))) }
+            }
+            Part::Forms => Measured { text: report::forms::text(&contest::measured(passes)), plot: None },
+        }
+    }
+}
+
+/// The tables that have rows which are asked for.
+fn tables(asked: &Asked) -> String {
+    let mut parts = Vec::new();
+    parts.extend(rows::labels().any(|label| asked.has(label)).then_some(Part::Pool));
+    parts.extend(tallies::labels().any(|label| asked.has(label)).then_some(Part::Tally));
+    let texts: Vec<String> = parts.into_iter().map(|part| part.measured(asked, PASSES).text).collect();
+    texts.join("\n")
+}
+
+fn round(asked: &Asked) -> String {
+    let of_pool = rows::measured(asked, PASSES_OF_A_ROUND);
+    compare::lines(&of_pool, &tallies::measured(asked, PASSES_OF_A_ROUND))
+}
+
+/// Puts the figures of so many passes into a folder's page and plots. Gives the tables.
+fn write(folder: &Path, parts: &[Part], passes: u32) -> io::Result<String> {
+    let (page, mut texts) = (folder.join("PERFORMANCE.md"), Vec::new());
+    for part in parts {
+        let Measured { text, plot } = part.measured(&Asked::ALL, passes);
+        fs::write(&page, part.filled(&fs::read_to_string(&page)?, &text))?;
+        if let Some((name, drawn)) = plot {
+            fs::write(folder.join(name), drawn)?;
+        }
+        texts.push(text);
+    }
+    Ok(texts.join("\n"))
 }
 
 /// All that `--write` does, in one pass and on a copy of the page: the figures aren't worth anything.
 fn check(folder: &Path) -> io::Result<()> {
     fs::create_dir_all(folder)?;
     fs::copy(Path::new(DOCS).join("PERFORMANCE.md"), folder.join("PERFORMANCE.md"))?;
-    write(folder, 1).map(|_| ())
+    write(folder, &Part::ALL, 1).map(|_| ())
 }

@@ -1,7 +1,10 @@
-//! Cost against F and against N, as an SVG of small panels: one for a call and what it meets, with a colour for each shape. Both
-//! axes are logarithmic, and the same in all panels of a kind: a distance upwards is a ratio.
+//! Cost against F and against N, and that of a recording against its length, as SVGs of small panels: one for a call and what it
+//! meets, with a colour for each shape, or for a recording. Both axes are logarithmic, and the same in all panels of a kind: a
+//! distance upwards is a ratio.
+use crate::asked::once;
 use crate::rows::{Figure, Grows};
-use crate::timing::Times;
+use crate::tallies;
+use pool_bench::recordings::Recording;
 use pool_bench::shapes::Shape;
 use std::fmt::Write;
 
@@ -24,11 +27,50 @@ fn colour(shape: Shape) -> &'static str {
     }
 }
 
-pub fn svg(figures: &[Figure]) -> String {
-    let scales = [Grows::Frames, Grows::Pages].map(|grows| Scale::new(grows, figures));
+/// What a panel shows in one colour: at each size, nanoseconds a call of the library and of the baseline.
+struct Curve {
+    label: &'static str,
+    colour: &'static str,
+    points: Vec<(usize, [f64; 2])>,
+}
+
+/// The pool's calls.
+pub fn of_pool(figures: &[Figure]) -> String {
+    let kinds = [(Grows::Frames, "F, frames"), (Grows::Pages, "N, pages")];
+    let scales = kinds.map(|(grows, axis)| {
+        let figures: Vec<&Figure> = figures.iter().filter(|figure| figure.grows == grows).collect();
+        let labels = once(figures.iter().map(|figure| figure.label));
+        let each = labels.into_iter().flat_map(|label| Shape::ALL.map(|shape| (label, shape)));
+        let curves = each.map(|(label, shape)| {
+            let of_it = figures.iter().filter(|figure| figure.label == label && figure.shape == shape);
+            let point = |figure: &&Figure| (figure.size(), [figure.times.library, figure.times.baseline]);
+            Curve { label, colour: colour(shape), points: of_it.map(point).collect() }
+        });
+        Scale::new(axis, curves.collect())
+    });
+    let shapes = Shape::ALL.map(|shape| (shape.name(), colour(shape)));
+    svg(&scales, &legend(&shapes, "N = 256 where F grows, 16 with few pages; F = 16 where N grows"))
+}
+
+/// A tally's add, by recording.
+pub fn of_tally(figures: &[tallies::Figure]) -> String {
+    let growing = Recording::ALL.into_iter().filter(|recording| recording.grows());
+    let curves = growing.map(|recording| {
+        let points = figures.iter().filter_map(|figure| match figure.added {
+            Some(added) if added.recording == recording && !added.others => {
+                Some((added.length, [figure.library, figure.baseline]))
+            }
+            _ => None,
+        });
+        Curve { label: recording.name(), colour: colour(Shape::Full), points: points.collect() }
+    });
+    svg(&[Scale::new("references", curves.collect())], &legend(&[], "add of one recording"))
+}
+
+fn svg(scales: &[Scale], legend: &str) -> String {
     let (mut panels, mut cell) = (String::new(), 0);
-    for scale in &scales {
-        for label in scale.labels() {
+    for scale in scales {
+        for label in once(scale.curves.iter().map(|curve| curve.label)) {
             let corner = (CELL.0 * (cell % COLUMNS) as f64, HEAD + CELL.1 * (cell / COLUMNS) as f64);
             panels += &Panel { corner, label, scale }.drawn();
             cell += 1;
@@ -38,66 +80,47 @@ pub fn svg(figures: &[Figure]) -> String {
     let (width, height) = (CELL.0 * COLUMNS as f64, HEAD + CELL.1 * (cell / COLUMNS) as f64);
     format!(
         "<svg xmlns=\"http://www.w3.org/2000/svg\" viewBox=\"0 0 {width} {height}\" font-family=\"sans-serif\" \
-         font-size=\"11\">\n<rect width=\"100%\" height=\"100%\" fill=\"white\"/>\n{}{panels}</svg>\n",
-        legend()
+         font-size=\"11\">\n<rect width=\"100%\" height=\"100%\" fill=\"white\"/>\n{legend}{panels}</svg>\n"
     )
 }
 
-/// What the colours and the lines stand for.
-fn legend() -> String {
+/// What the colours and the lines stand for, and what else is to be said.
+fn legend(colours: &[(&str, &str)], note: &str) -> String {
     let mut out = String::new();
-    for (place, shape) in Shape::ALL.into_iter().enumerate() {
-        let (x, name) = (62.0 + 130.0 * place as f64, shape.name());
-        let _ = writeln!(out, "<circle cx=\"{x}\" cy=\"20\" r=\"4\" fill=\"{}\"/>", colour(shape));
+    for (place, (name, colour)) in colours.iter().enumerate() {
+        let x = 62.0 + 130.0 * place as f64;
+        let _ = writeln!(out, "<circle cx=\"{x}\" cy=\"20\" r=\"4\" fill=\"{colour}\"/>");
         let _ = writeln!(out, "<text x=\"{}\" y=\"24\" font-size=\"12\">{name}</text>", x + 10.0);
     }
     for (x, name, dash) in [(62.0, "library", ""), (192.0, "baseline", DASH)] {
         let _ = writeln!(out, "<path d=\"M{x} 42h34\" stroke=\"black\" stroke-width=\"1.5\"{dash}/>");
         let _ = writeln!(out, "<text x=\"{}\" y=\"46\" font-size=\"12\">{name}</text>", x + 42.0);
     }
-    let sizes = "N = 256 where F grows, 16 with few pages; F = 16 where N grows";
-    let _ = writeln!(out, "<text x=\"322\" y=\"46\" font-size=\"12\" fill=\"#555\">{sizes}</text>");
+    let _ = writeln!(out, "<text x=\"322\" y=\"46\" font-size=\"12\" fill=\"#555\">{note}</text>");
     out
 }
 
 const DASH: &str = " stroke-dasharray=\"3 2.5\"";
 
 /// The axes that panels of a kind share, and what is drawn on them.
-struct Scale<'a> {
-    grows: Grows,
-    figures: Vec<&'a Figure>,
+struct Scale {
+    axis: &'static str,
+    curves: Vec<Curve>,
     sizes: Vec<usize>,
     costs: (f64, f64),
 }
 
-impl<'a> Scale<'a> {
-    fn new(grows: Grows, figures: &'a [Figure]) -> Scale<'a> {
-        let figures: Vec<&Figure> = figures.iter().filter(|figure| figure.grows == grows).collect();
-        let mut sizes: Vec<usize> = figures.iter().map(|figure| figure.size()).collect();
+impl Scale {
+    fn new(axis: &'static str, mut curves: Vec<Curve>) -> Scale {
+        curves.retain(|curve| !curve.points.is_empty());
+        let points = || curves.iter().flat_map(|curve| &curve.points);
+        let mut sizes: Vec<usize> = points().map(|(size, _)| *size).collect();
         sizes.sort_unstable();
         sizes.dedup();
-        let costs = figures.iter().flat_map(|figure| [figure.times.library, figure.times.baseline]);
-        let (least, most) =
-            costs.fold((f64::MAX, 1.0), |(least, most), cost| (cost.min(least), cost.max(most)));
-        Scale { grows, figures, sizes, costs: (least.max(1.0) * 0.85, most * 1.15) }
-    }
-
-    /// The calls with what they meet, in the order of rows.
-    fn labels(&self) -> Vec<&'static str> {
-        let mut labels = Vec::new();
-        for figure in &self.figures {
-            if !labels.contains(&figure.label) {
-                labels.push(figure.label);
-            }
-        }
-        labels
-    }
-
-    fn size_axis(&self) -> &'static str {
-        match self.grows {
-            Grows::Frames => "F, frames",
-            Grows::Pages => "N, pages",
-        }
+        let (least, most) = points()
+            .flat_map(|(_, costs)| costs)
+            .fold((f64::MAX, 1.0), |(least, most): (f64, f64), cost| (cost.min(least), cost.max(most)));
+        Scale { axis, sizes, costs: (least.max(1.0) * 0.85, most * 1.15), curves }
     }
 
     /// Costs that are marked: 1, 2 and 5 times each power of ten, or only the powers where that is too many.
@@ -111,27 +134,24 @@ impl<'a> Scale<'a> {
 struct Panel<'a> {
     corner: (f64, f64),
     label: &'static str,
-    scale: &'a Scale<'a>,
+    scale: &'a Scale,
 }
 
 impl Panel<'_> {
     fn drawn(&self) -> String {
         let mut out = self.axes();
-        for shape in Shape::ALL {
-            let figures = self.scale.figures.iter().copied();
-            let of_shape = figures.filter(|figure| figure.label == self.label && figure.shape == shape);
-            let of_shape: Vec<&Figure> = of_shape.collect();
-            out += &self.line(&of_shape, DASH, |times| times.baseline);
-            out += &self.line(&of_shape, "", |times| times.library);
+        for curve in self.scale.curves.iter().filter(|curve| curve.label == self.label) {
+            out += &self.line(curve, DASH, |[_, baseline]| baseline);
+            out += &self.line(curve, "", |[library, _]| library);
         }
         out
     }
 
-    fn line(&self, figures: &[&Figure], dash: &str, cost: fn(&Times) -> f64) -> String {
-        let Some(first) = figures.first() else { return String::new() };
-        let (colour, mut path, mut dots) = (colour(first.shape), String::new(), String::new());
-        for figure in figures {
-            let (x, y) = (self.x(figure.size()), self.y(cost(&figure.times)));
+    fn line(&self, curve: &Curve, dash: &str, cost: fn([f64; 2]) -> f64) -> String {
+        let Curve { colour, points, .. } = curve;
+        let (mut path, mut dots) = (String::new(), String::new());
+        for (size, costs) in points {
+            let (x, y) = (self.x(*size), self.y(cost(*costs)));
             let _ = write!(path, "{x:.1},{y:.1} ");
             let fill = if dash.is_empty() { colour } else { "white" };
             let _ = writeln!(
@@ -179,7 +199,7 @@ impl Panel<'_> {
         let _ = writeln!(
             out,
             "<text x=\"{middle}\" y=\"{below}\" text-anchor=\"middle\" fill=\"#555\">{}</text>",
-            self.scale.size_axis()
+            self.scale.axis
         );
         let (x, y) = (self.corner.0 + 16.0, (top + bottom) / 2.0);
         let _ = writeln!(

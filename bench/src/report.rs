@@ -1,7 +1,9 @@
-//! The figures as text: a line about the machine, the table, and the rows that miss the goal.
-use crate::rows::{Figure, Grows};
+//! The figures as text: a line about the machine, the table, and the rows that miss the goal. Here those of the pool's calls.
+pub mod forms;
+pub mod tally;
+
+use crate::rows::{Figure, Grows, Times};
 use crate::stack::Depth;
-use crate::timing::Times;
 use pool_bench::shapes::Shape;
 use std::fmt::Write;
 use std::fs;
@@ -13,8 +15,39 @@ const MOST_STACK: usize = 32 * 1024;
 
 const MET: &str = "met";
 
-const BEGIN: &str = "<!-- figures: bench/run --write -->\n";
-const END: &str = "<!-- end of figures -->\n";
+/// A part of the page that is made of figures.
+#[derive(Clone, Copy, Debug, PartialEq)]
+pub enum Part {
+    Pool,
+    Tally,
+    Forms,
+}
+
+impl Part {
+    pub const ALL: [Part; 3] = [Part::Pool, Part::Tally, Part::Forms];
+
+    pub fn name(self) -> &'static str {
+        match self {
+            Part::Pool => "pool",
+            Part::Tally => "tally",
+            Part::Forms => "forms",
+        }
+    }
+
+    /// The lines before it and after it.
+    fn marks(self) -> [String; 2] {
+        let name = self.name();
+        [format!("<!-- {name}: bench/run --write -->\n"), format!("<!-- end of {name} -->\n")]
+    }
+
+    /// A page with this part replaced.
+    pub fn filled(self, page: &str, text: &str) -> String {
+        let [begin, end] = self.marks();
+        let (before, rest) = page.split_once(&begin).unwrap_or_else(|| panic!("no line '{begin}'"));
+        let (_, after) = rest.split_once(&end).unwrap_or_else(|| panic!("no line '{end}'"));
+        format!("{before}{begin}{text}{end}{after}")
+    }
+}
 
 const HEAD: &str = "\
 | call | shape | F | N | library, ns | baseline, ns | ratio | records' copy, ns | ratio without it | stack, bytes | goal |
@@ -25,7 +58,7 @@ pub fn text(figures: &[Figure], depths: &[Depth]) -> String {
     let mut text = format!("{}\n\n{HEAD}", machine());
     let mut missed = Vec::new();
     for figure in figures {
-        let stack = stack_of(figure, depths);
+        let stack = stack_of(figure.call(), depths);
         let goal = goal(figure, stack, figures);
         text += &line(figure, stack, &goal);
         if goal != MET {
@@ -78,13 +111,6 @@ fn shapes(figures: &[Figure]) -> Vec<(Shape, usize)> {
     Shape::ALL.into_iter().map(|shape| (shape, rows(shape))).filter(|(_, rows)| *rows > 0).collect()
 }
 
-/// A page with its figures replaced.
-pub fn filled(page: &str, text: &str) -> String {
-    let (before, rest) = page.split_once(BEGIN).expect("the page has a place for figures");
-    let (_, after) = rest.split_once(END).expect("the place for figures ends");
-    format!("{before}{BEGIN}{text}{END}{after}")
-}
-
 fn line(figure: &Figure, stack: usize, goal: &str) -> String {
     let times = figure.times;
     format!(
@@ -105,8 +131,9 @@ fn nanoseconds(time: f64) -> String {
     format!("{time:.*}", usize::from(time < 100.0))
 }
 
-fn stack_of(figure: &Figure, depths: &[Depth]) -> usize {
-    depths.iter().find(|depth| depth.call == figure.call()).map_or(0, |depth| depth.bytes)
+/// The stack that a call takes.
+fn stack_of(call: &str, depths: &[Depth]) -> usize {
+    depths.iter().find(|depth| depth.call == call).map_or(0, |depth| depth.bytes)
 }
 
 /// What of the goal a row misses and why, or that it is met.

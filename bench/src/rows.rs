@@ -1,10 +1,11 @@
-//! The rows of the table, and their figures.
+//! The rows of the table of the pool's calls, and their figures.
+use crate::asked::Asked;
 use crate::calls::{
     draw, evict_dirty, evict_parent, find_absent, find_first, find_last, find_middle, fix_clean, fix_dirty,
     fix_half_pinned, fix_hit, fix_one_open, link, link_named, link_taken, open, peek, root, settle_dirty,
-    show, unfix, unlink, word, write,
+    show, unfix, unlink, word, write, Variants,
 };
-use crate::timing::{deeper, Race, Times, Variants};
+use crate::timing::{deeper, Race};
 use pool_bench::shapes::{Shape, State};
 
 /// A measured row.
@@ -15,6 +16,14 @@ pub struct Figure {
     pub count: usize,
     pub pages: usize,
     pub times: Times,
+}
+
+/// Nanoseconds a call, what undoes it taken off.
+#[derive(Clone, Copy)]
+pub struct Times {
+    pub library: f64,
+    pub baseline: f64,
+    pub copy: f64,
 }
 
 /// Whether a row is one of a growing F or of a growing N.
@@ -149,30 +158,14 @@ fn call_of(label: &str) -> &str {
     label.split(',').next().unwrap_or(label)
 }
 
-/// The names of the calls that are timed.
-pub fn calls() -> Vec<&'static str> {
-    let mut calls = Vec::new();
-    for call in BLOCKS.iter().flat_map(|block| block.calls).map(|(label, _)| call_of(label)) {
-        if !calls.contains(&call) {
-            calls.push(call);
-        }
-    }
-    calls
+/// How the rows begin: with the names of the calls, and what they meet.
+pub fn labels() -> impl Iterator<Item = &'static str> {
+    BLOCKS.iter().flat_map(|block| block.calls).map(|(label, _)| *label)
 }
 
-/// Whether a row is asked for by a word: it begins with that, or where a - stands before the word, doesn't.
-fn is_asked(label: &str, word: &str) -> bool {
-    word.strip_prefix('-').map_or_else(|| label.starts_with(word), |call| !label.starts_with(call))
-}
-
-/// Whether a word asks for any row.
-pub fn any(word: &str) -> bool {
-    BLOCKS.iter().flat_map(|block| block.calls).any(|(label, _)| is_asked(label, word))
-}
-
-/// The rows that a word asks for, timed in so many passes.
-pub fn measured(word: &str, passes: u32) -> Vec<Figure> {
-    let mut rows: Vec<Row> = BLOCKS.iter().flat_map(|block| block.rows(word)).collect();
+/// The rows that are asked for, timed in so many passes.
+pub fn measured(asked: &Asked, passes: u32) -> Vec<Figure> {
+    let mut rows: Vec<Row> = BLOCKS.iter().flat_map(|block| block.rows(asked)).collect();
     for pass in 0..passes {
         deeper(pass, &mut || rows.iter_mut().for_each(|row| row.race.pass()));
     }
@@ -183,19 +176,25 @@ pub fn measured(word: &str, passes: u32) -> Vec<Figure> {
 struct Row {
     block: &'static Block,
     label: &'static str,
-    race: Race,
+    count: usize,
+    pages: usize,
+    race: Race<State, 4>,
 }
 
 impl Block {
-    /// The rows that a word asks for: the sizes of a call one after the other.
-    fn rows(&'static self, word: &str) -> Vec<Row> {
-        let calls = self.calls.iter().filter(|(label, _)| is_asked(label, word));
+    /// The rows that are asked for: the sizes of a call one after the other.
+    fn rows(&'static self, asked: &Asked) -> Vec<Row> {
+        let calls = self.calls.iter().filter(|(label, _)| asked.has(label));
         let sized =
             calls.flat_map(|call| self.sizes.iter().map(move |(count, pages)| (call, *count, *pages)));
         sized
             .map(|((label, make), count, pages)| {
-                let (state, variants) = make(&self.shape.state(count, pages));
-                Row { block: self, label, race: Race::new(state, variants) }
+                let (state, Variants { library, baseline, copy, undo }) =
+                    make(&self.shape.state(count, pages));
+                let records = state.records;
+                let restore = move |now: &mut State| now.records = records;
+                let race = Race::new(state, restore, [library, baseline, copy, undo]);
+                Row { block: self, label, count, pages, race }
             })
             .collect()
     }
@@ -203,13 +202,10 @@ impl Block {
 
 impl Row {
     fn figure(&self) -> Figure {
-        Figure {
-            label: self.label,
-            shape: self.block.shape,
-            grows: self.block.grows,
-            count: self.race.records().count.into(),
-            pages: self.race.records().pages.into(),
-            times: self.race.times(),
-        }
+        let [library, baseline, copy, undo] = self.race.times();
+        let times =
+            Times { library: library - undo, baseline: baseline - undo, copy: (copy - undo).max(0.0) };
+        let Block { shape, grows, .. } = *self.block;
+        Figure { label: self.label, shape, grows, count: self.count, pages: self.pages, times }
     }
 }

@@ -1,6 +1,10 @@
 //! The deepest stack of each exported call: a thread's stack is painted, and what the call leaves of the paint tells.
 use crate::calls::{accept, dirtied};
-use pagepool::{FrameIndex, Generator, Handle, PageNumber};
+use crate::tallies;
+use pagepool::{
+    tally_add, tally_report, tally_share, FrameIndex, Generator, Handle, PageNumber, DEPTHS, MOST_REFERENCES,
+};
+use pool_bench::recordings::Recording;
 use pool_bench::shapes::{Shape, State, EMPTY_SLOT, ROOT};
 use std::hint::black_box;
 use std::ptr;
@@ -15,10 +19,11 @@ pub struct Depth {
 const THREAD_STACK: usize = 1 << 20;
 /// The painted part of it, below the frames of the functions that paint and look.
 const PAINTED: usize = 1 << 17;
-const MARGIN: usize = 512;
+/// A call that takes no more than this doesn't reach the paint.
+pub const MARGIN: usize = 512;
 const PAINT: u8 = 0xa5;
 
-type Call = fn(&mut State);
+type Call<S> = fn(&mut S);
 
 const COUNT: usize = 64;
 const PAGES: usize = 4096;
@@ -34,7 +39,7 @@ macro_rules! call {
 }
 
 /// Each call on its longest way.
-const CALLS: [(&str, Call); 14] = [
+const CALLS: [(&str, Call<State>); 14] = [
     call!(open()),
     call!(root()),
     call!(fix(CHILD, 0)),
@@ -54,18 +59,34 @@ const CALLS: [(&str, Call); 14] = [
 /// At F = 64 and N = 4,096, every page dirty.
 pub fn measured() -> Vec<Depth> {
     let state = dirtied(&Shape::Full.state(COUNT, PAGES));
-    CALLS.map(|(call, run)| Depth { call, bytes: depth_of(run, &state) }).into()
+    depths_of(&CALLS, &state)
+}
+
+const TALLY_CALLS: [(&str, Call<tallies::State>); 3] = [
+    ("add", |s| s.add(tally_add)),
+    ("share", |s| accept(tally_share(s.head, &s.counts, DEPTHS as u64))),
+    ("report", |s| accept(tally_report(&s.counts, &mut s.hits))),
+];
+
+/// With the longest recording.
+pub fn measured_on_a_tally() -> Vec<Depth> {
+    let longest = Recording::UpThenDown.pages(MOST_REFERENCES, 0);
+    depths_of(&TALLY_CALLS, &tallies::State::new(vec![longest]))
+}
+
+fn depths_of<S: Clone + Send + 'static>(calls: &[(&'static str, Call<S>)], state: &S) -> Vec<Depth> {
+    calls.iter().map(|(call, run)| Depth { call, bytes: depth_of(*run, state) }).collect()
 }
 
 /// The depth of a call on a state, in a thread of its own.
-fn depth_of(run: Call, state: &State) -> usize {
+fn depth_of<S: Clone + Send + 'static>(run: Call<S>, state: &S) -> usize {
     let mut state = state.clone();
     let thread = Builder::new().stack_size(THREAD_STACK).spawn(move || depth(run, &mut state));
     thread.expect("a thread starts").join().expect("the call returns")
 }
 
 #[inline(never)]
-fn depth(run: Call, state: &mut State) -> usize {
+fn depth<S>(run: Call<S>, state: &mut S) -> usize {
     let mark = 0u8;
     let top = black_box(&mark) as *const u8 as usize;
     paint(top);

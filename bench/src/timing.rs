@@ -1,13 +1,11 @@
 //! Variants of a call, timed in turn.
-use pagepool::Pool;
-use pool_bench::shapes::State;
 use std::hint::black_box;
 use std::time::{Duration, Instant};
 
-/// Makes a call so many times.
-pub type Variant = Box<dyn Fn(&mut State, u32)>;
+/// Makes a call so many times, on what it is lent.
+pub type Variant<S> = Box<dyn Fn(&mut S, u32)>;
 
-pub fn repeat(step: impl Fn(&mut State) + 'static) -> Variant {
+pub fn repeat<S>(step: impl Fn(&mut S) + 'static) -> Variant<S> {
     Box::new(move |state, calls| {
         for _ in 0..calls {
             step(black_box(state));
@@ -15,67 +13,53 @@ pub fn repeat(step: impl Fn(&mut State) + 'static) -> Variant {
     })
 }
 
-pub struct Variants {
-    pub library: Variant,
-    pub baseline: Variant,
-    /// The records passed and answered as the library does, and nothing else.
-    pub copy: Variant,
-    /// What undoes a call before the next one, alone.
-    pub undo: Variant,
-}
-
-/// Nanoseconds a call, what undoes it taken off.
-#[derive(Clone, Copy)]
-pub struct Times {
-    pub library: f64,
-    pub baseline: f64,
-    pub copy: f64,
-}
-
 /// Batches of each variant in a pass.
 const BATCHES: u32 = 100;
 const BATCH: Duration = Duration::from_micros(30);
-/// So that a batch of pins or unpins stays within their range.
+/// So that a batch of pins or unpins stays within their range, and one of recordings within a tally's.
 const MOST_CALLS: u32 = 30_000;
 
 /// A row being timed: the least of the batches so far of each variant, every batch from the same state.
-pub struct Race {
-    state: State,
-    now: State,
-    variants: Variants,
+pub struct Race<S, const N: usize> {
+    now: S,
+    restore: Box<dyn Fn(&mut S)>,
+    variants: [Variant<S>; N],
     calls: u32,
-    least: [Duration; 4],
+    least: [Duration; N],
 }
 
-impl Race {
-    pub fn new(state: State, variants: Variants) -> Race {
-        let mut now = state.clone();
-        let trial = (0..10).map(|_| batch(&variants.library, &mut now, 100)).min().unwrap_or_default();
-        let calls = (100 * BATCH.as_nanos() / trial.as_nanos().max(1)) as u32;
-        Race { state, now, variants, calls: calls.clamp(1, MOST_CALLS), least: [Duration::MAX; 4] }
+impl<S, const N: usize> Race<S, N> {
+    /// `restore` puts back, before a batch, what the calls of the one before have altered. A batch has as many calls as the first
+    /// variant makes in its time.
+    pub fn new(mut now: S, restore: impl Fn(&mut S) + 'static, variants: [Variant<S>; N]) -> Race<S, N> {
+        let calls = calls_of_a_batch(&variants[0], &mut now);
+        Race { now, restore: Box::new(restore), variants, calls, least: [Duration::MAX; N] }
     }
 
     /// More batches, one of each variant in turn.
     pub fn pass(&mut self) {
-        let Variants { library, baseline, copy, undo } = &self.variants;
         for _ in 0..BATCHES {
-            for (variant, least) in [library, baseline, copy, undo].into_iter().zip(&mut self.least) {
-                self.now.records = self.state.records;
+            for (variant, least) in self.variants.iter().zip(&mut self.least) {
+                (self.restore)(&mut self.now);
                 *least = batch(variant, &mut self.now, self.calls).min(*least);
             }
         }
     }
 
-    /// The records that every batch begins with.
-    pub fn records(&self) -> &Pool {
-        &self.state.records
+    /// Nanoseconds a call, by variant.
+    pub fn times(&self) -> [f64; N] {
+        self.least.map(|least| least.as_secs_f64() * 1e9 / f64::from(self.calls))
     }
+}
 
-    pub fn times(&self) -> Times {
-        let calls = f64::from(self.calls);
-        let [library, baseline, copy, undo] = self.least.map(|least| least.as_secs_f64() * 1e9 / calls);
-        Times { library: library - undo, baseline: baseline - undo, copy: (copy - undo).max(0.0) }
+/// As many calls as a variant makes in a batch's time, by the least of a few trials.
+fn calls_of_a_batch<S>(variant: &Variant<S>, state: &mut S) -> u32 {
+    let mut least = |calls| (0..10).map(|_| batch(variant, state, calls)).min().unwrap_or_default();
+    if least(1) > BATCH {
+        return 1;
     }
+    let calls = (100 * BATCH.as_nanos() / least(100).as_nanos().max(1)) as u32;
+    calls.clamp(1, MOST_CALLS)
 }
 
 /// Runs something some levels of stack deeper, so that passes differ in where arguments and answers lie in a cache line.
@@ -88,7 +72,7 @@ pub fn deeper(levels: u32, run: &mut dyn FnMut()) {
     black_box(&room);
 }
 
-fn batch(variant: &Variant, state: &mut State, calls: u32) -> Duration {
+fn batch<S>(variant: &Variant<S>, state: &mut S, calls: u32) -> Duration {
     let start = Instant::now();
     variant(state, calls);
     start.elapsed()

@@ -2,6 +2,7 @@
 #![allow(missing_docs)]
 
 use crate::records::{Entry, FrameIndex, Generator, Handle, PageNumber, Pool};
+use crate::tally::TallyHead;
 
 #[repr(C)]
 #[derive(Clone, Copy, Debug)]
@@ -50,6 +51,21 @@ pub struct Drawn {
     pub refusal: u8,
     pub entry: Entry,
     pub generator: Generator,
+}
+
+#[repr(C)]
+#[derive(Clone, Copy, Debug)]
+pub struct Added {
+    pub refusal: u8,
+    pub tally: TallyHead,
+}
+
+#[repr(C)]
+#[derive(Clone, Copy, Debug)]
+pub struct Share {
+    pub refusal: u8,
+    pub within: u64,
+    pub all: u64,
 }
 
 /// Declares functions that take the records, frames and store lent as the pointers say, and then their own arguments.
@@ -102,10 +118,27 @@ extern "C" {
 
     pub fn pool_seeded(seed: u32) -> Generator;
 
+    pub fn pool_tally_add(
+        tally: TallyHead,
+        counts: *mut u32,
+        counts_length: usize,
+        pages: *const u16,
+        pages_length: usize,
+    ) -> Added;
+    pub fn pool_tally_share(tally: TallyHead, counts: *const u32, counts_length: usize, size: u64) -> Share;
+    pub fn pool_tally_report(
+        counts: *const u32,
+        counts_length: usize,
+        hits: *mut u64,
+        hits_length: usize,
+    ) -> u8;
+
     pub fn pool_layout_done() -> Done;
     pub fn pool_layout_fixed() -> Fixed;
     pub fn pool_layout_named() -> Named;
     pub fn pool_layout_found() -> Found;
     pub fn pool_layout_place() -> Place;
     pub fn pool_layout_drawn() -> Drawn;
+    pub fn pool_layout_added() -> Added;
+    pub fn pool_layout_share() -> Share;
 }

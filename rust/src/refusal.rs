@@ -35,12 +35,12 @@ macro_rules! rules {
 }
 
 rules! {
-    WrongLength = 1, "Frames or store have a length out of range, or another one than at opening.";
-    Disagree = 2, "Records and frames don't agree.";
+    WrongLength = 1, "Frames, store, counters, hits or recording have a length out of range or other than at opening, or the tally is full.";
+    Disagree = 2, "Records and frames don't agree, or a tally's references with its recordings or its counters.";
     BadHandle = 3, "The handle's frame isn't below F or doesn't hold its page, or that has no pins.";
     BadSlot = 4, "The slot is above 15.";
     BadRange = 5, "The offset is above 192, or the length above 192 - offset.";
-    BadPage = 6, "The page number isn't below N, or is 0 in link.";
+    BadPage = 6, "The page number isn't below N, is 0 in link, or is above 4,095 in a recording.";
     EmptySlot = 7, "Fix or unlink meets a word of 0.";
     AlreadyNamed = 9, "Link's page is named already, by a word of any page.";
     FullSlot = 8, "Link meets a word that isn't 0.";

@@ -1,6 +1,6 @@
 //! Reads back every field of the structs that the library fills with values of their own, and compares versions.
 use pagepool::raw;
-use pagepool::{FrameIndex, FrameRecord, Generator, Handle, PageNumber, Pool, MOST_FRAMES};
+use pagepool::{FrameIndex, FrameRecord, Generator, Handle, PageNumber, Pool, TallyHead, MOST_FRAMES};
 
 fn expect_pool(pool: Pool) {
     assert_eq!((pool.count, pool.pages, pool.hand), (3001, 3002, FrameIndex(200)));
@@ -61,6 +61,18 @@ fn drawn() {
     let drawn = unsafe { raw::pool_layout_drawn() };
     assert_eq!((drawn.refusal, drawn.generator), (208, Generator { number: 5003 }));
     assert_eq!(drawn.entry, std::array::from_fn(|i| 209 + i as u8));
+}
+
+#[test]
+fn added() {
+    let added = unsafe { raw::pool_layout_added() };
+    assert_eq!((added.refusal, added.tally), (225, TallyHead { recordings: 5004, references: 70005 }));
+}
+
+#[test]
+fn share() {
+    let share = unsafe { raw::pool_layout_share() };
+    assert_eq!((share.refusal, share.within, share.all), (226, 5_000_000_006, 5_000_000_007));
 }
 
 /// The package's version is the header's.

@@ -1,4 +1,7 @@
-/* Tries what the header says of answers, handles, usages, looks, workloads, payloads and pointers. Names each failing claim. */
+/*
+ * Tries what the header says of answers, handles, usages, looks, workloads, tallies, payloads and pointers. Names each failing
+ * claim.
+ */
 #include "pagepool.h"
 
 #include <stdio.h>
@@ -330,6 +333,184 @@ static void workloads(void)
     claim("from 0 each draw gives 0", memcmp(drawn.entry, of_zero, sizeof of_zero) == 0 && drawn.generator.number == 0);
 }
 
+/* A tally's counters and a report's hits, and one more of each. */
+static uint32_t counts[POOL_DEPTHS + 1];
+static uint64_t hits[POOL_DEPTHS + 1];
+/* A recording, and one more page. */
+static uint16_t recorded[POOL_MOST_REFERENCES + 1];
+#define COUNTS counts, POOL_DEPTHS
+
+/* The tally of no recordings. The counter beyond its own is one that no sum should have in it. */
+static struct pool_tally empty_tally(void)
+{
+    const struct pool_tally tally = {0, 0};
+    memset(counts, 0, sizeof counts);
+    counts[POOL_DEPTHS] = UINT32_MAX;
+    return tally;
+}
+
+static bool is_tally(struct pool_tally tally, uint32_t recordings, uint32_t references)
+{
+    return tally.recordings == recordings && tally.references == references;
+}
+
+/* Adds a recording of the pages from first on, each one more than the one before it, and then of a last one. */
+static struct pool_added add_rising(struct pool_tally tally, uint16_t first, size_t count, uint16_t last)
+{
+    for (size_t i = 0; i < count; i++)
+        recorded[i] = (uint16_t)(first + i);
+    recorded[count] = last;
+    return pool_tally_add(tally, COUNTS, recorded, count + 1);
+}
+
+/* Whether a recording is refused, and adds nothing. */
+static bool add_refused(uint8_t refusal, struct pool_tally tally, size_t counts_length, const uint16_t *pages, size_t length)
+{
+    static uint32_t before[POOL_DEPTHS + 1];
+    memcpy(before, counts, sizeof before);
+    struct pool_added added = pool_tally_add(tally, counts, counts_length, pages, length);
+    return added.refusal == refusal && is_tally(added.tally, tally.recordings, tally.references) &&
+           memcmp(before, counts, sizeof before) == 0;
+}
+
+static bool is_share(struct pool_tally tally, uint64_t size, uint64_t within)
+{
+    struct pool_share share = pool_tally_share(tally, COUNTS, size);
+    return share.refusal == POOL_ACCEPTED && share.within == within && share.all == tally.references;
+}
+
+/* The depths of the header's recording, and of the longest ones. */
+static void depths(void)
+{
+    static const uint16_t pages[] = {5, 7, 5, 5, 9, 7}, others[] = {7, 5, 7};
+    struct pool_added added = pool_tally_add(empty_tally(), COUNTS, pages, 6);
+    claim("a recording is added", added.refusal == POOL_ACCEPTED && is_tally(added.tally, 1, 6));
+    claim("with a reference of depths 1, 2 and 3 each", counts[0] == 1 && counts[1] == 1 && counts[2] == 1);
+    claim("and no other", is_share(added.tally, POOL_DEPTHS, 3));
+    added = pool_tally_add(added.tally, COUNTS, others, 3);
+    claim("each recording begins anew", added.refusal == POOL_ACCEPTED && is_tally(added.tally, 2, 9));
+    claim("with one of depth 2", counts[1] == 2 && is_share(added.tally, POOL_DEPTHS, 4));
+
+    added = add_rising(empty_tally(), 0, 4095, 4095);
+    claim("first references have no depth", is_tally(added.tally, 1, 4096) && is_share(added.tally, POOL_DEPTHS, 0));
+    added = add_rising(added.tally, 1, 4095, 1);
+    claim("the largest depth", is_tally(added.tally, 2, 8192) && counts[POOL_DEPTHS - 1] == 1);
+    memset(recorded, 0xf, sizeof recorded);
+    added = pool_tally_add(added.tally, COUNTS, recorded, POOL_MOST_REFERENCES);
+    claim("the least", is_tally(added.tally, 3, 12288) && counts[0] == 4095 && is_share(added.tally, 4095, 4096));
+}
+
+/* A recording for each depth, and the shares and the report that they come to. */
+static void every_depth(void)
+{
+    struct pool_tally tally = empty_tally();
+    for (uint16_t depth = 1; depth <= POOL_DEPTHS; depth++)
+        tally = add_rising(tally, (uint16_t)(4096 - depth), depth, (uint16_t)(4096 - depth)).tally;
+    claim("a recording of each depth is added", is_tally(tally, POOL_DEPTHS, 4095 * 4098 / 2));
+    hits[POOL_DEPTHS] = 77;
+    claim("a report is accepted", pool_tally_report(COUNTS, hits, POOL_DEPTHS) == POOL_ACCEPTED);
+    bool are_counted = true, are_reported = true, are_shared = true;
+    for (uint64_t size = 1; size <= POOL_DEPTHS; size++) {
+        are_counted = are_counted && counts[size - 1] == 1;
+        are_reported = are_reported && hits[size - 1] == size;
+        are_shared = are_shared && is_share(tally, size, size);
+    }
+    claim("each depth has a reference", are_counted);
+    claim("so that each size has a hit more", are_reported && are_shared);
+    claim("the hits end there", hits[POOL_DEPTHS] == 77);
+    claim("size 0 has none", is_share(tally, 0, 0));
+    claim("beyond the largest depth are no more", is_share(tally, 4096, 4095) && is_share(tally, 1ULL << 32, 4095) &&
+                                                      is_share(tally, UINT64_MAX, 4095));
+}
+
+static void refused_recordings(void)
+{
+    struct pool_tally tally = empty_tally();
+    const struct pool_tally last = {65534, 65534u * 4096}, full = {65535, 0}, none = tally;
+    memset(recorded, 0, sizeof recorded);
+    claim("4,094 counters", add_refused(POOL_WRONG_LENGTH, tally, 4094, recorded, 1));
+    claim("4,096 counters", add_refused(POOL_WRONG_LENGTH, tally, 4096, recorded, 1));
+    claim("no counters", pool_tally_add(tally, NULL, 0, recorded, 1).refusal == POOL_WRONG_LENGTH);
+    claim("no page", add_refused(POOL_WRONG_LENGTH, tally, 4095, recorded, 0));
+    claim("no page at NULL", add_refused(POOL_WRONG_LENGTH, tally, 4095, NULL, 0));
+    claim("4,097 pages", add_refused(POOL_WRONG_LENGTH, tally, 4095, recorded, 4097));
+    claim("a full tally", add_refused(POOL_WRONG_LENGTH, full, 4095, recorded, 1));
+    struct pool_added added = pool_tally_add(last, COUNTS, recorded, 4096);
+    claim("the last recording", added.refusal == POOL_ACCEPTED && is_tally(added.tally, 65535, 65535u * 4096));
+    claim("and one too many", add_refused(POOL_WRONG_LENGTH, added.tally, 4095, recorded, 1));
+
+    tally = empty_tally();
+    for (uint16_t recordings = 0; recordings < 65535; recordings = (uint16_t)(2 * recordings + 1)) {
+        tally.recordings = recordings;
+        tally.references = recordings * 4096u + 1;
+        claim("a reference too many", add_refused(POOL_DISAGREE, tally, 4095, recorded, 1));
+        tally.references = UINT32_MAX;
+        claim("far too many", add_refused(POOL_DISAGREE, tally, 4095, recorded, 1));
+        tally.references = recordings * 4096u;
+        added = pool_tally_add(tally, COUNTS, recorded, 1);
+        claim("as many as there can be", added.refusal == POOL_ACCEPTED && added.tally.references == tally.references + 1);
+    }
+    counts[0] = 3;
+    counts[POOL_DEPTHS - 1] = 2;
+    tally.recordings = 1;
+    tally.references = 4;
+    claim("fewer than the counters", add_refused(POOL_DISAGREE, tally, 4095, recorded, 1));
+    tally.references = 5;
+    claim("as many as the counters", pool_tally_add(tally, COUNTS, recorded, 1).refusal == POOL_ACCEPTED);
+    counts[0] = UINT32_MAX;
+    claim("counters beyond 32 bits", add_refused(POOL_DISAGREE, tally, 4095, recorded, 1));
+
+    tally = empty_tally();
+    recorded[2] = 4096;
+    claim("page 4,096", add_refused(POOL_BAD_PAGE, tally, 4095, recorded, 3));
+    recorded[2] = UINT16_MAX;
+    claim("page 65,535", add_refused(POOL_BAD_PAGE, tally, 4095, recorded, 4096));
+    recorded[2] = 4095;
+    claim("page 4,095", pool_tally_add(tally, COUNTS, recorded, 3).refusal == POOL_ACCEPTED && counts[0] == 1);
+
+    recorded[0] = 4096;
+    counts[1] = 1;
+    claim("1 before 2", add_refused(POOL_WRONG_LENGTH, none, 4095, recorded, 4097));
+    claim("2 before 6", add_refused(POOL_DISAGREE, none, 4095, recorded, 1));
+    claim("1 before 6", add_refused(POOL_WRONG_LENGTH, full, 4095, recorded, 1));
+    tally.recordings = 1;
+    tally.references = 2;
+    claim("and 6 by itself", add_refused(POOL_BAD_PAGE, tally, 4095, recorded, 1));
+}
+
+static void refused_figures(void)
+{
+    static uint32_t counts_before[POOL_DEPTHS + 1];
+    const struct pool_tally any = {1, UINT32_MAX};
+    memset(counts, 0xff, sizeof counts);
+    memcpy(counts_before, counts, sizeof counts);
+    memset(hits, 0, sizeof hits);
+    for (size_t length = 4094; length <= 4096; length += 2) {
+        struct pool_share share = pool_tally_share(any, counts, length, 1);
+        claim("a share of other counters", share.refusal == POOL_WRONG_LENGTH && share.within == 0 && share.all == 0);
+        claim("a report of other counters", pool_tally_report(counts, length, hits, 4095) == POOL_WRONG_LENGTH);
+        claim("a report to other hits", pool_tally_report(counts, 4095, hits, length) == POOL_WRONG_LENGTH);
+    }
+    struct pool_share share = pool_tally_share(any, NULL, 0, 1);
+    claim("a share of no counters", share.refusal == POOL_WRONG_LENGTH && share.within == 0 && share.all == 0);
+    claim("a report of none", pool_tally_report(NULL, 0, hits, 4095) == POOL_WRONG_LENGTH);
+    claim("a report to none", pool_tally_report(counts, 4095, NULL, 0) == POOL_WRONG_LENGTH);
+    bool are_kept = true, are_reported = true, are_shared = true;
+    for (size_t i = 0; i <= POOL_DEPTHS; i++)
+        are_kept = are_kept && hits[i] == 0;
+    claim("refused, the hits stay", are_kept);
+
+    claim("any counters are reported", pool_tally_report(COUNTS, hits, POOL_DEPTHS) == POOL_ACCEPTED);
+    for (uint64_t size = 1; size <= POOL_DEPTHS; size++) {
+        are_reported = are_reported && hits[size - 1] == size * UINT32_MAX;
+        are_shared = are_shared && is_share(any, size, size * UINT32_MAX);
+    }
+    claim("and summed in 64 bits", are_reported);
+    claim("by share too, up to any size", are_shared && is_share(any, UINT64_MAX, 4095 * (uint64_t)UINT32_MAX));
+    claim("and stay as they are", memcmp(counts, counts_before, sizeof counts) == 0);
+    claim("an add finds that they can't be", add_refused(POOL_DISAGREE, any, 4095, recorded, 1));
+}
+
 static void payloads(void)
 {
     struct pool_fixed one = pool_fix(begin(), LENT, root, 1);
@@ -369,6 +550,10 @@ int main(void)
     taken_slots();
     staying_pages();
     workloads();
+    depths();
+    every_depth();
+    refused_recordings();
+    refused_figures();
     payloads();
     open_forgets();
     return failures != 0;

@@ -66,5 +66,15 @@ int main(void)
         EXPECT(drawn.entry[i], 209 + i);
     EXPECT(drawn.generator.number, 5003);
 
+    struct pool_added added = pool_layout_added();
+    EXPECT(added.refusal, 225);
+    EXPECT(added.tally.recordings, 5004);
+    EXPECT(added.tally.references, 70005);
+
+    struct pool_share share = pool_layout_share();
+    EXPECT(share.refusal, 226);
+    EXPECT(share.within, 5000000006);
+    EXPECT(share.all, 5000000007);
+
     return differences != 0;
 }

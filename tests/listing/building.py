@@ -4,7 +4,7 @@ import shutil
 import subprocess
 import tempfile
 
-from shared import ROOT, compare
+from shared import Copy, compare
 
 FILES = ["program.sh", "listing", "workload"]
 # all that the commands and the stand-in call; flock may be missing
@@ -27,37 +27,15 @@ chmod +x "target/bin/$2"
 """
 
 
-class Folder:
+class Folder(Copy):
     """A copy of the commands, with crates that have a source each, and a folder of tools in which the stand-in is the only rt."""
 
     def __init__(self, path):
-        self.path = path
-        for name in FILES:
-            shutil.copy(os.path.join(ROOT, name), path)
+        super().__init__(path, FILES, TOOLS)
         self.write("crates.txt", CRATES)
         for crate in ("page", "other", "printing", "listing", "workload"):
             self.write(f"crates/{crate}/src/lib.rt", "")
-        self.write("tools/rt", RT)
-        os.chmod(self.at("tools/rt"), 0o755)
-        for tool in filter(shutil.which, TOOLS):
-            os.symlink(shutil.which(tool), self.at(f"tools/{tool}"))
-
-    def at(self, name):
-        return os.path.join(self.path, name)
-
-    def write(self, name, text):
-        os.makedirs(os.path.dirname(self.at(name)), exist_ok=True)
-        with open(self.at(name), "w", encoding="utf-8") as file:
-            file.write(text)
-
-    def log(self):
-        """What was built since it was last asked."""
-        if not os.path.exists(self.at("log")):
-            return []
-        with open(self.at("log"), encoding="utf-8") as file:
-            lines = file.read().splitlines()
-        os.remove(self.at("log"))
-        return lines
+        self.write("tools/rt", RT, 0o755)
 
     def environment(self):
         return {**os.environ, "PATH": self.at("tools")}

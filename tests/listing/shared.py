@@ -1,5 +1,7 @@
-"""What the tests of the listing and of the workload share: the calls and their answers, comparing lines, and running a command."""
+"""What the tests of the listing, of the workload and of sizing share: the calls and their answers, comparing lines, and running a command,
+also where its parts have to be built."""
 import os
+import shutil
 import subprocess
 
 ROOT = os.path.join(os.path.dirname(os.path.abspath(__file__)), "../..")
@@ -45,3 +47,33 @@ def ends(command, arguments, stdout=subprocess.PIPE, **given):
     run = subprocess.run([os.path.join(ROOT, command), *arguments], stdout=stdout, stderr=subprocess.PIPE, **given)
     printed, said = ((text or b"").decode("utf-8", "replace") for text in (run.stdout, run.stderr))
     return run.returncode, printed.split("\n")[:-1], said
+
+
+class Copy:
+    """A copy of commands in a folder of their own, with the only tools that they find."""
+
+    def __init__(self, path, commands, tools):
+        self.path = path
+        for command in commands:
+            shutil.copy(os.path.join(ROOT, command), path)
+        os.mkdir(self.at("tools"))
+        for tool in filter(shutil.which, tools):
+            os.symlink(shutil.which(tool), self.at(f"tools/{tool}"))
+
+    def at(self, name):
+        return os.path.join(self.path, name)
+
+    def write(self, name, text, mode=0o644):
+        os.makedirs(os.path.dirname(self.at(name)), exist_ok=True)
+        with open(self.at(name), "w", encoding="utf-8") as file:
+            file.write(text)
+        os.chmod(self.at(name), mode)
+
+    def log(self):
+        """What was built since it was last asked."""
+        if not os.path.exists(self.at("log")):
+            return []
+        with open(self.at("log"), encoding="utf-8") as file:
+            lines = file.read().splitlines()
+        os.remove(self.at("log"))
+        return lines

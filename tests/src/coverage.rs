@@ -7,6 +7,7 @@ use crate::model::stays::Stay;
 use crate::model::taken::Namer;
 use crate::model::warmth::Warmth;
 use crate::pool::Refusal;
+use crate::runs::Tells;
 use std::collections::{BTreeMap, BTreeSet};
 use std::fmt;
 use words::rules::Table;
@@ -71,10 +72,6 @@ impl Coverage {
         }
     }
 
-    pub fn calls(&self) -> u64 {
-        self.counts.values().sum()
-    }
-
     /// The pairs of the table that have a wanted answer and did not occur.
     pub fn missing(&self, table: &Table, wanted: &[u8]) -> Vec<Pair> {
         let possible = table.rules.iter().flat_map(|rule| rule.calls.iter().map(|call| (*call, rule.number)));
@@ -110,6 +107,12 @@ impl Coverage {
     pub fn impossible(&self, table: &Table) -> Vec<Pair> {
         let possible = |(call, number): &Pair| table.answers(call).any(|answer| answer == *number);
         self.counts.keys().filter(|pair| !possible(pair)).copied().collect()
+    }
+}
+
+impl Tells for Coverage {
+    fn calls(&self) -> u64 {
+        self.counts.values().sum()
     }
 }
 

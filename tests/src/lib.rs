@@ -5,6 +5,8 @@
 //! - `lockstep`: one call on the machine under test, the wrappers and the model; `history` adds `plain`, the plain map.
 //! - `stores`, `steer`, `draws`, `damage`, `coverage`: what is called and drawn on what, and how often it was met.
 //! - `trial`: a pool for a single case; `listing`: the call that a record makes, and its line.
+//! - `tally`: request A.12's tally, which knows no pool, with a model and machines of its own.
+//! - `runs`: long runs of lists of calls.
 pub mod calls;
 pub mod coverage;
 pub mod damage;
@@ -20,8 +22,10 @@ pub mod package;
 pub mod plain;
 pub mod pool;
 pub mod records;
+pub mod runs;
 pub mod steer;
 pub mod stores;
+pub mod tally;
 pub mod trial;
 
 /// A number from the environment, where it is set.

@@ -1,6 +1,5 @@
-//! Long random lists of calls on the machine under test, the model and the plain map.
-//!
-//! POOL_SEED chooses other lists, POOL_SOAK makes so many times more. A run of more than a minute says each minute where it is.
+//! Long random lists of calls on the machine under test, the model and the plain map. POOL_SEED chooses other lists, POOL_SOAK
+//! makes so many times more (`pool_tests::runs`).
 use pool_tests::calls::NAMES;
 use pool_tests::coverage::Coverage;
 use pool_tests::damage::{alter, damage};
@@ -10,12 +9,10 @@ use pool_tests::lockstep::step;
 use pool_tests::model::drawing::Drawing;
 use pool_tests::pool::UnderTest;
 use pool_tests::records::{State, PAGE_SIZE};
-use pool_tests::setting;
+use pool_tests::runs;
 use pool_tests::steer::{self, Steer};
 use pool_tests::stores::sound_store;
 use random::Random;
-use std::io::{stderr, Write};
-use std::time::{Duration, Instant};
 use words::rules::Table;
 
 type Outcome = Result<(), String>;
@@ -29,35 +26,14 @@ fn all_but(some: &[u8]) -> Vec<u8> {
     answered.map(|rule| rule.number).filter(|number| !some.contains(number)).collect()
 }
 
-/// Says something on standard error at once, which a test's output is kept from.
-fn say(text: String) {
-    writeln!(stderr(), "{text}").expect("standard error");
-}
-
-/// Runs a test's lists, each with a generator of its own, and shows how often each call met each answer.
-/// Every call must have met those of the wanted ones that it can give.
+/// Runs a test's lists. Every call must have met those of the wanted answers that it can give.
 fn run(
     name: &str,
     lists: u64,
     wanted: &[u8],
     list: impl Fn(&mut Random, &mut Coverage) -> Outcome,
 ) -> Coverage {
-    let seed = setting("POOL_SEED", 1);
-    let mut coverage = Coverage::default();
-    let lists = lists * setting("POOL_SOAK", 1);
-    let mut minute = Instant::now();
-    for number in 0..lists {
-        if minute.elapsed() >= Duration::from_secs(60) {
-            minute = Instant::now();
-            say(format!("{name}: {number} of {lists} lists, {} calls", coverage.calls()));
-        }
-        let mut random = Random::new((seed << 32) + number);
-        if let Err(fault) = list(&mut random, &mut coverage) {
-            panic!("{name}, seed {seed}, list {number}: {fault}");
-        }
-    }
-    say(format!("\n{name}:\n{coverage}"));
-    let table = Table::standing();
+    let (coverage, table) = (runs::run(name, lists, list), Table::standing());
     assert_eq!(coverage.missing(&table, wanted), [], "pairs that did not occur");
     assert_eq!(coverage.impossible(&table), [], "pairs that cannot occur");
     coverage

@@ -7,6 +7,9 @@ use words::rules::Table;
 
 const HEADER: &str = include_str!("../../include/pagepool.h");
 
+/// The calls of a tally, `pool_tally_add` and so on.
+const TALLY_CALLS: [&str; 3] = ["add", "share", "report"];
+
 /// The package's sources, one after the other.
 fn package() -> String {
     let folder = concat!(env!("CARGO_MANIFEST_DIR"), "/../rust/src");
@@ -67,20 +70,41 @@ fn the_same_sentences() {
     }
 }
 
-/// What each call is refused by, in checking order, as the header and the package say beside it.
+/// What a call is refused by, in checking order, as the header and the package say beside it.
+fn expect_refused(package: &str, call: &str, rules: &[u8]) {
+    let name = format!(" pool_{call}(");
+    let in_header = |line: &&str| !line.starts_with(' ') && line.contains(&name);
+    let declared = HEADER.lines().find(in_header).expect(call);
+    assert_eq!(refused(HEADER, declared), rules, "include/pagepool.h, pool_{call}");
+    let declaration = ["(", "<"].map(|sign| format!("\npub fn {call}{sign}"));
+    let declared = declaration.iter().find(|text| package.contains(*text)).expect(call);
+    assert_eq!(refused(package, declared), rules, "rust/src, {call}");
+}
+
 #[test]
 fn refused_by_which() {
     let (table, package) = (Table::standing(), package());
     for call in &table.calls {
         let rules: Vec<u8> = table.answers(call).filter(|number| *number != 0).collect();
-        let name = format!(" pool_{call}(");
-        let in_header = |line: &&str| line.starts_with("struct ") && line.contains(&name);
-        let declared = HEADER.lines().find(in_header).expect(call);
-        assert_eq!(refused(HEADER, declared), rules, "include/pagepool.h, pool_{call}");
-        let declaration = ["(", "<"].map(|sign| format!("\npub fn {call}{sign}"));
-        let declared = declaration.iter().find(|text| package.contains(*text)).expect(call);
-        assert_eq!(refused(&package, declared), rules, "rust/src, {call}");
+        expect_refused(&package, call, &rules);
     }
+}
+
+/// A tally's calls answer numbers of the table, in its order, and header and package say by which they are refused.
+#[test]
+fn a_tallys_calls() {
+    let (table, package) = (Table::standing(), package());
+    let of_tally = |number: &u8| table.tally_sentence(*number).is_some();
+    let order: Vec<u8> = table.rules.iter().map(|rule| rule.number).filter(of_tally).collect();
+    assert_eq!(table.tally.iter().map(|rule| rule.number).collect::<Vec<_>>(), order);
+    for call in TALLY_CALLS {
+        let answers = table.tally.iter().filter(|rule| rule.calls.contains(&call)).map(|rule| rule.number);
+        let (accepted, rules): (Vec<u8>, Vec<u8>) = answers.partition(|number| *number == 0);
+        assert_eq!(accepted, [0], "{call}");
+        expect_refused(&package, &format!("tally_{call}"), &rules);
+    }
+    let calls: Vec<_> = table.tally.iter().flat_map(|rule| &rule.calls).collect();
+    assert!(calls.iter().all(|call| TALLY_CALLS.contains(call)), "{calls:?}");
 }
 
 /// A number that is a hole is no rule, in the table, the header or the package.

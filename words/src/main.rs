@@ -37,7 +37,7 @@ fn main() -> ExitCode {
         ["explain"] => explain(&table),
         ["rule", number] => refusal::meaning(&table, number)
             .map_err(Fault::Bad)
-            .and_then(|rule| print(&format!("{number}: {rule}\n"))),
+            .and_then(|rule| print(&format!("{number}: {rule}\n{}", refusal::of_tally(&table, number)))),
         ["forms"] => print(&(recording::hint() + "\n")),
         ["--help" | "-h" | "help"] => print(&format!("{USAGE}\n\n{}\n", recording::hint())),
         _ => Err(Fault::Bad(USAGE.to_string())),
@@ -47,8 +47,13 @@ fn main() -> ExitCode {
         Err(Fault::Lost(why)) => (why, 1),
         Err(Fault::Bad(why)) => (why, 2),
     };
-    eprintln!("{why}");
+    say(&why);
     ExitCode::from(status)
+}
+
+/// Says something on standard error. Where that can't be written, the status still tells.
+fn say(words: &str) {
+    let _ = writeln!(io::stderr(), "{words}");
 }
 
 fn bad(error: impl ToString) -> Fault {
@@ -83,13 +88,13 @@ fn replay(table: Table, listing: &str, file: &str) -> Outcome {
         None => {
             let rest = bytes.len() % SIZE;
             if rest != 0 {
-                eprintln!("a part record of {rest} bytes at the end is left out");
+                say(&format!("a part record of {rest} bytes at the end is left out"));
             }
             records_of(&bytes)
         }
     };
     if recording::is_doubtful(&records) {
-        eprintln!("this hardly is a recording: {}", recording::hint());
+        say(&format!("this hardly is a recording: {}", recording::hint()));
     }
     let lines = listing::list(listing, &records).map_err(Fault::Lost)?;
     let mut replay = Replay::new(table);

@@ -2,6 +2,9 @@
 use crate::line::{self, FORMS};
 use crate::record::{call_of, Record, SIZE};
 
+/// What the programs of some systems put in front of a text.
+const MARK: char = '\u{feff}';
+
 /// What a recording is, for a file that is none.
 pub fn hint() -> String {
     format!(
@@ -20,16 +23,22 @@ pub fn text(bytes: &[u8]) -> Option<&str> {
 
 /// The records of lines of words. The error names every line that is no call.
 pub fn parse(text: &str) -> Result<Vec<Record>, String> {
+    let numbered = numbered(text).map_err(|bad| format!("{}\n{}", bad.join("\n"), hint()))?;
+    Ok(numbered.into_iter().map(|(_, record)| record).collect())
+}
+
+/// The same, each record with its line's number; the error has a text for each line that is no call.
+pub fn numbered(text: &str) -> Result<Vec<(usize, Record)>, Vec<String>> {
     let (mut records, mut bad) = (Vec::new(), Vec::new());
-    for (index, line) in text.lines().enumerate() {
+    for (number, line) in (1..).zip(text.strip_prefix(MARK).unwrap_or(text).lines()) {
         match line::parse(line) {
-            Ok(record) => records.extend(record),
-            Err(why) => bad.push(format!("line {}: {why}", index + 1)),
+            Ok(record) => records.extend(record.map(|record| (number, record))),
+            Err(why) => bad.push(format!("line {number}: {why}")),
         }
     }
     match bad[..] {
         [] => Ok(records),
-        _ => Err(format!("{}\n{}", bad.join("\n"), hint())),
+        _ => Err(bad),
     }
 }
 

@@ -22,6 +22,8 @@ pub struct Table {
     pub rules: Vec<Rule>,
     /// The numbers that are given no more, each with what it says in an older listing.
     pub holes: Vec<(u8, &'static str)>,
+    /// The numbers that the calls of a tally answer, in checking order: these calls, and what the number says of a tally.
+    pub tally: Vec<Rule>,
 }
 
 impl Table {
@@ -39,7 +41,8 @@ impl Table {
             ["number", "name", calls @ .., "listing", "sentence"] => calls.to_vec(),
             _ => return Err(format!("expected number, name, the calls, listing, sentence, found '{head}'")),
         };
-        let mut table = Table { calls, rules: Vec::new(), holes: text.lines().filter_map(hole).collect() };
+        let holes = text.lines().filter_map(hole).collect();
+        let mut table = Table { calls, rules: Vec::new(), holes, tally: Vec::new() };
         for (index, line) in lines {
             let rule = row(&table.calls, line).map_err(|why| format!("line {}: {why}", index + 1))?;
             if table.rule(rule.number).is_some() {
@@ -47,6 +50,7 @@ impl Table {
             }
             table.rules.push(rule);
         }
+        table.tally = text.lines().filter_map(|line| of_tally(&table.rules, line)).collect();
         Ok(table)
     }
 
@@ -60,6 +64,11 @@ impl Table {
         self.rule(number).map(|rule| rule.sentence).or_else(hole)
     }
 
+    /// What a number says where a call of a tally answers it.
+    pub fn tally_sentence(&self, number: u8) -> Option<&'static str> {
+        self.tally.iter().find(|rule| rule.number == number).map(|rule| rule.sentence)
+    }
+
     /// The numbers that a call can answer, in checking order.
     pub fn answers<'a>(&'a self, call: &'a str) -> impl Iterator<Item = u8> + 'a {
         self.rules.iter().filter(move |rule| rule.calls.contains(&call)).map(|rule| rule.number)
@@ -70,6 +79,14 @@ impl Table {
 fn hole(line: &'static str) -> Option<(u8, &'static str)> {
     let (number, said) = line.strip_prefix("# hole ")?.split_once(' ')?;
     Some((number.parse().ok()?, said.trim_start()))
+}
+
+/// A line of the head that begins with `# tally` and a number: calls, a colon and the sentence. The name is that of the number's row.
+fn of_tally(rules: &[Rule], line: &'static str) -> Option<Rule> {
+    let (number, said) = line.strip_prefix("# tally ")?.split_once(' ')?;
+    let (number, (calls, sentence)) = (number.parse().ok()?, said.split_once(": ")?);
+    let name = rules.iter().find(|rule| rule.number == number).and_then(|rule| rule.name);
+    Some(Rule { number, name, calls: calls.split_whitespace().collect(), listed: false, sentence })
 }
 
 fn row(calls: &[&'static str], line: &'static str) -> Result<Rule, String> {

@@ -1,5 +1,5 @@
 //! The commands as a technician runs them: what they print, and how they end.
-use std::fs::{self, OpenOptions};
+use std::fs::{self, File, OpenOptions};
 use std::io::Write;
 use std::os::unix::fs::PermissionsExt;
 use std::path::PathBuf;
@@ -9,8 +9,12 @@ use words::rules::Table;
 const LISTING: &str = concat!(env!("CARGO_MANIFEST_DIR"), "/../listing");
 
 fn run(arguments: &[&str], input: &[u8], output: Stdio) -> Output {
+    run_to(arguments, input, output, Stdio::piped())
+}
+
+fn run_to(arguments: &[&str], input: &[u8], output: Stdio, errors: Stdio) -> Output {
     let mut words = Command::new(env!("CARGO_BIN_EXE_words"));
-    words.args(arguments).stdin(Stdio::piped()).stdout(output).stderr(Stdio::piped());
+    words.args(arguments).stdin(Stdio::piped()).stdout(output).stderr(errors);
     let mut run = words.spawn().expect("words");
     // a command that is wrong reads nothing
     let _ = run.stdin.take().expect("a pipe").write_all(input);
@@ -91,6 +95,23 @@ fn a_recording_is_told_from_words_and_from_records() {
     assert_eq!(words(&["replay", LISTING, "-"], &records).1, TOLD);
     let lines = words(&["lines"], &records).1;
     assert_eq!(words(&["replay", LISTING, "-"], lines.as_bytes()).1, TOLD);
+}
+
+/// A rule that the pool and a tally share says what it means of both.
+#[test]
+fn rules_of_a_tally() {
+    let table = Table::standing();
+    for rule in &table.rules {
+        let number = rule.number.to_string();
+        let told = words(&["rule", &number], b"").1;
+        let of_tally = match rule.number {
+            1 | 2 | 6 => {
+                format!("{number} of a tally: {}\n", table.tally_sentence(rule.number).expect("a sentence"))
+            }
+            _ => String::new(),
+        };
+        assert_eq!(told, format!("{number}: {}\n{of_tally}", rule.sentence));
+    }
 }
 
 /// A page that stays, for each reason, and what helps, done.
@@ -192,9 +213,36 @@ fn a_hint_where_the_input_is_no_recording() {
     assert_eq!(words(&["replay", LISTING, "no/such/file"], b"").0, 2);
 }
 
+fn full() -> File {
+    OpenOptions::new().write(true).open("/dev/full").expect("/dev/full")
+}
+
+#[test]
+fn a_mark_in_front_of_words_is_none_of_them() {
+    let marked = [&b"\xef\xbb\xbf"[..], CALLS.as_bytes()].concat();
+    for arguments in [&["records"][..], &["replay", LISTING, "-"]] {
+        assert_eq!(words(arguments, &marked), words(arguments, CALLS.as_bytes()), "{arguments:?}");
+    }
+    assert_eq!(words(&["records"], "\u{feff}root\n".as_bytes()).0, 0);
+    let why = words(&["records"], "root\n\u{feff}root\n".as_bytes()).2;
+    assert!(why.starts_with("line 2: expected a call, found"), "{why}");
+}
+
+#[test]
+fn where_nothing_can_be_said_the_status_is_the_same() {
+    let status = |arguments: &[&str], input: &[u8], output: Stdio| {
+        ended(run_to(arguments, input, output, full().into())).0
+    };
+    // a part record is left out, and what is no recording told all the same
+    assert_eq!(status(&["replay", LISTING, "-"], &[1; 21], Stdio::piped()), 0);
+    assert_eq!(status(&["replay", LISTING, "-"], b"", Stdio::piped()), 0);
+    assert_eq!(status(&["rule", "4"], b"", full().into()), 1);
+    assert_eq!(status(&["records"], b"hop\n", Stdio::piped()), 2);
+    assert_eq!(status(&["nosuch"], b"", Stdio::piped()), 2);
+}
+
 #[test]
 fn lost_output_is_told_by_the_status() {
-    let full = || OpenOptions::new().write(true).open("/dev/full").expect("/dev/full");
     for arguments in [&["records"][..], &["replay", LISTING, "-"], &["rule", "4"], &["--help"]] {
         let (status, _, why) = ended(run(arguments, b"root\n", full().into()));
         assert_eq!(status, 1, "{arguments:?}");

@@ -1,5 +1,5 @@
 //! The thirteen calls of document 01, and request A.10's draw, in safe Rust, on records lent by `&mut`. Each answers what the
-//! method of the same name of `PagePool` does.
+//! method of the same name of `PagePool` does. `tally` has request A.12's.
 mod agreement;
 mod drawing;
 mod moves;
@@ -7,6 +7,7 @@ mod naming;
 mod page;
 mod rules;
 mod seen;
+pub mod tally;
 
 use page::{pages_of, pages_of_mut, SWIZZLE_BIT};
 use pagepool::{

@@ -2,6 +2,9 @@
 use crate::answers::Fixed;
 use crate::answers::Found;
 use crate::answers::Named;
+use depths::Added;
+use depths::Share;
+use depths::Tally;
 use drawing::Drawn;
 use generator::Generator;
 use pool::Done;
@@ -125,5 +128,27 @@ pub extern "C" fn pool_layout_drawn() -> Drawn {
         refusal: 208,
         entry,
         generator: Generator { number: 5003 },
+    }
+}
+
+// The answer of a tally's add, marked.
+#[no_mangle]
+pub extern "C" fn pool_layout_added() -> Added {
+    Added {
+        refusal: 225,
+        tally: Tally {
+            recordings: 5004,
+            references: 70005,
+        },
+    }
+}
+
+// The answer of a tally's share, marked.
+#[no_mangle]
+pub extern "C" fn pool_layout_share() -> Share {
+    Share {
+        refusal: 226,
+        within: 5000000006,
+        all: 5000000007,
     }
 }

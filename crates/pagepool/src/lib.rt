@@ -1,4 +1,4 @@
-// The pool's thirteen calls, and the draws of a workload, for programs in C and Rust. A lent buffer is a pointer and a length there, and an answer a struct by value.
+// The pool's thirteen calls, the draws of a workload, and the tally of recorded fixes, for programs in C and Rust. A lent buffer is a pointer and a length there, and an answer a struct by value.
 // include/pagepool.h declares them for C, the package rust/ for Rust.
 mod answers;
 mod layout;
@@ -6,6 +6,9 @@ mod layout;
 use answers::Fixed;
 use answers::Found;
 use answers::Named;
+use depths::Added;
+use depths::Share;
+use depths::Tally;
 use drawing::Drawn;
 use generator::Generator;
 use pool::Done;
@@ -19,6 +22,7 @@ ghost use Rattle.machine.specs.Answers.{out, doneAnswer, placeOf};
 ghost use Rattle.machine.specs.Calls.{openCall, rootCall, fixCall, unfixCall, showCall, peekCall, wordCall, writeCall, linkCall, unlinkCall, evictCall, settleCall, findCall};
 ghost use Rattle.generator.specs.Generator.{seedRead};
 ghost use Rattle.drawing.specs.Drawing.{drawnOut};
+ghost use Rattle.depths.specs.Tallying.{addOut, shareOut, reportOut};
 ghost use Rattle.pagepool.specs.Structs.{fixedOut, namedOf, foundOf};
 
 // Brings page 0 into frame 0 and gives the records of a new pool; refused, all-zero ones.
@@ -176,4 +180,28 @@ pub extern "C" fn pool_draw(pool: Pool, frames: &[u8], store: &[u8], generator: 
     ensures { λ r. ⌜ r ≡ drawnOut (state pool (now (frames .entry)) (now (store .entry))) generator ⌝ }
 {
     drawing::draw_record(pool, frames, store, generator)
+}
+
+// Adds a recording to a tally.
+#[no_mangle]
+pub extern "C" fn pool_tally_add(tally: Tally, counts: &mut [u32], pages: &[u16]) -> Added
+    ensures { λ r. ⌜ record { added = r; counts = now (counts .exit) } ≡ addOut tally (now (counts .entry)) (now (pages .entry)) ⌝ }
+{
+    counting::add(tally, counts, pages)
+}
+
+// The references at or below a size, and all.
+#[no_mangle]
+pub extern "C" fn pool_tally_share(tally: Tally, counts: &[u32], size: u64) -> Share
+    ensures { λ r. ⌜ r ≡ shareOut tally (now (counts .entry)) size ⌝ }
+{
+    counting::share_at(tally, counts, size)
+}
+
+// The hits of a cache of each size from 1 to 4,095.
+#[no_mangle]
+pub extern "C" fn pool_tally_report(counts: &[u32], hits: &mut [u64]) -> u8
+    ensures { λ r. ⌜ record { refusal = r; hits = now (hits .exit) } ≡ reportOut (now (counts .entry)) (now (hits .entry)) ⌝ }
+{
+    counting::report(counts, hits)
 }

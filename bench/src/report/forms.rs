@@ -1,0 +1,23 @@
+//! The forms of counting depths, side by side.
+use super::{machine, nanoseconds};
+use crate::contest::Figure;
+use pool_bench::forms::FORMS;
+
+/// A column for each form, with the bytes of its tables; the times in microseconds.
+pub fn text(figures: &[Figure]) -> String {
+    let columns = |cell: fn(usize) -> String| (0..FORMS.len()).map(cell).collect::<String>();
+    let names = columns(|form| format!(" {} |", FORMS[form].name));
+    let tables = columns(|form| format!(" {} |", FORMS[form].tables));
+    let lines: String = figures.iter().map(line).collect();
+    format!(
+        "{}\n\n| µs, by recording | references |{names}\n|---|--:|{}\n{lines}| bytes of tables | |{tables}\n",
+        machine(),
+        "--:|".repeat(FORMS.len())
+    )
+}
+
+fn line(figure: &Figure) -> String {
+    let cells: String =
+        figure.times.iter().map(|time| format!(" {} |", nanoseconds(time / 1000.0))).collect();
+    format!("| {} | {} |{cells}\n", figure.added.name(), figure.added.length)
+}
