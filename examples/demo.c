@@ -1,6 +1,7 @@
 /*
- * A pool of 4 frames over a store of 16 empty pages: links and fixes a few pages, writes, reads back, settles, and reads the
- * store again through a new pool. Then tells from its fixes what caches of a few sizes hit. Prints what it did, as demo.rs does.
+ * A pool of 4 frames over a store of 16 empty pages: links and fixes a few pages, writes, reads back, locks a page, settles, and
+ * reads the store again through a new pool, where the page is freed. Then tells from its fixes what caches of a few sizes hit.
+ * Prints what it did, as demo.rs does.
  */
 #include "pagepool.h"
 
@@ -47,10 +48,16 @@ static struct pool_handle open_pool(void)
     return fixed.handle;
 }
 
-static void link_page(struct pool_handle parent, size_t slot, pool_page_number page)
+static void link_page(struct pool_handle parent, size_t slot, pool_page_number page, bool locked)
 {
-    done(pool_link(pool, frames, sizeof frames, store, sizeof store, parent, slot, page));
-    printf("link page %d to slot %zu of page %d\n", page, slot, parent.page);
+    done(pool_link(pool, frames, sizeof frames, store, sizeof store, parent, slot, page, locked));
+    printf("link page %d to slot %zu of page %d%s\n", page, slot, parent.page, locked ? ", locked" : "");
+}
+
+static void unlink_slot(struct pool_handle parent, size_t slot)
+{
+    done(pool_unlink(pool, frames, sizeof frames, store, sizeof store, parent, slot));
+    printf("unlink slot %zu of page %d\n", slot, parent.page);
 }
 
 static struct pool_handle fix_slot(struct pool_handle parent, size_t slot)
@@ -71,16 +78,12 @@ static void unfix_page(struct pool_handle handle)
     printf("unfix page %d\n", handle.page);
 }
 
-static void write_text(struct pool_handle handle, const char *text)
-{
-    done(pool_write(pool, frames, sizeof frames, store, sizeof store, handle, 0, (const uint8_t *)text, strlen(text)));
-    printf("write to page %d: %s\n", handle.page, text);
-}
-
-/* Why an evict was refused, and what to do. */
+/* Why a write or an evict was refused, and what to do. */
 static const char *reason(uint8_t refusal)
 {
     switch (refusal) {
+    case POOL_IS_LOCKED:
+        return "The handle's page is locked. To free it, unfix, evict and unlink it, and link it again without the mark.";
     case POOL_IS_ROOT:
         return "Evict's page is the root. It never leaves its frame.";
     case POOL_IS_PINNED:
@@ -92,6 +95,18 @@ static const char *reason(uint8_t refusal)
     }
 }
 
+static void write_text(struct pool_handle handle, const char *text)
+{
+    struct pool_done answer = pool_write(pool, frames, sizeof frames, store, sizeof store, handle, 0, (const uint8_t *)text,
+                                         strlen(text));
+    if (answer.refusal != POOL_ACCEPTED) {
+        printf("write to page %d: refused by rule %d: %s\n", handle.page, answer.refusal, reason(answer.refusal));
+        return;
+    }
+    pool = answer.pool;
+    printf("write to page %d: %s\n", handle.page, text);
+}
+
 static void evict_page(pool_page_number page)
 {
     struct pool_done answer = pool_evict(pool, frames, sizeof frames, store, sizeof store, page);
@@ -101,6 +116,15 @@ static void evict_page(pool_page_number page)
     }
     pool = answer.pool;
     printf("evict page %d\n", page);
+}
+
+/* Locks a pinned page, or frees it: it is unfixed, evicted, unlinked, and linked again with the mark or without. */
+static void relink_page(struct pool_handle parent, size_t slot, struct pool_handle handle, bool locked)
+{
+    unfix_page(handle);
+    evict_page(handle.page);
+    unlink_slot(parent, slot);
+    link_page(parent, slot, handle.page, locked);
 }
 
 static void find_page(pool_page_number page)
@@ -139,7 +163,7 @@ static void print_word(struct pool_handle handle, size_t slot)
     struct pool_named named = pool_word(pool, frames, sizeof frames, store, sizeof store, handle, slot);
     accept(named.refusal);
     if (named.page != 0)
-        printf("word in slot %zu of page %d: page %d\n", slot, handle.page, named.page);
+        printf("word in slot %zu of page %d: page %d%s\n", slot, handle.page, named.page, named.locked ? ", locked" : "");
     else
         printf("word in slot %zu of page %d: nothing\n", slot, handle.page);
 }
@@ -167,10 +191,10 @@ static void print_hits(uint64_t most)
 int main(void)
 {
     struct pool_handle root = open_pool();
-    link_page(root, 3, 7);
+    link_page(root, 3, 7, false);
     struct pool_handle parent = fix_slot(root, 3);
     write_text(parent, "a parent");
-    link_page(parent, 0, 9);
+    link_page(parent, 0, 9, false);
     struct pool_handle child = fix_slot(parent, 0);
     write_text(child, "its child");
     print_word(root, 3);
@@ -190,18 +214,25 @@ int main(void)
 
     /* More pages than frames: the third of them has to be swept for. */
     for (pool_page_number page = 10; page < 13; page++) {
-        link_page(root, page, page);
+        link_page(root, page, page, false);
         unfix_page(fix_slot(root, page));
     }
     show_page(parent);
-    done(pool_unlink(pool, frames, sizeof frames, store, sizeof store, parent, 0));
-    printf("unlink slot 0 of page %d\n", parent.page);
+    unlink_slot(parent, 0);
+
+    /* A locked page is read as any other, and not changed until it is freed: not after a new open either. */
+    relink_page(root, 3, parent, true);
     settle();
 
     root = open_pool();
+    print_word(root, 3);
     parent = fix_slot(root, 3);
     show_page(parent);
     print_word(parent, 0);
+    write_text(parent, "a change");
+    relink_page(root, 3, parent, false);
+    parent = fix_slot(root, 3);
+    write_text(parent, "a change");
     print_hits(5);
     return 0;
 }

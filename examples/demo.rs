@@ -1,12 +1,22 @@
-//! A pool of 4 frames over a store of 16 empty pages: links and fixes a few pages, writes, reads back, settles, and reads the
-//! store again through a new pool. Then tells from its fixes what caches of a few sizes hit. Prints what it did, as demo.c does.
-use pagepool::{Found, Handle, PageNumber, PagePool, Refusal, Share, Tally, PAGE_SIZE};
+//! A pool of 4 frames over a store of 16 empty pages: links and fixes a few pages, writes, reads back, locks a page, settles, and
+//! reads the store again through a new pool, where the page is freed. Then tells from its fixes what caches of a few sizes hit.
+//! Prints what it did, as demo.c does.
+use pagepool::{Found, Handle, Named, PageNumber, PagePool, Refusal, Share, Tally, PAGE_SIZE};
 
 /// The pool with its buffers. Each method makes a call and prints it.
 struct Demo {
     pool: PagePool<[u8; 4 * PAGE_SIZE], [u8; 16 * PAGE_SIZE]>,
     /// The recording: the page of each fix.
     recorded: Vec<u16>,
+}
+
+/// What is said of a page that is locked.
+fn mark(locked: bool) -> &'static str {
+    if locked {
+        ", locked"
+    } else {
+        ""
+    }
 }
 
 /// A payload's text, up to the first byte of 0.
@@ -32,9 +42,19 @@ impl Demo {
         Ok(root)
     }
 
-    fn link(&mut self, parent: Handle, slot: usize, page: PageNumber) -> Result<(), Refusal> {
-        self.pool.link(parent, slot, page)?;
-        println!("link page {page} to slot {slot} of page {}", parent.page);
+    fn link(
+        &mut self,
+        parent: Handle,
+        slot: usize,
+        page: PageNumber,
+        locked: bool,
+    ) -> Result<(), Refusal> {
+        self.pool.link(parent, slot, page, locked)?;
+        println!(
+            "link page {page} to slot {slot} of page {}{}",
+            parent.page,
+            mark(locked)
+        );
         Ok(())
     }
 
@@ -62,10 +82,11 @@ impl Demo {
         Ok(())
     }
 
-    fn write(&mut self, handle: Handle, text: &str) -> Result<(), Refusal> {
-        self.pool.write(handle, 0, text.as_bytes())?;
-        println!("write to page {}: {text}", handle.page);
-        Ok(())
+    fn write(&mut self, handle: Handle, text: &str) {
+        match self.pool.write(handle, 0, text.as_bytes()) {
+            Ok(()) => println!("write to page {}: {text}", handle.page),
+            Err(refusal) => println!("write to page {}: {refusal}", handle.page),
+        }
     }
 
     fn evict(&mut self, page: PageNumber) {
@@ -73,6 +94,20 @@ impl Demo {
             Ok(()) => println!("evict page {page}"),
             Err(refusal) => println!("evict page {page}: {refusal}"),
         }
+    }
+
+    /// Locks a pinned page, or frees it: it is unfixed, evicted, unlinked, and linked again with the mark or without.
+    fn relink(
+        &mut self,
+        parent: Handle,
+        slot: usize,
+        handle: Handle,
+        locked: bool,
+    ) -> Result<(), Refusal> {
+        self.unfix(handle)?;
+        self.evict(handle.page);
+        self.unlink(parent, slot)?;
+        self.link(parent, slot, handle.page, locked)
     }
 
     fn find(&self, page: PageNumber) -> Result<(), Refusal> {
@@ -99,10 +134,11 @@ impl Demo {
     }
 
     fn word(&self, handle: Handle, slot: usize) -> Result<(), Refusal> {
-        match self.pool.word(handle, slot)? {
-            Some(page) => println!("word in slot {slot} of page {}: page {page}", handle.page),
-            None => println!("word in slot {slot} of page {}: nothing", handle.page),
-        }
+        let said = match self.pool.word(handle, slot)? {
+            Some(Named { page, locked }) => format!("page {page}{}", mark(locked)),
+            None => "nothing".to_string(),
+        };
+        println!("word in slot {slot} of page {}: {said}", handle.page);
         Ok(())
     }
 
@@ -130,12 +166,12 @@ fn main() -> Result<(), Refusal> {
         recorded: Vec::new(),
     };
     let root = demo.open()?;
-    demo.link(root, 3, PageNumber(7))?;
+    demo.link(root, 3, PageNumber(7), false)?;
     let parent = demo.fix(root, 3)?;
-    demo.write(parent, "a parent")?;
-    demo.link(parent, 0, PageNumber(9))?;
+    demo.write(parent, "a parent");
+    demo.link(parent, 0, PageNumber(9), false)?;
     let child = demo.fix(parent, 0)?;
-    demo.write(child, "its child")?;
+    demo.write(child, "its child");
     demo.word(root, 3)?;
     demo.find(PageNumber(9))?;
 
@@ -153,17 +189,25 @@ fn main() -> Result<(), Refusal> {
 
     // More pages than frames: the third of them has to be swept for.
     for page in 10..13 {
-        demo.link(root, page.into(), PageNumber(page))?;
+        demo.link(root, page.into(), PageNumber(page), false)?;
         let handle = demo.fix(root, page.into())?;
         demo.unfix(handle)?;
     }
     demo.show(parent)?;
     demo.unlink(parent, 0)?;
+
+    // A locked page is read as any other, and not changed until it is freed: not after a new open either.
+    demo.relink(root, 3, parent, true)?;
     demo.settle()?;
 
     let root = demo.open()?;
+    demo.word(root, 3)?;
     let parent = demo.fix(root, 3)?;
     demo.show(parent)?;
     demo.word(parent, 0)?;
+    demo.write(parent, "a change");
+    demo.relink(root, 3, parent, false)?;
+    let parent = demo.fix(root, 3)?;
+    demo.write(parent, "a change");
     demo.hits(5)
 }

@@ -25,6 +25,15 @@
  *     uint8_t copy[POOL_PAYLOAD_SIZE];
  *     memcpy(copy, pool_payload(place, frames, store), sizeof copy);
  *
+ * Locked pages. A word can mark the page that it names as locked; link puts the mark there, and word tells it. Write, link and
+ * unlink in a locked page are refused by 26, so that its payload and its words stay as they are while the marked word stands: it
+ * is never dirty, and the store holds its bytes. It is fixed, shown, loaded and evicted as any other, and so are the pages that
+ * it names, which are locked only where their own words are marked. The root is never locked, since no word names it. Loading,
+ * evicting, settling and sweeps keep each mark. To lock a page that is linked without the mark, evict it if it is resident (as
+ * evict asks, without pins and with the pages that it names out of their frames), unlink the word that names it, and link it again
+ * with the mark; to free it, the same without. Both change the page that has the word, which mustn't be locked itself: else free
+ * that one first. The mark gets to the store with that page: settle before open, as after any change.
+ *
  * Arguments. A call takes any lengths, records, handle, slot, offset, page number and tally, and refuses what it can't use. Of
  * the pointers it asks what C asks: each has as many bytes behind it as its size says, or elements as its length says, and a
  * buffer that is not const overlaps no other. NULL with a length of 0 is fine throughout: frames, store, counters, hits and
@@ -47,8 +56,8 @@ extern "C" {
  * Raised by each new call and by each change of a signature, a struct or an answer: MINOR where programs that were written and
  * compiled for the version before go on working with the new archive, otherwise MAJOR.
  */
-#define PAGEPOOL_VERSION_MAJOR 3
-#define PAGEPOOL_VERSION_MINOR 2
+#define PAGEPOOL_VERSION_MAJOR 4
+#define PAGEPOOL_VERSION_MINOR 0
 #define PAGEPOOL_VERSION (1000 * PAGEPOOL_VERSION_MAJOR + PAGEPOOL_VERSION_MINOR)
 
 /* ---- figures */
@@ -58,6 +67,12 @@ extern "C" {
 #define POOL_SLOTS 16
 #define POOL_PAYLOAD_START 64
 #define POOL_PAYLOAD_SIZE 192
+/*
+ * A word in the store is a page number, little-endian, or 0 for none. Bit 30 of it marks the page that it names as locked, and is
+ * no part of the number. On a word that is otherwise 0 it is refused: by 16 in open, by 14 where the page is to be loaded, and by 2
+ * in a frame that holds a page.
+ */
+#define POOL_LOCK_BIT 0x40000000u
 /* N is at most this, and at least 1. */
 #define POOL_MOST_PAGES 4096
 #define POOL_LEAST_FRAMES 2
@@ -70,7 +85,7 @@ extern "C" {
 #define POOL_MOST_REFERENCES 4096
 #define POOL_MOST_RECORDINGS 65535
 
-/* ---- refusals, in checking order: 9 is tested before 8, and 20 to 22 after 11 */
+/* ---- refusals, in checking order: 26 is tested after 5, 9 before 8, and 20 to 22 after 11 */
 
 enum pool_refusal {
     POOL_ACCEPTED = 0,
@@ -84,6 +99,8 @@ enum pool_refusal {
     POOL_BAD_SLOT = 4,
     /* The offset is above 192, or the length above 192 - offset. */
     POOL_BAD_RANGE = 5,
+    /* The handle's page is locked. To free it, unfix, evict and unlink it, and link it again without the mark. */
+    POOL_IS_LOCKED = 26,
     /* The page number isn't below N, is 0 in link, or is above 4,095 in a recording. */
     POOL_BAD_PAGE = 6,
     /* Fix or unlink meets a word of 0. */
@@ -108,7 +125,7 @@ enum pool_refusal {
     POOL_BAD_STORED_PAGE = 14,
     /* No frame is empty, and a sweep could take none. */
     POOL_NO_FRAME = 15,
-    /* Open's store isn't sound: a word is no page number, or a number stands in two words. */
+    /* Open's store isn't sound: a word names no page below N, or a number stands in two words. */
     POOL_UNSOUND_STORE = 16
 };
 
@@ -185,9 +202,10 @@ struct pool_fixed {
     uint16_t looks;
 };
 
-/* The page number in a slot, 0 for none. */
+/* The page number in a slot, 0 for none, and whether the word there marks that page as locked. */
 struct pool_named {
     uint8_t refusal;
+    bool locked;
     pool_page_number page;
 };
 
@@ -220,7 +238,7 @@ struct pool_drawn {
      * By byte: 0 the call, 1 the frame, 2 and 3 the page (little-endian), 4 the slot, 5 the offset, 6 the length, 7 to 15 the
      * data. The calls are 1 root, 2 fix, 3 unfix, 4 write, 5 link, 6 unlink, 7 evict, 8 settle, 9 find. Frame and page are a
      * handle, but that evict and find go by the page alone, and that link's handle has its page in 7 and 8 (little-endian):
-     * 2 and 3 are the page to be linked.
+     * 2 and 3 are the page to be linked. A record has no mark: its link is made with `locked` false.
      */
     uint8_t entry[16];
     struct pool_generator generator;
@@ -286,24 +304,31 @@ struct pool_place pool_show(struct pool pool, const uint8_t *frames, size_t fram
 struct pool_place pool_peek(struct pool pool, const uint8_t *frames, size_t frames_size, const uint8_t *store,
                             size_t store_size, pool_page_number page);
 
-/* Gives the page number in a slot of the handle's page, 0 for none. Refused: 1, 2, 3, 4. */
+/* Gives the page number in a slot of the handle's page, 0 for none, and whether that page is locked. Refused: 1, 2, 3, 4. */
 struct pool_named pool_word(struct pool pool, const uint8_t *frames, size_t frames_size, const uint8_t *store,
                             size_t store_size, struct pool_handle handle, size_t slot);
 
-/* Puts bytes at an offset of the payload of the handle's page, which is then dirty unless there are none. Refused: 1, 2, 3, 5. */
+/*
+ * Puts bytes at an offset of the payload of the handle's page, which is then dirty unless there are none. In a locked page a write
+ * of no bytes is refused too. Refused: 1, 2, 3, 5, 26.
+ */
 struct pool_done pool_write(struct pool pool, uint8_t *frames, size_t frames_size, const uint8_t *store, size_t store_size,
                             struct pool_handle handle, size_t offset, const uint8_t *bytes, size_t bytes_size);
 
 /*
- * Stores a page number in an empty slot of the handle's page, which is then dirty. Refused: 1, 2, 3, 4, 6, 9, 8.
+ * Stores a page number in an empty slot of the handle's page, which is then dirty; with `locked`, the word marks the page of that
+ * number as locked. Refused: 1, 2, 3, 4, 26, 6, 9, 8.
  *
  * A page that is named already is refused by 9 whether the slot is taken or not, also where that very slot names it. So after 8
  * the page can go into an empty slot, and after 9 into none until the word that names it is unlinked.
+ *
+ * A linked page gets the mark, or loses it, by three calls: evict it if it is resident, unlink it, and link it anew. 26 is about
+ * the page that it is linked in, whether the mark is put or not.
  */
 struct pool_done pool_link(struct pool pool, uint8_t *frames, size_t frames_size, const uint8_t *store, size_t store_size,
-                           struct pool_handle handle, size_t slot, pool_page_number page);
+                           struct pool_handle handle, size_t slot, pool_page_number page, bool locked);
 
-/* Clears a slot of the handle's page, which is then dirty. Refused: 1, 2, 3, 4, 7, 10. */
+/* Clears a slot of the handle's page, which is then dirty. A mark there goes with it. Refused: 1, 2, 3, 4, 26, 7, 10. */
 struct pool_done pool_unlink(struct pool pool, uint8_t *frames, size_t frames_size, const uint8_t *store, size_t store_size,
                              struct pool_handle handle, size_t slot);
 
@@ -450,6 +475,7 @@ POOL_OFFSET(pool_fixed, looks, 652);
 
 POOL_SIZE(pool_named, 4);
 POOL_OFFSET(pool_named, refusal, 0);
+POOL_OFFSET(pool_named, locked, 1);
 POOL_OFFSET(pool_named, page, 2);
 
 POOL_SIZE(pool_found, 6);

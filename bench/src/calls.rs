@@ -26,6 +26,11 @@ fn refuse_link<T>(answer: Result<T, Refusal>) {
     assert!(matches!(black_box(answer), Err(Refusal::FullSlot | Refusal::AlreadyNamed)));
 }
 
+/// A refusal of an edit, since its page is locked.
+fn refuse_edit<T>(answer: Result<T, Refusal>) {
+    assert!(matches!(black_box(answer), Err(Refusal::IsLocked)));
+}
+
 /// An evict of a page that names a resident one, as the package makes it; but an archive from before request A.4 can be timed
 /// too, whose number is no rule of the package.
 fn evict_refused(state: &mut State, page: PageNumber) {
@@ -68,10 +73,10 @@ macro_rules! repeated {
     };
 }
 
-/// The variants of a link that is refused. The records go in and out.
-macro_rules! refused_link {
-    ($state:expr, $call:ident($($argument:expr),*)) => {
-        ($state, variants!(refuse_link, boundary::in_and_out, |_: &mut State| (), $call($($argument),*)))
+/// The variants of a call that is refused in one way. The records go in and out.
+macro_rules! refused {
+    ($refuse:path, $state:expr, $call:ident($($argument:expr),*)) => {
+        ($state, variants!($refuse, boundary::in_and_out, |_: &mut State| (), $call($($argument),*)))
     };
 }
 
@@ -202,26 +207,51 @@ pub fn write(state: &State) -> (State, Variants) {
     repeated!(state.clone(), boundary::in_and_out, write(page, 0, &[7; 8]))
 }
 
+/// A write to a locked page, refused. In `Marked` alone.
+pub fn write_locked(state: &State) -> (State, Variants) {
+    let page = pinned(state);
+    refused!(refuse_edit, state.clone(), write(page, 0, &[7; 8]))
+}
+
+/// An archive from before request A.8 can be timed too: the mark is the last argument, and it doesn't look for it.
 pub fn link(state: &State) -> (State, Variants) {
     let (page, named) = (pinned(state), unnamed(state));
-    undone!(state.clone(), link(page, EMPTY_SLOT, named))
+    undone!(state.clone(), link(page, EMPTY_SLOT, named, false))
+}
+
+/// A link in the root, with the mark. In `Marked` alone, where the page in frame 1 is locked.
+pub fn link_marked(state: &State) -> (State, Variants) {
+    let named = unnamed(state);
+    undone!(state.clone(), link(ROOT, EMPTY_SLOT, named, true))
+}
+
+/// A link in a locked page, refused before the pass over the store. In `Marked` alone.
+pub fn link_locked(state: &State) -> (State, Variants) {
+    let (page, named) = (pinned(state), unnamed(state));
+    refused!(refuse_edit, state.clone(), link(page, EMPTY_SLOT, named, false))
 }
 
 /// A page that no word names, into a slot that is taken: rule 9's pass goes over the whole store before 8 is answered.
 pub fn link_taken(state: &State) -> (State, Variants) {
     let page = unnamed(state);
-    refused_link!(state.clone(), link(ROOT, 0, page))
+    refused!(refuse_link, state.clone(), link(ROOT, 0, page, false))
 }
 
 /// A page that is named, into a slot that another page has: the pass ends at the stored page that names it.
 pub fn link_named(state: &State) -> (State, Variants) {
     let page = last_named(state);
-    refused_link!(state.clone(), link(ROOT, 0, page))
+    refused!(refuse_link, state.clone(), link(ROOT, 0, page, false))
 }
 
 pub fn unlink(state: &State) -> (State, Variants) {
     let (page, slot) = absent(state);
     undone!(state.clone(), unlink(page, slot))
+}
+
+/// An unlink in a locked page, refused. In `Marked` alone.
+pub fn unlink_locked(state: &State) -> (State, Variants) {
+    let (page, slot) = absent(state);
+    refused!(refuse_edit, state.clone(), unlink(page, slot))
 }
 
 pub fn evict_dirty(state: &State) -> (State, Variants) {

@@ -62,10 +62,20 @@ fn read(line: &str) -> io::Result<Round> {
     Ok(Round { row, library: time()?, baseline: time()? })
 }
 
+/// A row's rounds of a program, none where it has no such row.
+fn of_row<'a>(rounds: &'a [Vec<Round>], row: &str) -> Vec<&'a Round> {
+    rounds.iter().flatten().filter(|round| round.row == row).collect()
+}
+
+/// The rows that both programs have, and how many one of them has alone.
 fn table(rounds: &[Vec<Vec<Round>>; 2]) -> String {
-    let (mut text, mut slower, rows) = (HEAD.to_string(), 0, rounds[0][0].len());
-    for row in 0..rows {
-        let [a, b] = [0, 1].map(|side| rounds[side].iter().map(|round| &round[row]).collect::<Vec<_>>());
+    let (mut text, mut slower, mut rows) = (HEAD.to_string(), 0, 0);
+    for Round { row, .. } in &rounds[0][0] {
+        let [a, b] = [0, 1].map(|side| of_row(&rounds[side], row));
+        if b.is_empty() {
+            continue;
+        }
+        rows += 1;
         let baseline = least(a.iter().chain(&b).map(|round| round.baseline));
         let [least_a, least_b] = [&a, &b].map(|side| least(side.iter().map(|round| round.library)));
         let (by_least, by_middle) = (least_b / least_a, middle_ratio(&b) / middle_ratio(&a));
@@ -79,7 +89,11 @@ fn table(rounds: &[Vec<Vec<Round>>; 2]) -> String {
             if is_slower { ", slower" } else { "" }
         );
     }
-    text + &format!("\n{slower} of {rows} rows are slower in B by more than 3 %.\n")
+    text += &format!("\n{slower} of {rows} rows are slower in B by more than 3 %.\n");
+    match rounds.iter().map(|side| side[0].len() - rows).sum() {
+        0usize => text,
+        alone => text + &format!("{alone} rows are left out: one of the two can't be timed on them.\n"),
+    }
 }
 
 fn least(times: impl Iterator<Item = f64>) -> f64 {

@@ -24,6 +24,7 @@ fn colour(shape: Shape) -> &'static str {
         Shape::Few => "#8e44ad",
         Shape::Chain => "#c2255c",
         Shape::Turned => "#495057",
+        Shape::Marked => "#0c8599",
     }
 }
 

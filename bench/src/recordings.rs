@@ -169,7 +169,9 @@ fn fixed(state: &mut State, call: &Call) -> Option<PageNumber> {
         Call::Root => state.root().map(|_| ()),
         Call::Unfix { handle } => state.unfix(held(handle)),
         Call::Write { offset, data, handle } => state.write(held(handle), usize::from(*offset), data),
-        Call::Link { page, slot, handle } => state.link(held(handle), usize::from(*slot), PageNumber(*page)),
+        Call::Link { page, slot, handle } => {
+            state.link(held(handle), usize::from(*slot), PageNumber(*page), false)
+        }
         Call::Unlink { slot, handle } => state.unlink(held(handle), usize::from(*slot)),
         Call::Evict { page } => state.evict(PageNumber(*page)),
         _ => state.settle(),

@@ -74,10 +74,11 @@ pub fn text(figures: &[Figure], depths: &[Depth]) -> String {
 }
 
 /// What one thing more costs: between two sizes of a call on a shape.
-const SLOPES: [(&str, &str, Shape, usize, usize); 5] = [
+const SLOPES: [(&str, &str, Shape, usize, usize); 6] = [
     ("an empty frame", "root", Shape::Opened, 4, 64),
     ("a frame with a page that names none", "root", Shape::Leaves, 4, 16),
     ("a frame with a page of 15 words", "root", Shape::Full, 4, 16),
+    ("a frame with a page of 15 marked words", "root", Shape::Marked, 4, 16),
     ("a stored page in link", "link", Shape::Full, 256, 4096),
     ("a stored page of one word in open", "open", Shape::Chain, 256, 4096),
 ];

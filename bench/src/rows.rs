@@ -2,11 +2,11 @@
 use crate::asked::Asked;
 use crate::calls::{
     draw, evict_dirty, evict_parent, find_absent, find_first, find_last, find_middle, fix_clean, fix_dirty,
-    fix_half_pinned, fix_hit, fix_one_open, link, link_named, link_taken, open, peek, root, settle_dirty,
-    show, unfix, unlink, word, write, Variants,
+    fix_half_pinned, fix_hit, fix_one_open, link, link_locked, link_marked, link_named, link_taken, open,
+    peek, root, settle_dirty, show, unfix, unlink, unlink_locked, word, write, write_locked, Variants,
 };
 use crate::timing::{deeper, Race};
-use pool_bench::shapes::{Shape, State};
+use pool_bench::shapes::{has_marks, Shape, State};
 
 /// A measured row.
 pub struct Figure {
@@ -59,7 +59,7 @@ const WITH_FULL_FRAMES: &[Call] = &[
     ("find, last frame", find_last),
     ("peek", peek),
     ("show", show),
-    ("word", word),
+    (WORD, word),
     ("write, 8 bytes", write),
     ("unlink", unlink),
     ("evict, dirty", evict_dirty),
@@ -73,6 +73,21 @@ const WITH_OTHER_PINS: &[Call] = &[
     ("evict, parent", evict_parent),
 ];
 
+/// With every word marked: the rows of `WITH_FULL_FRAMES` that read or carry marks, or whose pages pass rule 2 with them, and edits
+/// of a locked page.
+const WITH_MARKS: &[Call] = &[
+    ("fix, hit", fix_hit),
+    ("fix, sweep, clean victim", fix_clean),
+    ("fix, sweep, dirty victim", fix_dirty),
+    ("root", root),
+    (WORD, word),
+    ("evict, dirty", evict_dirty),
+    ("settle, all dirty", settle_dirty),
+    ("write, locked page", write_locked),
+    ("link, locked page", link_locked),
+    ("unlink, locked page", unlink_locked),
+];
+
 const ON_THE_ROOT: &[Call] = &[
     ("root", root),
     ("fix, empty frame", fix_clean),
@@ -81,7 +96,7 @@ const ON_THE_ROOT: &[Call] = &[
     ("find, absent", find_absent),
     ("peek", peek),
     ("show", show),
-    ("word", word),
+    (WORD, word),
     ("write, 8 bytes", write),
     ("link", link),
     ("unlink", unlink),
@@ -95,16 +110,26 @@ const OF_EVERY_USER: &[Call] = &[
     ("unfix", unfix),
     ("find, last frame", find_last),
     ("show", show),
-    ("word", word),
+    (WORD, word),
     ("write, 8 bytes", write),
     ("draw", draw),
 ];
+
+/// A call whose answer tells a mark.
+const WORD: &str = "word";
 
 /// A call whose pass over the store ends before the store does.
 const NAMED_PAGE: &str = "link, named page";
 
 const OVER_THE_STORE: &[Call] =
     &[("link", link), ("link, slot taken", link_taken), (NAMED_PAGE, link_named), ("open", open)];
+
+const OVER_MARKS: &[Call] = &[
+    ("link, with the mark", link_marked),
+    ("link, slot taken", link_taken),
+    (NAMED_PAGE, link_named),
+    ("open", open),
+];
 
 const fn by_frames(shape: Shape, calls: &'static [Call]) -> Block {
     Block { shape, grows: Grows::Frames, sizes: BY_FRAMES, calls }
@@ -114,7 +139,7 @@ const fn by_pages(shape: Shape, calls: &'static [Call]) -> Block {
     Block { shape, grows: Grows::Pages, sizes: BY_PAGES, calls }
 }
 
-static BLOCKS: [Block; 8] = [
+static BLOCKS: [Block; 10] = [
     by_frames(Shape::Full, WITH_FULL_FRAMES),
     by_frames(Shape::Full, WITH_OTHER_PINS),
     by_pages(Shape::Full, OVER_THE_STORE),
@@ -123,6 +148,8 @@ static BLOCKS: [Block; 8] = [
     Block { shape: Shape::Few, grows: Grows::Frames, sizes: SMALL, calls: OF_EVERY_USER },
     by_pages(Shape::Chain, &[("open", open)]),
     by_frames(Shape::Turned, &[("root", root)]),
+    by_frames(Shape::Marked, WITH_MARKS),
+    by_pages(Shape::Marked, OVER_MARKS),
 ];
 
 impl Figure {
@@ -163,9 +190,11 @@ pub fn labels() -> impl Iterator<Item = &'static str> {
     BLOCKS.iter().flat_map(|block| block.calls).map(|(label, _)| *label)
 }
 
-/// The rows that are asked for, timed in so many passes.
+/// The rows that are asked for and that the library can be timed on, in so many passes.
 pub fn measured(asked: &Asked, passes: u32) -> Vec<Figure> {
-    let mut rows: Vec<Row> = BLOCKS.iter().flat_map(|block| block.rows(asked)).collect();
+    let has_marks = has_marks();
+    let timed = |block: &Block, label: &str| asked.has(label) && (has_marks || !block.needs_marks(label));
+    let mut rows: Vec<Row> = BLOCKS.iter().flat_map(|block| block.rows(timed)).collect();
     for pass in 0..passes {
         deeper(pass, &mut || rows.iter_mut().for_each(|row| row.race.pass()));
     }
@@ -182,9 +211,15 @@ struct Row {
 }
 
 impl Block {
-    /// The rows that are asked for: the sizes of a call one after the other.
-    fn rows(&'static self, asked: &Asked) -> Vec<Row> {
-        let calls = self.calls.iter().filter(|(label, _)| asked.has(label));
+    /// Whether a row is only for a library that knows marks: its store has some, or its answer tells them. In word's struct from
+    /// before request A.8 the mark is padding, and no bool may be read there.
+    fn needs_marks(&self, label: &str) -> bool {
+        self.shape == Shape::Marked || label == WORD
+    }
+
+    /// The rows that pass a test: the sizes of a call one after the other.
+    fn rows(&'static self, test: impl Fn(&Block, &str) -> bool) -> Vec<Row> {
+        let calls = self.calls.iter().filter(|(label, _)| test(self, label));
         let sized =
             calls.flat_map(|call| self.sizes.iter().map(move |(count, pages)| (call, *count, *pages)));
         sized

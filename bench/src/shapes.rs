@@ -1,5 +1,5 @@
 //! The shapes of state that calls are timed on: how the store's pages name each other, and which of them are resident.
-use pagepool::{FrameIndex, Handle, PageNumber, PagePool, PAGE_SIZE, PAYLOAD_START, SLOTS};
+use pagepool::{FrameIndex, Handle, PageNumber, PagePool, LOCK_BIT, PAGE_SIZE, PAYLOAD_START, SLOTS};
 
 /// The records, the frames and the store of a host.
 pub type State = PagePool<Vec<u8>, Vec<u8>>;
@@ -18,6 +18,8 @@ pub enum Shape {
     Chain,
     /// Pages as in `Chain`, in frames from the last one down, so that each parent but the root lies after its page.
     Turned,
+    /// Pages as in `Full`, each word marked, so that every page but the root is locked. The frames are full.
+    Marked,
 }
 
 pub const ROOT: Handle = Handle { frame: FrameIndex(0), page: PageNumber(0) };
@@ -29,8 +31,8 @@ pub const EMPTY_SLOT: usize = 15;
 const LEFT_OUT: usize = 16;
 
 impl Shape {
-    pub const ALL: [Shape; 6] =
-        [Shape::Full, Shape::Leaves, Shape::Opened, Shape::Few, Shape::Chain, Shape::Turned];
+    pub const ALL: [Shape; 7] =
+        [Shape::Full, Shape::Leaves, Shape::Opened, Shape::Few, Shape::Chain, Shape::Turned, Shape::Marked];
 
     pub fn name(self) -> &'static str {
         match self {
@@ -40,6 +42,7 @@ impl Shape {
             Shape::Few => "few pages",
             Shape::Chain => "chain",
             Shape::Turned => "turned chain",
+            Shape::Marked => "marked",
         }
     }
 
@@ -49,7 +52,7 @@ impl Shape {
             Shape::Leaves if page <= SLOTS => (0, page - 1),
             Shape::Leaves => ((page - SLOTS - 1) / 15 + 1, (page - SLOTS - 1) % 15),
             Shape::Chain | Shape::Turned => (page - 1, 0),
-            Shape::Full | Shape::Opened | Shape::Few => ((page - 1) / 15, (page - 1) % 15),
+            Shape::Full | Shape::Opened | Shape::Few | Shape::Marked => ((page - 1) / 15, (page - 1) % 15),
         }
     }
 
@@ -57,6 +60,11 @@ impl Shape {
     fn named(self, count: usize, pages: usize) -> impl Iterator<Item = usize> {
         let end = if self == Shape::Leaves { count.max(SLOTS) + 1 } else { pages };
         1..end.min(pages - 1)
+    }
+
+    /// The word that names a page.
+    fn word(self, page: usize) -> u32 {
+        page as u32 | if self == Shape::Marked { LOCK_BIT } else { 0 }
     }
 
     pub fn store(self, count: usize, pages: usize) -> Vec<u8> {
@@ -67,7 +75,7 @@ impl Shape {
         for page in self.named(count, pages) {
             let (parent, slot) = self.parent(page);
             let word = &mut store[PAGE_SIZE * parent + 4 * slot..][..4];
-            word.copy_from_slice(&(page as u32).to_le_bytes());
+            word.copy_from_slice(&self.word(page).to_le_bytes());
         }
         store
     }
@@ -94,6 +102,11 @@ impl Shape {
     fn in_chain(self) -> bool {
         matches!(self, Shape::Chain | Shape::Turned)
     }
+}
+
+/// Whether the linked library knows marks. An archive from before request A.8 opens no store with them.
+pub fn has_marks() -> bool {
+    State::new(vec![0; PAGE_SIZE * 2], Shape::Marked.store(2, 4)).open().is_ok()
 }
 
 /// A pool just opened, nothing pinned.

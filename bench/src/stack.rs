@@ -48,7 +48,7 @@ const CALLS: [(&str, Call<State>); 14] = [
     call!(peek(LAST_PAGE)),
     call!(word(ROOT, 0)),
     call!(write(CHILD, 0, &[7; 8])),
-    call!(link(CHILD, EMPTY_SLOT, LAST_PAGE)),
+    call!(link(CHILD, EMPTY_SLOT, LAST_PAGE, false)),
     call!(unlink(CHILD, 0)),
     call!(evict(LAST_RESIDENT)),
     call!(settle()),

@@ -1,12 +1,19 @@
 //! The baseline answers and leaves exactly what the linked library does, on random calls, refused ones too.
 use pagepool::{
-    FrameIndex, Generator, Handle, PageNumber, Pool, Refusal, MAX_USAGE, PAGE_SIZE, PAYLOAD_SIZE, SLOTS,
+    FrameIndex, Generator, Handle, PageNumber, Pool, Refusal, LOCK_BIT, MAX_USAGE, PAGE_SIZE, PAYLOAD_SIZE,
+    SLOTS,
 };
 use pool_bench::baseline;
 use pool_bench::shapes::{opened, Shape, State};
 use random::Random;
 use std::collections::BTreeMap;
 use std::fmt::Debug;
+
+/// Shapes of every store: each other has the store of one of these.
+const STORES: [Shape; 4] = [Shape::Full, Shape::Leaves, Shape::Chain, Shape::Marked];
+
+/// A call's name and what both answered, 0 for accepted.
+type Pair = (&'static str, u8);
 
 /// Makes a call in both, each on its own state, and compares the answers.
 macro_rules! same {
@@ -26,10 +33,14 @@ macro_rules! same_part {
     }};
 }
 
-/// The refusal that both gave.
-fn agreed<T: PartialEq + Debug>(name: &str, library: Result<T, Refusal>, baseline: Result<T, Refusal>) -> u8 {
+/// What both answered, which is the same.
+fn agreed<T: PartialEq + Debug>(
+    name: &'static str,
+    library: Result<T, Refusal>,
+    baseline: Result<T, Refusal>,
+) -> Pair {
     assert_eq!(library, baseline, "{name}");
-    library.err().map_or(0, Refusal::number)
+    (name, library.err().map_or(0, Refusal::number))
 }
 
 /// Whether a part lies in the frames, and where.
@@ -41,8 +52,8 @@ fn place(part: &[u8], state: &State) -> (bool, usize, usize) {
 
 struct Trial {
     random: Random,
-    /// How often each refusal was given, 0 for accepted.
-    given: BTreeMap<u8, usize>,
+    /// How often each call was answered how.
+    given: BTreeMap<Pair, usize>,
     /// By number of pages: how many calls warmed so many.
     warmed: BTreeMap<usize, usize>,
     /// How many finds ended after so many looks, at a frame or not.
@@ -80,10 +91,15 @@ impl Trial {
 
     fn call(&mut self, a: &mut State, b: &mut State) {
         let before = a.records;
-        let refusal = self.any_call(a, b);
-        assert!(a == b, "states differ after refusal {refusal}");
-        *self.given.entry(refusal).or_default() += 1;
+        let (name, number) = self.any_call(a, b);
+        assert!(a == b, "states differ after {name}, answered {number}");
+        *self.given.entry((name, number)).or_default() += 1;
         *self.warmed.entry(warmed(&before, &a.records)).or_default() += 1;
+    }
+
+    /// How often a number was given, by whichever call.
+    fn given(&self, number: u8) -> usize {
+        self.given.iter().filter(|((_, given), _)| *given == number).map(|(_, times)| times).sum()
     }
 
     /// How many calls warmed so many pages or more.
@@ -91,7 +107,7 @@ impl Trial {
         self.warmed.range(pages..).map(|(_, calls)| calls).sum()
     }
 
-    fn any_call(&mut self, a: &mut State, b: &mut State) -> u8 {
+    fn any_call(&mut self, a: &mut State, b: &mut State) -> Pair {
         let (handle, slot, page) = (self.handle(a), self.slot(), self.page(a));
         match self.random.below(42) {
             0 => self.open(a, b),
@@ -102,7 +118,10 @@ impl Trial {
             24 => same_part!(a, b, peek(page)),
             25 | 26 => same!(a, b, word(handle, slot)),
             27..=29 => self.write(a, b, handle),
-            30 | 31 => same!(a, b, link(handle, slot, page)),
+            30 | 31 => {
+                let locked = self.random.percent(30);
+                same!(a, b, link(handle, slot, page, locked))
+            }
             32 | 33 => same!(a, b, unlink(handle, slot)),
             34..=36 => same!(a, b, evict(page)),
             37 => same!(a, b, settle()),
@@ -111,7 +130,7 @@ impl Trial {
         }
     }
 
-    fn find(&mut self, a: &mut State, b: &mut State, page: PageNumber) -> u8 {
+    fn find(&mut self, a: &mut State, b: &mut State, page: PageNumber) -> Pair {
         let library = a.find(page);
         if let Ok(found) = library {
             *self.looked.entry((found.frame.is_some(), found.looks)).or_default() += 1;
@@ -120,7 +139,7 @@ impl Trial {
     }
 
     /// A draw by a generator that goes along.
-    fn draw(&mut self, a: &mut State, b: &mut State) -> u8 {
+    fn draw(&mut self, a: &mut State, b: &mut State) -> Pair {
         let mut generator = self.generator;
         let library = a.draw(&mut self.generator);
         let baseline = baseline::draw(&b.records, &b.frames, &b.store, &mut generator);
@@ -132,17 +151,17 @@ impl Trial {
     }
 
     /// An open; accepted, it is undone nine times in ten.
-    fn open(&mut self, a: &mut State, b: &mut State) -> u8 {
+    fn open(&mut self, a: &mut State, b: &mut State) -> Pair {
         let before = a.clone();
-        let refusal = same!(a, b, open());
-        if refusal == 0 && !self.random.percent(10) {
+        let answer = same!(a, b, open());
+        if answer.1 == 0 && !self.random.percent(10) {
             assert!(a == b, "states differ after open");
             (*a, *b) = (before.clone(), before);
         }
-        refusal
+        answer
     }
 
-    fn write(&mut self, a: &mut State, b: &mut State, handle: Handle) -> u8 {
+    fn write(&mut self, a: &mut State, b: &mut State, handle: Handle) -> Pair {
         let offset = self.random.below(PAYLOAD_SIZE + 8);
         let bytes = vec![self.random.below(256) as u8; self.random.below(20)];
         same!(a, b, write(handle, offset, &bytes))
@@ -156,6 +175,26 @@ impl Trial {
             record.usage = self.random.below(usize::from(MAX_USAGE) + 1) as u8;
         }
         state.records.hand = FrameIndex(self.random.below(count) as u8);
+        state
+    }
+
+    /// Turns the marks of so many in a hundred words that name something, in the frames and in the store.
+    fn mark(&mut self, state: &mut State, turned: usize) {
+        for buffer in [&mut state.frames, &mut state.store] {
+            for page in buffer.chunks_exact_mut(PAGE_SIZE) {
+                for word in page[..4 * SLOTS].chunks_exact_mut(4) {
+                    if *word != [0; 4] && self.random.percent(turned) {
+                        word[3] ^= (LOCK_BIT >> 24) as u8;
+                    }
+                }
+            }
+        }
+    }
+
+    /// A state with marks.
+    fn marked(&mut self, mut state: State) -> State {
+        let turned = [0, 10, 40][self.random.below(3)];
+        self.mark(&mut state, turned);
         state
     }
 
@@ -208,7 +247,8 @@ impl Trial {
     /// Alters a field, a word, a length or who is whose parent.
     fn damage(&mut self, state: &mut State) {
         let (frames, pages) = (state.frames.len() / PAGE_SIZE, state.store.len() / PAGE_SIZE);
-        match self.random.below(9) {
+        match self.random.below(10) {
+            9 => self.mark(state, 5),
             0 => self.damage_sizes(state),
             1..=3 => self.damage_record(state),
             4 => self.damage_parents(state),
@@ -267,6 +307,7 @@ impl Trial {
             1 => self.random.below(usize::from(state.records.pages) + 2) as u32,
             _ => 0,
         };
+        let word = word | if self.random.percent(20) { LOCK_BIT } else { 0 };
         let at = PAGE_SIZE * self.random.below(pages) + 4 * self.random.below(SLOTS);
         buffer(state)[at..at + 4].copy_from_slice(&word.to_le_bytes());
     }
@@ -288,13 +329,18 @@ fn put_word(state: &mut State, frame: usize, slot: usize, word: u32) {
 fn small_pools() {
     let mut trial = Trial::new(1);
     for turn in 0..60 {
-        let (count, pages) = (2 + turn % 7, 2 + 15 * (turn % 4));
-        trial.run(opened(count, Shape::ALL[turn % 5].store(count, pages)), 1000);
+        let (count, pages) = (2 + turn % 7, 2 + 15 * (turn / STORES.len() % 4));
+        let state = trial.marked(opened(count, STORES[turn % STORES.len()].store(count, pages)));
+        trial.run(state, 1000);
     }
     println!("{:?}, drawn {:?}", trial.given, trial.drawn);
     let refusals = Refusal::ALL.iter().map(|refusal| refusal.number());
-    let never: Vec<u8> = refusals.filter(|number| !trial.given.contains_key(number)).collect();
+    let never: Vec<u8> = refusals.filter(|number| trial.given(*number) == 0).collect();
     assert!(never.is_empty(), "refusals never given: {never:?}");
+    let edits = ["write", "link", "unlink"].map(|edit| (edit, Refusal::IsLocked.number()));
+    let seldom: Vec<Pair> =
+        edits.into_iter().filter(|edit| trial.given.get(edit).is_none_or(|times| *times < 20)).collect();
+    assert!(seldom.is_empty(), "edits of a locked page seldom refused: {seldom:?}");
     let records = (1..=9).map(|call| (call, false)).chain([(5, true)]);
     let seldom: Vec<_> =
         records.filter(|kind| trial.drawn.get(kind).is_none_or(|times| *times < 20)).collect();
@@ -304,9 +350,10 @@ fn small_pools() {
 #[test]
 fn large_pools() {
     let mut trial = Trial::new(2);
-    for shape in [Shape::Full, Shape::Leaves, Shape::Chain] {
+    for shape in STORES {
         for (count, pages) in [(16, 256), (64, 256), (16, 4096), (64, 4096)] {
-            trial.run(opened(count, shape.store(count, pages)), 2000);
+            let state = trial.marked(opened(count, shape.store(count, pages)));
+            trial.run(state, 2000);
         }
     }
     println!("{:?}, looks {:?}", trial.given, trial.looked);
@@ -321,11 +368,12 @@ fn turned_frames() {
     let mut trial = Trial::new(3);
     for count in [4, 16, 64] {
         for _ in 0..20 {
-            trial.run(Shape::Turned.state(count, 256), 100);
+            let state = trial.marked(Shape::Turned.state(count, 256));
+            trial.run(state, 100);
         }
     }
     println!("{:?}", trial.given);
-    assert!(trial.given[&0] > 1000 && trial.given[&2] > 100, "accepted, and records that disagree");
+    assert!(trial.given(0) > 1000 && trial.given(2) > 100, "accepted, and records that disagree");
 }
 
 /// Short runs from full frames with most pages pinned, so that sweeps warm many.
@@ -335,6 +383,7 @@ fn held_pages() {
     for count in [4, 16, 64] {
         for _ in 0..200 {
             let state = trial.held(Shape::Full.state(count, 256));
+            let state = trial.marked(state);
             trial.run(state, 10);
         }
     }

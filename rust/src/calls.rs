@@ -12,6 +12,15 @@ pub struct Fixed {
     pub looks: u16,
 }
 
+/// The answer of word, where the slot names a page.
+#[derive(Clone, Copy, Debug, PartialEq, Eq)]
+pub struct Named {
+    /// The page.
+    pub page: PageNumber,
+    /// Whether the word marks it as locked.
+    pub locked: bool,
+}
+
 /// The answer of find.
 #[derive(Clone, Copy, Debug, PartialEq, Eq)]
 pub struct Found {
@@ -124,19 +133,21 @@ pub fn peek<'a>(
     place.part(if place.in_store { store } else { frames })
 }
 
-/// The page that a slot of the handle's page names, if it names one. Refused: 1, 2, 3, 4.
+/// The page that a slot of the handle's page names, if it names one, and whether that page is locked. Refused: 1, 2, 3, 4.
 pub fn word(
     pool: &Pool,
     frames: &[u8],
     store: &[u8],
     handle: Handle,
     slot: usize,
-) -> Result<Option<PageNumber>, Refusal> {
-    let named = call!(pool_word(*pool, frames.as_ptr, store.as_ptr, handle, slot));
-    unless_refused(named.refusal, (named.page != PageNumber(0)).then_some(named.page))
+) -> Result<Option<Named>, Refusal> {
+    let raw::Named { refusal, locked, page } =
+        call!(pool_word(*pool, frames.as_ptr, store.as_ptr, handle, slot));
+    unless_refused(refusal, (page != PageNumber(0)).then_some(Named { page, locked }))
 }
 
-/// Puts bytes at an offset of the payload of the handle's page, which is then dirty unless there are none. Refused: 1, 2, 3, 5.
+/// Puts bytes at an offset of the payload of the handle's page, which is then dirty unless there are none. In a locked page a write
+/// of no bytes is refused too. Refused: 1, 2, 3, 5, 26.
 pub fn write(
     pool: &mut Pool,
     frames: &mut [u8],
@@ -149,9 +160,29 @@ pub fn write(
         .answer(pool)
 }
 
-/// Stores a page number in an empty slot of the handle's page, which is then dirty. After [`FullSlot`](Refusal::FullSlot) the
-/// page can go into an empty slot, after [`AlreadyNamed`](Refusal::AlreadyNamed) into none until the word that names it is
-/// unlinked. Refused: 1, 2, 3, 4, 6, 9, 8.
+/// Stores a page number in an empty slot of the handle's page, which is then dirty; with `locked`, the word marks the page of that
+/// number as locked. After [`FullSlot`](Refusal::FullSlot) the page can go into an empty slot, after
+/// [`AlreadyNamed`](Refusal::AlreadyNamed) into none until the word that names it is unlinked. Refused: 1, 2, 3, 4, 26, 6, 9, 8.
+///
+/// A linked page gets the mark, or loses it, by three calls: evict it if it is resident, unlink it, and link it anew:
+///
+/// ```
+/// # use pagepool::{Named, PageNumber, PagePool, Refusal, PAGE_SIZE};
+/// # let mut pool = PagePool::new([0; 2 * PAGE_SIZE], [0; 8 * PAGE_SIZE]);
+/// # pool.open()?;
+/// # let root = pool.root()?.handle;
+/// # pool.link(root, 3, PageNumber(7), false)?;
+/// # let seven = pool.fix(root, 3)?.handle;
+/// # pool.unfix(seven)?;
+/// pool.evict(PageNumber(7))?;
+/// pool.unlink(root, 3)?;
+/// pool.link(root, 3, PageNumber(7), true)?;
+/// assert_eq!(pool.word(root, 3)?, Some(Named { page: PageNumber(7), locked: true }));
+///
+/// let seven = pool.fix(root, 3)?.handle;
+/// assert_eq!(pool.write(seven, 0, b"seven"), Err(Refusal::IsLocked));
+/// # Ok::<(), Refusal>(())
+/// ```
 pub fn link(
     pool: &mut Pool,
     frames: &mut [u8],
@@ -159,11 +190,12 @@ pub fn link(
     handle: Handle,
     slot: usize,
     page: PageNumber,
+    locked: bool,
 ) -> Result<(), Refusal> {
-    call!(pool_link(*pool, frames.as_mut_ptr, store.as_ptr, handle, slot, page)).answer(pool)
+    call!(pool_link(*pool, frames.as_mut_ptr, store.as_ptr, handle, slot, page, locked)).answer(pool)
 }
 
-/// Clears a slot of the handle's page, which is then dirty. Refused: 1, 2, 3, 4, 7, 10.
+/// Clears a slot of the handle's page, which is then dirty. A mark there goes with it. Refused: 1, 2, 3, 4, 26, 7, 10.
 pub fn unlink(
     pool: &mut Pool,
     frames: &mut [u8],
@@ -211,7 +243,8 @@ impl Generator {
 ///
 /// The numbers are those of the 32-bit xorshift generator of Marsaglia with shifts left 13, right 17, left 5. Call, frame, page,
 /// slot and offset are their remainders by 9 (plus 1), F, N, 16 and 193, in this order, whichever the call uses. Length and data
-/// are 0, but that link's handle has the page that is in the drawn frame, or 0 where that is empty.
+/// are 0, but that link's handle has the page that is in the drawn frame, or 0 where that is empty. A record has no mark: its link
+/// is made with `locked` false.
 ///
 /// Where each record is drawn on the pool as the calls before left it, and then run, a seed gives the same on every machine:
 ///

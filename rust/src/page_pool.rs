@@ -1,5 +1,5 @@
 //! A pool together with the buffers it works on.
-use crate::calls::{self, Fixed, Found};
+use crate::calls::{self, Fixed, Found, Named};
 use crate::records::{Entry, Generator, Handle, PageNumber, Pool};
 use crate::refusal::Refusal;
 
@@ -7,7 +7,7 @@ use crate::refusal::Refusal;
 /// has: vectors, arrays, or slices of its own memory.
 ///
 /// ```
-/// use pagepool::{Found, PageNumber, PagePool, Refusal, PAGE_SIZE};
+/// use pagepool::{Found, PageNumber, PagePool, Refusal, LOCK_BIT, PAGE_SIZE};
 ///
 /// // 4 frames over a store of 16 empty pages.
 /// let mut pool = PagePool::new([0; 4 * PAGE_SIZE], vec![0; 16 * PAGE_SIZE]);
@@ -15,7 +15,7 @@ use crate::refusal::Refusal;
 ///
 /// // Page 7 goes below slot 3 of the root, and gets some bytes.
 /// let root = pool.root()?.handle;
-/// pool.link(root, 3, PageNumber(7))?;
+/// pool.link(root, 3, PageNumber(7), false)?;
 /// let seven = pool.fix(root, 3)?.handle;
 /// pool.write(seven, 0, b"seven")?;
 /// assert_eq!(&pool.show(seven)?[..5], b"seven");
@@ -27,9 +27,15 @@ use crate::refusal::Refusal;
 /// assert_eq!(pool.find(PageNumber(7))?, Found { frame: None, looks: 4 });
 /// assert_eq!(&pool.peek(PageNumber(7))?[..5], b"seven");
 ///
+/// // Linked again with the mark, it is locked: it can be read, and not changed.
+/// pool.unlink(root, 3)?;
+/// pool.link(root, 3, PageNumber(7), true)?;
+/// let seven = pool.fix(root, 3)?.handle;
+/// assert_eq!(pool.write(seven, 0, b"eight"), Err(Refusal::IsLocked));
+///
 /// // After a settle the store holds every change.
 /// pool.settle()?;
-/// assert_eq!(pool.store[3 * 4], 7);
+/// assert_eq!(pool.store[3 * 4..4 * 4], (7 | LOCK_BIT).to_le_bytes());
 /// # Ok::<(), Refusal>(())
 /// ```
 #[derive(Clone, Debug, PartialEq, Eq)]
@@ -73,7 +79,7 @@ impl<F: AsRef<[u8]>, S: AsRef<[u8]>> PagePool<F, S> {
     }
 
     /// As [`word`](calls::word).
-    pub fn word(&self, handle: Handle, slot: usize) -> Result<Option<PageNumber>, Refusal> {
+    pub fn word(&self, handle: Handle, slot: usize) -> Result<Option<Named>, Refusal> {
         calls::word(&self.records, self.frames.as_ref(), self.store.as_ref(), handle, slot)
     }
 
@@ -110,8 +116,14 @@ where
     }
 
     /// As [`link`](calls::link).
-    pub fn link(&mut self, handle: Handle, slot: usize, page: PageNumber) -> Result<(), Refusal> {
-        calls::link(&mut self.records, self.frames.as_mut(), self.store.as_ref(), handle, slot, page)
+    pub fn link(
+        &mut self,
+        handle: Handle,
+        slot: usize,
+        page: PageNumber,
+        locked: bool,
+    ) -> Result<(), Refusal> {
+        calls::link(&mut self.records, self.frames.as_mut(), self.store.as_ref(), handle, slot, page, locked)
     }
 
     /// As [`unlink`](calls::unlink).

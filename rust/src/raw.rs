@@ -24,6 +24,7 @@ pub struct Fixed {
 #[derive(Clone, Copy, Debug)]
 pub struct Named {
     pub refusal: u8,
+    pub locked: bool,
     pub page: PageNumber,
 }
 
@@ -98,7 +99,7 @@ exported! {
 exported! {
     *mut u8, *const u8;
     pool_write(handle: Handle, offset: usize, bytes: *const u8, bytes_size: usize) -> Done;
-    pool_link(handle: Handle, slot: usize, page: PageNumber) -> Done;
+    pool_link(handle: Handle, slot: usize, page: PageNumber, locked: bool) -> Done;
     pool_unlink(handle: Handle, slot: usize) -> Done;
 }
 

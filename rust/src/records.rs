@@ -9,6 +9,8 @@ pub const SLOTS: usize = 16;
 pub const PAYLOAD_START: usize = 64;
 /// The payload bytes of a page.
 pub const PAYLOAD_SIZE: usize = 192;
+/// Bit 30 of a word in the store: it marks the page that the rest of the word names as locked.
+pub const LOCK_BIT: u32 = 0x4000_0000;
 /// The least F.
 pub const LEAST_FRAMES: usize = 2;
 /// The largest F.

@@ -40,6 +40,7 @@ rules! {
     BadHandle = 3, "The handle's frame isn't below F or doesn't hold its page, or that has no pins.";
     BadSlot = 4, "The slot is above 15.";
     BadRange = 5, "The offset is above 192, or the length above 192 - offset.";
+    IsLocked = 26, "The handle's page is locked. To free it, unfix, evict and unlink it, and link it again without the mark.";
     BadPage = 6, "The page number isn't below N, is 0 in link, or is above 4,095 in a recording.";
     EmptySlot = 7, "Fix or unlink meets a word of 0.";
     AlreadyNamed = 9, "Link's page is named already, by a word of any page.";
@@ -52,7 +53,7 @@ rules! {
     TooManyPins = 13, "A resident page to be pinned has 65,535 pins.";
     BadStoredPage = 14, "The stored page to be loaded has words that it can't have: only after the store was altered from outside.";
     NoFrame = 15, "No frame is empty, and a sweep could take none.";
-    UnsoundStore = 16, "Open's store isn't sound: a word is no page number, or a number stands in two words.";
+    UnsoundStore = 16, "Open's store isn't sound: a word names no page below N, or a number stands in two words.";
 }
 
 impl Refusal {

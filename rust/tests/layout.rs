@@ -39,7 +39,7 @@ fn fixed() {
 #[test]
 fn named() {
     let named = unsafe { raw::pool_layout_named() };
-    assert_eq!((named.refusal, named.page), (204, PageNumber(4003)));
+    assert_eq!((named.refusal, named.locked, named.page), (204, true, PageNumber(4003)));
 }
 
 #[test]
@@ -85,4 +85,11 @@ fn version() {
         let line = format!("\n#define PAGEPOOL_VERSION_{name} {figure}\n");
         assert!(header.contains(&line), "no {}", line.trim());
     }
+}
+
+/// And so is the bit that marks a locked page.
+#[test]
+fn lock_bit() {
+    let line = format!("\n#define POOL_LOCK_BIT {:#x}u\n", pagepool::LOCK_BIT);
+    assert!(include_str!("../../include/pagepool.h").contains(&line), "no {}", line.trim());
 }

@@ -1,6 +1,6 @@
 /*
- * Tries what the header says of answers, handles, usages, looks, workloads, tallies, payloads and pointers. Names each failing
- * claim.
+ * Tries what the header says of answers, handles, usages, looks, locks, workloads, tallies, payloads and pointers. Names each
+ * failing claim.
  */
 #include "pagepool.h"
 
@@ -57,7 +57,7 @@ static bool place_refused(struct pool_place answer, uint8_t refusal)
 
 static bool named_refused(struct pool_named answer, uint8_t refusal)
 {
-    return answer.refusal == refusal && answer.page == 0;
+    return answer.refusal == refusal && !answer.locked && answer.page == 0;
 }
 
 static bool found_refused(struct pool_found answer, uint8_t refusal)
@@ -115,7 +115,7 @@ static void null_and_0(void)
     claim("peek", place_refused(pool_peek(pool, NOTHING, 1), POOL_WRONG_LENGTH));
     claim("word", named_refused(pool_word(pool, NOTHING, root, 1), POOL_WRONG_LENGTH));
     claim("write", done_refused(pool_write(pool, NOTHING, root, 0, NULL, 0), POOL_WRONG_LENGTH, pool));
-    claim("link", done_refused(pool_link(pool, NOTHING, root, 0, 4), POOL_WRONG_LENGTH, pool));
+    claim("link", done_refused(pool_link(pool, NOTHING, root, 0, 4, false), POOL_WRONG_LENGTH, pool));
     claim("unlink", done_refused(pool_unlink(pool, NOTHING, root, 1), POOL_WRONG_LENGTH, pool));
     claim("evict", done_refused(pool_evict(pool, NOTHING, 1), POOL_WRONG_LENGTH, pool));
     claim("settle", done_refused(pool_settle(pool, NOTHING), POOL_WRONG_LENGTH, pool));
@@ -236,16 +236,16 @@ static void frames_looked_at(void)
 static void taken_slots(void)
 {
     struct pool pool = begin();
-    claim("a named page into another's slot", done_refused(pool_link(pool, LENT, root, 1, 2), POOL_ALREADY_NAMED, pool));
-    claim("a named page into its own slot", done_refused(pool_link(pool, LENT, root, 1, 1), POOL_ALREADY_NAMED, pool));
-    claim("a named page into an empty slot", done_refused(pool_link(pool, LENT, root, 0, 1), POOL_ALREADY_NAMED, pool));
-    claim("page 0 into a taken slot", done_refused(pool_link(pool, LENT, root, 1, 0), POOL_BAD_PAGE, pool));
-    claim("an unnamed page into a taken slot", done_refused(pool_link(pool, LENT, root, 1, 4), POOL_FULL_SLOT, pool));
-    struct pool_done done = pool_link(pool, LENT, root, 0, 4);
+    claim("a named page into another's slot", done_refused(pool_link(pool, LENT, root, 1, 2, false), POOL_ALREADY_NAMED, pool));
+    claim("a named page into its own slot", done_refused(pool_link(pool, LENT, root, 1, 1, false), POOL_ALREADY_NAMED, pool));
+    claim("a named page into an empty slot", done_refused(pool_link(pool, LENT, root, 0, 1, false), POOL_ALREADY_NAMED, pool));
+    claim("page 0 into a taken slot", done_refused(pool_link(pool, LENT, root, 1, 0, false), POOL_BAD_PAGE, pool));
+    claim("an unnamed page into a taken slot", done_refused(pool_link(pool, LENT, root, 1, 4, false), POOL_FULL_SLOT, pool));
+    struct pool_done done = pool_link(pool, LENT, root, 0, 4, false);
     claim("which an empty slot takes", done.refusal == POOL_ACCEPTED);
     pool = pool_unlink(done.pool, LENT, root, 1).pool;
-    claim("an unlinked page into a taken slot", done_refused(pool_link(pool, LENT, root, 0, 1), POOL_FULL_SLOT, pool));
-    claim("which an empty slot takes", pool_link(pool, LENT, root, 5, 1).refusal == POOL_ACCEPTED);
+    claim("an unlinked page into a taken slot", done_refused(pool_link(pool, LENT, root, 0, 1, false), POOL_FULL_SLOT, pool));
+    claim("which an empty slot takes", pool_link(pool, LENT, root, 5, 1, false).refusal == POOL_ACCEPTED);
 }
 
 /* After 20 nothing helps, after 21 as many unfixes as there were pins, after 22 an evict of the page that it names. */
@@ -262,7 +262,7 @@ static void staying_pages(void)
     struct pool_handle one = fixed.handle;
     fixed = pool_fix(fixed.pool, LENT, root, 1);
     claim("a pinned page", done_refused(pool_evict(fixed.pool, LENT, 1), POOL_IS_PINNED, fixed.pool));
-    pool = pool_link(fixed.pool, LENT, one, 15, 4).pool;
+    pool = pool_link(fixed.pool, LENT, one, 15, 4, false).pool;
     fixed = pool_fix(pool, LENT, one, 15);
     struct pool_handle four = fixed.handle;
     claim("a pinned parent", done_refused(pool_evict(fixed.pool, LENT, 1), POOL_IS_PINNED, fixed.pool));
@@ -280,6 +280,202 @@ static void staying_pages(void)
     claim("but never the root", done_refused(pool_evict(done.pool, LENT, 0), POOL_IS_ROOT, done.pool));
 }
 
+/* What an accepted word answers. */
+static bool is_word(struct pool pool, struct pool_handle handle, size_t slot, pool_page_number page, bool locked)
+{
+    struct pool_named named = pool_word(pool, LENT, handle, slot);
+    return named.refusal == POOL_ACCEPTED && named.page == page && named.locked == locked;
+}
+
+/* The word in a slot of a page of the store, or of a frame. */
+static uint32_t word_in(const uint8_t *buffer, size_t page, size_t slot)
+{
+    const uint8_t *bytes = buffer + page * POOL_PAGE_SIZE + 4 * slot;
+    return bytes[0] | (uint32_t)bytes[1] << 8 | (uint32_t)bytes[2] << 16 | (uint32_t)bytes[3] << 24;
+}
+
+/* Links page 1 anew in slot 1 of the root, with the mark or without. It is resident, and has no pins. */
+static struct pool relinked(struct pool pool, bool locked)
+{
+    struct pool_done done = pool_evict(pool, LENT, 1);
+    claim("a page to be linked anew leaves", done.refusal == POOL_ACCEPTED);
+    done = pool_unlink(done.pool, LENT, root, 1);
+    claim("is unlinked", done.refusal == POOL_ACCEPTED);
+    done = pool_link(done.pool, LENT, root, 1, 1, locked);
+    claim("and linked", done.refusal == POOL_ACCEPTED);
+    return done.pool;
+}
+
+/*
+ * A pool in which page 1 is locked and resident, without pins, and the root is pinned. Page 1 has the payload "kept", and names
+ * page 4 in slot 5, locked or not, and page 5 in slot 6, not locked.
+ */
+static struct pool begin_locked(bool child_locked)
+{
+    struct pool_fixed one = pool_fix(begin(), LENT, root, 1);
+    struct pool pool = pool_write(one.pool, LENT, one.handle, 0, (const uint8_t *)"kept", 4).pool;
+    pool = pool_link(pool, LENT, one.handle, 5, 4, child_locked).pool;
+    pool = pool_link(pool, LENT, one.handle, 6, 5, false).pool;
+    pool = relinked(pool_unfix(pool, LENT, one.handle).pool, true);
+    one = pool_fix(pool, LENT, root, 1);
+    claim("a locked page is fixed as any other", one.refusal == POOL_ACCEPTED && one.handle.page == 1);
+    return pool_unfix(one.pool, LENT, one.handle).pool;
+}
+
+/* Whether a change of a locked page was refused. */
+static bool is_locked(struct pool_done answer, struct pool pool)
+{
+    return done_refused(answer, POOL_IS_LOCKED, pool);
+}
+
+/* What changes a locked page is refused: after 1 to 5, and before all other rules. */
+static void locked_pages(void)
+{
+    static const struct pool_handle one = {1, 1}, other = {1, 2};
+    static const uint8_t *const kept = (const uint8_t *)"kept";
+    uint8_t before[sizeof frames];
+    struct pool pool = begin();
+    claim("a named page isn't marked", done_refused(pool_link(pool, LENT, root, 4, 1, true), POOL_ALREADY_NAMED, pool));
+    claim("nor in its own slot", done_refused(pool_link(pool, LENT, root, 1, 1, true), POOL_ALREADY_NAMED, pool));
+    pool = pool_link(pool, LENT, root, 0, 4, true).pool;
+    claim("the root is never locked", pool_write(pool, LENT, root, 0, NULL, 0).refusal == POOL_ACCEPTED);
+
+    pool = begin_locked(false);
+    claim("without pins its handle is stale", done_refused(pool_write(pool, LENT, one, 0, kept, 4), POOL_BAD_HANDLE, pool));
+    pool = pool_fix(pool, LENT, root, 1).pool;
+    pool = pool_fix(pool, LENT, one, 5).pool;
+    memcpy(before, frames, sizeof frames);
+    claim("write", is_locked(pool_write(pool, LENT, one, 4, kept, 4), pool));
+    claim("a write of what stands there", is_locked(pool_write(pool, LENT, one, 0, kept, 4), pool));
+    claim("a write of no bytes", is_locked(pool_write(pool, LENT, one, 0, NULL, 0), pool));
+    claim("3 before 26 in write", done_refused(pool_write(pool, LENT, other, 0, kept, 4), POOL_BAD_HANDLE, pool));
+    claim("5 before 26", done_refused(pool_write(pool, LENT, one, 189, kept, 4), POOL_BAD_RANGE, pool));
+    claim("5 before 26 without bytes", done_refused(pool_write(pool, LENT, one, 193, NULL, 0), POOL_BAD_RANGE, pool));
+
+    claim("link", is_locked(pool_link(pool, LENT, one, 0, 6, false), pool));
+    claim("link with the mark", is_locked(pool_link(pool, LENT, one, 0, 6, true), pool));
+    claim("3 before 26 in link", done_refused(pool_link(pool, LENT, other, 0, 6, true), POOL_BAD_HANDLE, pool));
+    claim("4 before 26 in link", done_refused(pool_link(pool, LENT, one, 16, 6, true), POOL_BAD_SLOT, pool));
+    claim("26 before 6, page 0", is_locked(pool_link(pool, LENT, one, 0, 0, false), pool));
+    claim("26 before 6, beyond N", is_locked(pool_link(pool, LENT, one, 0, PAGES, false), pool));
+    claim("26 before 9", is_locked(pool_link(pool, LENT, one, 0, 2, false), pool));
+    claim("26 before 8", is_locked(pool_link(pool, LENT, one, 6, 6, false), pool));
+
+    claim("unlink", is_locked(pool_unlink(pool, LENT, one, 6), pool));
+    claim("3 before 26 in unlink", done_refused(pool_unlink(pool, LENT, other, 6), POOL_BAD_HANDLE, pool));
+    claim("4 before 26 in unlink", done_refused(pool_unlink(pool, LENT, one, 16), POOL_BAD_SLOT, pool));
+    claim("26 before 7", is_locked(pool_unlink(pool, LENT, one, 0), pool));
+    claim("26 before 10", is_locked(pool_unlink(pool, LENT, one, 5), pool));
+    claim("and nothing changed", memcmp(before, frames, sizeof frames) == 0);
+    claim("1 before 26", done_refused(pool_write(pool, NOTHING, one, 0, NULL, 0), POOL_WRONG_LENGTH, pool));
+    pool.records[1].usage = POOL_MAX_USAGE + 1;
+    claim("2 before 26", done_refused(pool_write(pool, LENT, one, 0, NULL, 0), POOL_DISAGREE, pool));
+}
+
+/* A mark is told and kept wherever its page is, and the locked page is clean. */
+static void marks_kept(void)
+{
+    struct pool pool = begin_locked(false);
+    pool = pool_root(pool_open(LENT).pool, LENT).pool;
+    claim("an open without a settle loses the mark", is_word(pool, root, 1, 1, false));
+    struct pool_fixed one = pool_fix(pool, LENT, root, 1);
+    claim("and with it the lock", pool_write(one.pool, LENT, one.handle, 0, NULL, 0).refusal == POOL_ACCEPTED);
+
+    pool = begin_locked(false);
+    claim("word tells the mark of a resident page", is_word(pool, root, 1, 1, true));
+    claim("and where there is none", is_word(pool, root, 2, 2, false) && is_word(pool, root, 0, 0, false));
+    claim("find goes by the number", is_found(pool, 1, 1, 2));
+    claim("the locked page is clean", pool.records[1].used == 1 && pool.records[1].dirty == 0);
+    claim("and the store has it", memcmp(store + POOL_PAGE_SIZE + POOL_PAYLOAD_START, "kept", 4) == 0);
+    claim("the mark comes there with the root", pool.records[0].dirty == 1 && word_in(store, 0, 1) == 1);
+    pool = pool_settle(pool, LENT).pool;
+    claim("by a settle", word_in(store, 0, 1) == (1 | POOL_LOCK_BIT));
+    pool = pool_evict(pool, LENT, 1).pool;
+    claim("evict goes by the number", is_absent(pool, 1));
+    claim("and keeps the mark", is_word(pool, root, 1, 1, true));
+
+    struct pool_done opened = pool_open(LENT);
+    claim("a store with a mark opens", opened.refusal == POOL_ACCEPTED);
+    pool = pool_root(opened.pool, LENT).pool;
+    claim("and has it after a settle", is_word(pool, root, 1, 1, true));
+    one = pool_fix(pool, LENT, root, 1);
+    claim("and its page is locked", is_locked(pool_write(one.pool, LENT, one.handle, 0, NULL, 0), one.pool));
+    pool = pool_unfix(one.pool, LENT, one.handle).pool;
+    struct pool_fixed two = pool_fix(pool, LENT, root, 2);
+    struct pool_fixed three = pool_fix(two.pool, LENT, root, 3);
+    claim("a sweep takes it as any other", three.looks > 0 && is_absent(three.pool, 1));
+    claim("and keeps the mark", is_word(three.pool, root, 1, 1, true));
+    one = pool_fix(pool_unfix(three.pool, LENT, two.handle).pool, LENT, root, 1);
+    claim("and so does one that loads it", one.looks > 0 && is_word(one.pool, root, 1, 1, true));
+    claim("so that it is locked still", is_locked(pool_write(one.pool, LENT, one.handle, 0, NULL, 0), one.pool));
+    claim("with its parent clean", one.pool.records[0].dirty == 0);
+}
+
+/* The pages that a locked page names come and go, and are locked by their own words alone. */
+static void below_a_lock(void)
+{
+    static const struct pool_handle one = {1, 1};
+    struct pool pool = pool_fix(begin_locked(false), LENT, root, 1).pool;
+    struct pool_fixed child = pool_fix(pool, LENT, one, 5);
+    claim("a child comes in", child.refusal == POOL_ACCEPTED && child.handle.page == 4);
+    claim("and its parent stays clean", child.pool.records[1].dirty == 0 && is_word(child.pool, one, 5, 4, false));
+    struct pool_done done = pool_write(child.pool, LENT, child.handle, 0, (const uint8_t *)"free", 4);
+    claim("it can be changed", done.refusal == POOL_ACCEPTED);
+    done = pool_link(done.pool, LENT, child.handle, 0, 6, true);
+    claim("and lock another", done.refusal == POOL_ACCEPTED);
+    done = pool_unlink(done.pool, LENT, child.handle, 0);
+    claim("and free it", done.refusal == POOL_ACCEPTED);
+    done = pool_evict(pool_unfix(done.pool, LENT, child.handle).pool, LENT, 4);
+    claim("it leaves", done.refusal == POOL_ACCEPTED && is_word(done.pool, one, 5, 4, false));
+    claim("changed", memcmp(store + 4 * POOL_PAGE_SIZE + POOL_PAYLOAD_START, "free", 4) == 0);
+    claim("and its parent isn't", done.pool.records[1].dirty == 0 && word_in(frames, 1, 5) == 4);
+
+    pool = pool_fix(begin_locked(true), LENT, root, 1).pool;
+    child = pool_fix(pool, LENT, one, 5);
+    claim("a child with a mark is locked", is_locked(pool_write(child.pool, LENT, child.handle, 0, NULL, 0), child.pool));
+    pool = pool_evict(pool_unfix(child.pool, LENT, child.handle).pool, LENT, 4).pool;
+    claim("and keeps it in a locked page", is_word(pool, one, 5, 4, true) && is_locked(pool_unlink(pool, LENT, one, 5), pool));
+    pool = relinked(pool_unfix(pool, LENT, one).pool, false);
+    claim("until that is linked without its own", is_word(pool, root, 1, 1, false));
+    pool = pool_fix(pool, LENT, root, 1).pool;
+    claim("the child is locked still", is_word(pool, one, 5, 4, true));
+    done = pool_write(pool, LENT, one, 0, (const uint8_t *)"free", 4);
+    claim("and the parent can be changed", done.refusal == POOL_ACCEPTED && done.pool.records[1].dirty == 1);
+    done = pool_unlink(done.pool, LENT, one, 5);
+    claim("the mark goes with its word", done.refusal == POOL_ACCEPTED && is_word(done.pool, one, 5, 0, false));
+    done = pool_link(done.pool, LENT, one, 5, 4, false);
+    claim("and the child is free", done.refusal == POOL_ACCEPTED && is_word(done.pool, one, 5, 4, false));
+}
+
+/* Bit 30 on a word that is otherwise 0, and numbers that differ in it alone. */
+static void bit_30(void)
+{
+    struct pool zero;
+    memset(&zero, 0, sizeof zero);
+    begin();
+    store[3] = 0x40;
+    claim("on nothing in the root", done_refused(pool_open(LENT), POOL_UNSOUND_STORE, zero));
+    begin();
+    store[7 * POOL_PAGE_SIZE + 4 * 15 + 3] = 0x40;
+    claim("on nothing out of reach", done_refused(pool_open(LENT), POOL_UNSOUND_STORE, zero));
+    begin();
+    store[4 * 5] = 1;
+    store[4 * 5 + 3] = 0x40;
+    claim("on a number that stands without it", done_refused(pool_open(LENT), POOL_UNSOUND_STORE, zero));
+    begin();
+    store[4 * 1 + 3] = 0x40;
+    claim("on a number that stands once", pool_open(LENT).refusal == POOL_ACCEPTED);
+
+    struct pool pool = begin();
+    store[2 * POOL_PAGE_SIZE + 3] = 0x40;
+    claim("on nothing in a page to be loaded", fixed_refused(pool_fix(pool, LENT, root, 2), POOL_BAD_STORED_PAGE, pool));
+    frames[3] = 0x40;
+    claim("on nothing in a frame", done_refused(pool_settle(pool, LENT), POOL_DISAGREE, pool));
+    frames[3] = 0;
+    frames[4 * 1 + 3] = 0x40;
+    claim("on a number in a frame", pool_settle(pool, LENT).refusal == POOL_ACCEPTED && is_word(pool, root, 1, 1, true));
+}
+
 static pool_page_number page_in(const uint8_t *bytes)
 {
     return (pool_page_number)(bytes[0] | bytes[1] << 8);
@@ -295,7 +491,7 @@ static struct pool_done made(struct pool pool, const uint8_t *entry)
     }
     const struct pool_handle parent = {entry[1], page_in(entry + 7)};
     if (entry[0] == 5)
-        return pool_link(pool, LENT, parent, entry[4], page_in(entry + 2));
+        return pool_link(pool, LENT, parent, entry[4], page_in(entry + 2), false);
     return entry[0] == 7 ? pool_evict(pool, LENT, page_in(entry + 2)) : pool_settle(pool, LENT);
 }
 
@@ -549,6 +745,10 @@ int main(void)
     frames_looked_at();
     taken_slots();
     staying_pages();
+    locked_pages();
+    marks_kept();
+    below_a_lock();
+    bit_30();
     workloads();
     depths();
     every_depth();

@@ -46,6 +46,7 @@ int main(void)
 
     struct pool_named named = pool_layout_named();
     EXPECT(named.refusal, 204);
+    EXPECT(named.locked, true);
     EXPECT(named.page, 4003);
 
     struct pool_found found = pool_layout_found();

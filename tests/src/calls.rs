@@ -1,5 +1,5 @@
 //! A call with its arguments as a value, and its answer.
-use crate::pool::{Fixed, Found, Machine, Place, Refusal};
+use crate::pool::{Fixed, Found, Machine, Named, Place, Refusal};
 use crate::records::{Handle, PageNumber, Pool, State};
 
 #[derive(Clone, Debug, PartialEq, Eq)]
@@ -12,7 +12,8 @@ pub enum Call {
     Peek(u16),
     Word(Handle, usize),
     Write(Handle, usize, Vec<u8>),
-    Link(Handle, usize, u16),
+    /// With the mark that the word gets.
+    Link(Handle, usize, u16, bool),
     Unlink(Handle, usize),
     Evict(u16),
     Settle,
@@ -34,7 +35,7 @@ pub enum Answer {
     Done,
     Fixed(Fixed),
     Place(Place),
-    Number(u16),
+    Named(Named),
     Found(Found),
 }
 
@@ -85,12 +86,10 @@ impl Call {
             Call::Unfix(handle) => answer(machine.unfix(state, *handle), done),
             Call::Show(handle) => answer(machine.show(state, *handle), Answer::Place),
             Call::Peek(page) => answer(machine.peek(state, PageNumber(*page)), Answer::Place),
-            Call::Word(handle, slot) => {
-                answer(machine.word(state, *handle, *slot), |page| Answer::Number(page.0))
-            }
+            Call::Word(handle, slot) => answer(machine.word(state, *handle, *slot), Answer::Named),
             Call::Write(handle, offset, bytes) => answer(machine.write(state, *handle, *offset, bytes), done),
-            Call::Link(handle, slot, page) => {
-                answer(machine.link(state, *handle, *slot, PageNumber(*page)), done)
+            Call::Link(handle, slot, page, locked) => {
+                answer(machine.link(state, *handle, *slot, PageNumber(*page), *locked), done)
             }
             Call::Unlink(handle, slot) => answer(machine.unlink(state, *handle, *slot), done),
             Call::Evict(page) => answer(machine.evict(state, PageNumber(*page)), done),

@@ -1,7 +1,9 @@
 //! How often each call met each answer, a link into a taken slot each namer of its page, an evict each reason to stay, a fix what
-//! it can do to usages, a find each place where it can end, and a draw what it can show.
+//! it can do to usages, a find each place where it can end, a draw what it can show, and any call what it can of marks and locked
+//! pages.
 use crate::calls::{Answer, Call, DRAW, NAMES};
 use crate::model::drawing::Drawing;
+use crate::model::locks::Lock;
 use crate::model::search::Ended;
 use crate::model::stays::Stay;
 use crate::model::taken::Namer;
@@ -23,6 +25,7 @@ pub struct Coverage {
     warmths: BTreeMap<Warmth, u64>,
     ends: BTreeMap<Ended, u64>,
     drawings: BTreeMap<Drawing, u64>,
+    locks: BTreeMap<Lock, u64>,
     sweeps: u64,
     most_looks: u16,
 }
@@ -72,6 +75,13 @@ impl Coverage {
         }
     }
 
+    /// Counts what a call met of marks and of locked pages.
+    pub fn count_locks(&mut self, locks: impl IntoIterator<Item = Lock>) {
+        for lock in locks {
+            *self.locks.entry(lock).or_default() += 1;
+        }
+    }
+
     /// The pairs of the table that have a wanted answer and did not occur.
     pub fn missing(&self, table: &Table, wanted: &[u8]) -> Vec<Pair> {
         let possible = table.rules.iter().flat_map(|rule| rule.calls.iter().map(|call| (*call, rule.number)));
@@ -101,6 +111,11 @@ impl Coverage {
     /// Those of the wanted ones that no draw showed.
     pub fn missing_drawings(&self, wanted: &[Drawing]) -> Vec<Drawing> {
         wanted.iter().copied().filter(|drawing| !self.drawings.contains_key(drawing)).collect()
+    }
+
+    /// Those of the wanted ones that no call met of marks and of locked pages.
+    pub fn missing_locks(&self, wanted: &[Lock]) -> Vec<Lock> {
+        wanted.iter().copied().filter(|lock| !self.locks.contains_key(lock)).collect()
     }
 
     /// The pairs that occurred and are not in the table.
@@ -145,6 +160,10 @@ impl fmt::Display for Coverage {
         write!(f, "\ndraws, by what they showed:")?;
         for (drawing, count) in &self.drawings {
             write!(f, " {drawing:?}:{count}")?;
+        }
+        write!(f, "\nmarks and locked pages:")?;
+        for (lock, count) in &self.locks {
+            write!(f, " {lock:?}:{count}")?;
         }
         writeln!(f, "\n{} calls, {} pairs of call and answer", self.calls(), self.counts.len())?;
         write!(f, "{} sweeps took a frame, in up to {} looks", self.sweeps, self.most_looks)

@@ -1,5 +1,6 @@
 //! Alterations of records, frames and store from outside.
 mod buffers;
+mod marks;
 mod records;
 mod shapes;
 
@@ -9,7 +10,7 @@ use random::Random;
 type Change = fn(&mut Random, &mut State);
 
 /// Changes of any part, most of which break rule 1 or 2.
-const DAMAGES: [Change; 17] = [
+const DAMAGES: [Change; 22] = [
     records::field,
     records::field,
     records::bit,
@@ -27,16 +28,23 @@ const DAMAGES: [Change; 17] = [
     shapes::below_empty,
     shapes::first_word,
     shapes::spoilt_load,
+    marks::turned,
+    marks::turned_in_store,
+    marks::alone,
+    marks::other_mark_too,
+    marks::swizzled,
 ];
 
 /// Changes that leave records and frames in agreement, so that calls go on from there.
-const ALTERATIONS: [Change; 6] = [
+const ALTERATIONS: [Change; 8] = [
     records::counts,
     records::most_pins,
     buffers::payload,
     buffers::stored_word,
     buffers::stored_page,
     shapes::spoilt_load,
+    marks::turned,
+    marks::turned_in_store,
 ];
 
 /// Damages a state in one to three places.

@@ -7,6 +7,7 @@ use crate::plain::{Check, Plain};
 use crate::pool::Machine;
 use crate::records::{Pool, State};
 
+#[derive(Clone)]
 pub struct History<'a, M> {
     machine: &'a M,
     pub state: State,
@@ -20,7 +21,8 @@ impl<'a, M: Machine> History<'a, M> {
         store: Vec<u8>,
         coverage: &mut Coverage,
     ) -> Result<Self, String> {
-        let plain = Plain::open(&store);
+        let mut plain = Plain::open(&store);
+        plain.follow_locks(false);
         let pool = Pool::ZERO;
         let mut state = State { pool, frames, store };
         let answer = step(machine, &mut state, &Call::Open, coverage)?;
@@ -31,16 +33,26 @@ impl<'a, M: Machine> History<'a, M> {
     /// Makes a call, and compares its answer with the map.
     pub fn call(&mut self, call: &Call, coverage: &mut Coverage) -> Result<Answer, String> {
         let denied = self.plain.foretell_denial(self.machine, &self.state, call)?;
+        let locked = self.plain.foretell_lock(self.machine, &self.state, call);
         let answer = step(self.machine, &mut self.state, call, coverage)?;
         ensure!((answer == Answer::Refused(15)) == (denied == Some(true)), "{call:?}: {answer:?}");
         ensure!(denied != Some(false) || answer.accepted(), "{call:?}, with room: {answer:?}");
-        if *call == Call::Open && answer.accepted() {
-            self.plain = Plain::open(&self.state.store);
+        let checked = self.plain.check_edit(call, locked, &answer);
+        checked.map_err(|fault| format!("{call:?}: {fault}"))?;
+        let opened = *call == Call::Open && answer.accepted();
+        if opened {
+            self.plain.reopen(&self.state.store);
         } else {
             self.plain.feed(call, answer.accepted());
             self.plain.count(call, &answer);
         }
-        let checked = self.plain.check_answer(self.machine, &self.state, call, &answer);
+        let followed = self.plain.check_kept();
+        if answer == Answer::Done {
+            coverage.count_locks(self.plain.follow_locks(opened));
+        }
+        let checked = followed
+            .and_then(|()| self.plain.check_locked(&self.state))
+            .and_then(|()| self.plain.check_answer(self.machine, &self.state, call, &answer));
         checked.map_err(|fault| format!("{call:?}: {fault}"))?;
         Ok(answer)
     }

@@ -1,5 +1,5 @@
 //! The linked library `pagepool`, behind the same trait as the model.
-use crate::pool::{Buffer, Fixed, Found, Machine, Place, Refusal};
+use crate::pool::{Buffer, Fixed, Found, Machine, Named, Place, Refusal};
 use crate::records::{self, Entry, FrameIndex, Generator, Handle, PageNumber, Pool, State};
 use pagepool::raw;
 
@@ -54,6 +54,13 @@ fn place(answer: raw::Place) -> Result<Place, Refusal> {
     unless_refused(answer.refusal, zero, Place { buffer, start, size })
 }
 
+/// Where the word names nothing, too, there is no mark.
+fn named(answer: raw::Named) -> Result<Named, Refusal> {
+    let raw::Named { refusal, locked, page } = answer;
+    assert!(!locked || page != PageNumber(0), "a mark beside no page, refusal {refusal}");
+    unless_refused(refusal, page == PageNumber(0), Named { page, locked })
+}
+
 /// Beside 'absent', too, the frame is 0.
 fn found(answer: raw::Found) -> Result<Found, Refusal> {
     let raw::Found { refusal, present, frame, looks } = answer;
@@ -67,6 +74,7 @@ fn drawn(answer: raw::Drawn, generator: &mut Generator) -> Result<Entry, Refusal
     unless_refused(answer.refusal, answer.entry == [0; 16], answer.entry)
 }
 
+#[derive(Clone)]
 pub struct Library;
 
 impl Machine for Library {
@@ -97,17 +105,23 @@ impl Machine for Library {
         place(lend!(state, pool_peek, page))
     }
 
-    fn word(&self, state: &State, handle: Handle, slot: usize) -> Result<PageNumber, Refusal> {
-        let named = lend!(state, pool_word, handle, slot);
-        unless_refused(named.refusal, named.page == PageNumber(0), named.page)
+    fn word(&self, state: &State, handle: Handle, slot: usize) -> Result<Named, Refusal> {
+        named(lend!(state, pool_word, handle, slot))
     }
 
     fn write(&self, state: &mut State, handle: Handle, offset: usize, bytes: &[u8]) -> Result<(), Refusal> {
         done(lend!(mut state, pool_write, handle, offset, bytes.as_ptr(), bytes.len()), state)
     }
 
-    fn link(&self, state: &mut State, handle: Handle, slot: usize, page: PageNumber) -> Result<(), Refusal> {
-        done(lend!(mut state, pool_link, handle, slot, page), state)
+    fn link(
+        &self,
+        state: &mut State,
+        handle: Handle,
+        slot: usize,
+        page: PageNumber,
+        locked: bool,
+    ) -> Result<(), Refusal> {
+        done(lend!(mut state, pool_link, handle, slot, page, locked), state)
     }
 
     fn unlink(&self, state: &mut State, handle: Handle, slot: usize) -> Result<(), Refusal> {

@@ -18,7 +18,8 @@ pub fn call_of(entry: &Entry) -> Option<Call> {
         record::Call::Fix { slot, handle } => Call::Fix(held(handle), slot.into()),
         record::Call::Unfix { handle } => Call::Unfix(held(handle)),
         record::Call::Write { offset, data, handle } => Call::Write(held(handle), offset.into(), data),
-        record::Call::Link { page, slot, handle } => Call::Link(held(handle), slot.into(), page),
+        // Request A.8: "Link takes the mark, in the listing never."
+        record::Call::Link { page, slot, handle } => Call::Link(held(handle), slot.into(), page, false),
         record::Call::Unlink { slot, handle } => Call::Unlink(held(handle), slot.into()),
         record::Call::Evict { page } => Call::Evict(page),
         record::Call::Settle => Call::Settle,

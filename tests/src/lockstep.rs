@@ -3,7 +3,7 @@
 use crate::calls::{Answer, Call};
 use crate::coverage::Coverage;
 use crate::ensure;
-use crate::model::{drawing, search, stays, taken, warmth, Model};
+use crate::model::{drawing, locks, search, stays, taken, warmth, Model};
 use crate::pool::{Machine, Refusal};
 use crate::records::{Entry, Generator, PageNumber, State};
 
@@ -27,7 +27,8 @@ fn compare(
 /// All must answer and leave the same, and a refused call must leave all as found. Link must answer as document 01's order does
 /// but where request A.9 changes it, evict be refused by the reason for which the page stays, fix take the frame that document
 /// 01's sweep takes and leave the usages that request A.5 asks for, and find answer as document 01's does, with the looks of
-/// request A.2.
+/// request A.2. An edit must be refused where request A.8 says so and nowhere else, and every other call leave what words name and
+/// mark.
 pub fn step(
     machine: &impl Machine,
     state: &mut State,
@@ -61,13 +62,14 @@ fn requests(
         Call::Fix(handle, slot) => {
             coverage.count_warmths(warmth::compare(before, after, (*handle, *slot), answer)?);
         }
-        Call::Link(handle, slot, page) => {
+        Call::Link(handle, slot, page, _) => {
             coverage.count_namer(taken::compare(before, *handle, *slot, PageNumber(*page), number)?);
         }
         Call::Evict(page) => coverage.count_stay(stays::compare(before, PageNumber(*page), number)?),
         Call::Find(page) => coverage.count_end(search::compare(before, PageNumber(*page), answer)?),
         _ => (),
     }
+    coverage.count_locks(locks::compare((before, after), call, answer)?);
     Ok(())
 }
 

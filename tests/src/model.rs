@@ -1,6 +1,7 @@
 //! Document 01 as a program, with document 02's changes, naive on purpose: each rule and each call reads like its sentence.
 mod agreement;
 pub mod drawing;
+pub mod locks;
 mod moves;
 mod rules;
 pub mod search;
@@ -9,30 +10,38 @@ pub mod taken;
 pub mod warmth;
 pub mod workload;
 
-use crate::pool::{Buffer, Fixed, Found, Machine, Place, Refusal};
+use crate::pool::{Buffer, Fixed, Found, Machine, Named, Place, Refusal};
 use crate::records::{
-    page_of, page_of_mut, put_word, word_in, Entry, FrameIndex, FrameRecord, Generator, Handle, PageNumber,
-    Pool, State, MAX_USAGE, PAGE_SIZE, PAYLOAD_SIZE, PAYLOAD_START, SLOTS, SWIZZLE_BIT,
+    is_marked, mark_of, page_of, page_of_mut, put_word, unmarked, with_mark, word_in, Entry, FrameIndex,
+    FrameRecord, Generator, Handle, PageNumber, Pool, State, MAX_USAGE, PAGE_SIZE, PAYLOAD_SIZE,
+    PAYLOAD_START, SLOTS, SWIZZLE_BIT,
 };
 use rules::rule;
 
+#[derive(Clone)]
 pub struct Model;
 
-/// The two readings of a word.
+/// The readings of a word, whether it marks what it names as locked or not. Request A.8: "page numbers and frame indices become the
+/// low 30 bits".
 #[derive(Clone, Copy, Debug, PartialEq, Eq)]
 enum Reading {
     Nothing,
+    /// Bit 30 "on a word of otherwise 0".
+    MarkAlone,
     Page(u32),
     Frame(u32),
 }
 
 fn read(word: u32) -> Reading {
+    let low = word % (1 << 30);
     if word == 0 {
         Reading::Nothing
-    } else if word < SWIZZLE_BIT {
-        Reading::Page(word)
+    } else if word >= SWIZZLE_BIT {
+        Reading::Frame(low)
+    } else if low == 0 {
+        Reading::MarkAlone
     } else {
-        Reading::Frame(word - SWIZZLE_BIT)
+        Reading::Page(low)
     }
 }
 
@@ -73,12 +82,19 @@ fn look_for(pool: &Pool, page: PageNumber) -> Found {
     Found { frame: None, looks }
 }
 
-/// The word with a frame replaced by the number of the page in it.
+/// The word with a frame replaced by the number of the page in it. The mark stays.
 fn unswizzled(pool: &Pool, word: u32) -> u32 {
     match read(word) {
-        Reading::Frame(frame) => u32::from(pool.records[frame as usize].page),
-        Reading::Nothing | Reading::Page(_) => word,
+        Reading::Frame(frame) => mark_of(word) + u32::from(pool.records[frame as usize].page),
+        Reading::Nothing | Reading::MarkAlone | Reading::Page(_) => word,
     }
+}
+
+/// Request A.8: "Bit 30 of a word marks the page it names as locked". The page in a frame is named by a word that is swizzled to
+/// it.
+fn is_locked(state: &State, frame: FrameIndex) -> bool {
+    let marks_it = |word| is_marked(word) && read(word) == Reading::Frame(frame.into());
+    occupied(&state.pool).any(|other| (0..SLOTS).any(|slot| marks_it(frame_word(&state.frames, other, slot))))
 }
 
 fn payload_in(buffer: Buffer, index: usize) -> Place {
@@ -130,7 +146,7 @@ impl Machine for Model {
         rules::handle(&state.pool, handle)?;
         rules::slot(slot)?;
         match read(frame_word(&state.frames, handle.frame, slot)) {
-            Reading::Nothing => Err(7),
+            Reading::Nothing | Reading::MarkAlone => Err(7),
             Reading::Frame(frame) => pin(state, FrameIndex(frame as u8)),
             Reading::Page(number) => {
                 let page = PageNumber(number as u16);
@@ -164,18 +180,19 @@ impl Machine for Model {
         })
     }
 
-    fn word(&self, state: &State, handle: Handle, slot: usize) -> Result<PageNumber, Refusal> {
+    fn word(&self, state: &State, handle: Handle, slot: usize) -> Result<Named, Refusal> {
         rules::state(state)?;
         rules::handle(&state.pool, handle)?;
         rules::slot(slot)?;
-        let word = frame_word(&state.frames, handle.frame, slot);
-        Ok(PageNumber(unswizzled(&state.pool, word) as u16))
+        let word = unswizzled(&state.pool, frame_word(&state.frames, handle.frame, slot));
+        Ok(Named { page: PageNumber(unmarked(word) as u16), locked: is_marked(word) })
     }
 
     fn write(&self, state: &mut State, handle: Handle, offset: usize, bytes: &[u8]) -> Result<(), Refusal> {
         rules::state(state)?;
         rules::handle(&state.pool, handle)?;
         rules::range(offset, bytes.len())?;
+        rules::unlocked(state, handle)?;
         let start = PAYLOAD_START + offset;
         page_of_mut(&mut state.frames, handle.frame.into())[start..start + bytes.len()]
             .copy_from_slice(bytes);
@@ -185,15 +202,22 @@ impl Machine for Model {
         Ok(())
     }
 
-    fn link(&self, state: &mut State, handle: Handle, slot: usize, page: PageNumber) -> Result<(), Refusal> {
+    fn link(
+        &self,
+        state: &mut State,
+        handle: Handle,
+        slot: usize,
+        page: PageNumber,
+        locked: bool,
+    ) -> Result<(), Refusal> {
         rules::state(state)?;
         rules::handle(&state.pool, handle)?;
         rules::slot(slot)?;
-        rule(6, page != PageNumber(0))?;
-        rules::page(&state.pool, page)?;
+        rules::unlocked(state, handle)?;
+        rules::linked_page(&state.pool, page)?;
         rules::unnamed(state, page)?;
         rule(8, frame_word(&state.frames, handle.frame, slot) == 0)?;
-        put_link(state, handle, slot, page.into());
+        put_link(state, handle, slot, with_mark(page.into(), locked));
         Ok(())
     }
 
@@ -201,9 +225,10 @@ impl Machine for Model {
         rules::state(state)?;
         rules::handle(&state.pool, handle)?;
         rules::slot(slot)?;
+        rules::unlocked(state, handle)?;
         let word = frame_word(&state.frames, handle.frame, slot);
         rule(7, word != 0)?;
-        let page = PageNumber(unswizzled(&state.pool, word) as u16);
+        let page = PageNumber(unmarked(unswizzled(&state.pool, word)) as u16);
         rule(10, frame_of(&state.pool, page).is_none())?;
         put_link(state, handle, slot, 0);
         Ok(())

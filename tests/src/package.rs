@@ -1,5 +1,5 @@
 //! The linked library through the package's own wrappers, behind the same trait.
-use crate::pool::{Buffer, Fixed, Found, Machine, Place, Refusal};
+use crate::pool::{Buffer, Fixed, Found, Machine, Named, Place, Refusal};
 use crate::records::{Entry, Generator, Handle, PageNumber, Pool, State};
 use pagepool::PagePool;
 
@@ -68,16 +68,25 @@ impl Machine for Package {
         place(state, shared(state).peek(page))
     }
 
-    fn word(&self, state: &State, handle: Handle, slot: usize) -> Result<PageNumber, Refusal> {
-        numbered(shared(state).word(handle, slot)).map(Option::unwrap_or_default)
+    fn word(&self, state: &State, handle: Handle, slot: usize) -> Result<Named, Refusal> {
+        let nothing = Named { page: PageNumber(0), locked: false };
+        let named = numbered(shared(state).word(handle, slot))?;
+        Ok(named.map_or(nothing, |pagepool::Named { page, locked }| Named { page, locked }))
     }
 
     fn write(&self, state: &mut State, handle: Handle, offset: usize, bytes: &[u8]) -> Result<(), Refusal> {
         change(state, |pool| pool.write(handle, offset, bytes))
     }
 
-    fn link(&self, state: &mut State, handle: Handle, slot: usize, page: PageNumber) -> Result<(), Refusal> {
-        change(state, |pool| pool.link(handle, slot, page))
+    fn link(
+        &self,
+        state: &mut State,
+        handle: Handle,
+        slot: usize,
+        page: PageNumber,
+        locked: bool,
+    ) -> Result<(), Refusal> {
+        change(state, |pool| pool.link(handle, slot, page, locked))
     }
 
     fn unlink(&self, state: &mut State, handle: Handle, slot: usize) -> Result<(), Refusal> {

@@ -1,4 +1,5 @@
 //! Document 01, "The plain map and the words of demand 3": what holds along an unaltered list of calls.
+mod locks;
 mod point;
 mod residency;
 
@@ -6,9 +7,10 @@ use crate::calls::{Answer, Call};
 use crate::ensure;
 use crate::pool::{Machine, Place};
 use crate::records::{
-    page_of, page_of_mut, put_word, word_in, FrameIndex, Handle, PageNumber, State, PAGE_SIZE, PAYLOAD_START,
-    SLOTS,
+    page_of, page_of_mut, put_word, with_mark, FrameIndex, Handle, PageNumber, State, PAGE_SIZE,
+    PAYLOAD_START, SLOTS,
 };
+use locks::Locks;
 use residency::{frame_found, Residency};
 
 /// Up to this N, a load asks find for every page.
@@ -25,16 +27,25 @@ struct Balance {
     frame: FrameIndex,
 }
 
-/// The plain map with no frames, and the balance of pins.
+/// The plain map with no frames, the balance of pins, and the locked pages.
+#[derive(Clone)]
 pub struct Plain {
     map: Vec<u8>,
     balance: Vec<Balance>,
+    locks: Locks,
 }
 
 impl Plain {
     /// "At the accepted open it is the store, byte for byte", and no page is pinned.
     pub fn open(store: &[u8]) -> Plain {
-        Plain { map: store.to_vec(), balance: vec![Balance::default(); store.len() / PAGE_SIZE] }
+        let balance = vec![Balance::default(); store.len() / PAGE_SIZE];
+        Plain { map: store.to_vec(), balance, locks: Locks::default() }
+    }
+
+    /// The same at an accepted open within a list: what is said of locked pages goes on across it.
+    pub fn reopen(&mut self, store: &[u8]) {
+        let locks = std::mem::take(&mut self.locks);
+        *self = Plain { locks, ..Plain::open(store) };
     }
 
     fn pages(&self) -> usize {
@@ -51,8 +62,8 @@ impl Plain {
                 let start = PAYLOAD_START + offset;
                 self.page_mut(handle.page)[start..start + bytes.len()].copy_from_slice(bytes);
             }
-            Call::Link(handle, slot, page) => {
-                put_word(self.page_mut(handle.page), *slot, (*page).into());
+            Call::Link(handle, slot, page, locked) => {
+                put_word(self.page_mut(handle.page), *slot, with_mark((*page).into(), *locked));
             }
             Call::Unlink(handle, slot) => put_word(self.page_mut(handle.page), *slot, 0),
             _ => {}
@@ -87,7 +98,7 @@ impl Plain {
 
     /// The page that a slot of a page names, 0 for none.
     fn named(&self, page: PageNumber, slot: usize) -> PageNumber {
-        PageNumber(word_in(self.page(page), slot) as u16)
+        self.word(page, slot).page
     }
 
     /// "the accepted roots and fixes that answered its number outnumber the accepted unfixes of it"
@@ -108,8 +119,8 @@ impl Plain {
             (Call::Peek(page), Answer::Place(place)) => {
                 self.check_payload(state, PageNumber(*page), place)?
             }
-            (Call::Word(handle, slot), Answer::Number(page)) => {
-                ensure!(PageNumber(*page) == self.named(handle.page, *slot), "word gives {page}");
+            (Call::Word(handle, slot), Answer::Named(named)) => {
+                ensure!(*named == self.word(handle.page, *slot), "word gives {named:?}");
             }
             (Call::Root, Answer::Fixed(fixed)) => {
                 self.check_handle(machine, state, PageNumber(0), fixed.handle)?;
@@ -162,14 +173,18 @@ impl Plain {
         let Call::Fix(handle, slot) = *call else {
             return false;
         };
-        let held = usize::from(handle.page) < self.pages()
-            && self.pinned(handle.page)
-            && frame_found(machine, state, handle.page) == Ok(Some(handle.frame));
-        if !held || slot >= SLOTS {
+        if !self.is_held(machine, state, handle) || slot >= SLOTS {
             return false;
         }
         let page = self.named(handle.page, slot);
         page != PageNumber(0) && frame_found(machine, state, page) == Ok(None)
+    }
+
+    /// A handle of a page that is pinned in its frame.
+    fn is_held(&self, machine: &impl Machine, state: &State, handle: Handle) -> bool {
+        usize::from(handle.page) < self.pages()
+            && self.pinned(handle.page)
+            && frame_found(machine, state, handle.page) == Ok(Some(handle.frame))
     }
 
     /// "none is empty and every resident page but the root is pinned or has a resident child"

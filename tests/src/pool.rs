@@ -18,6 +18,13 @@ pub struct Found {
     pub looks: u16,
 }
 
+/// The answer of word: the page that the word names, page 0 for none, and whether it marks that page as locked.
+#[derive(Clone, Copy, Debug, PartialEq, Eq)]
+pub struct Named {
+    pub page: PageNumber,
+    pub locked: bool,
+}
+
 #[derive(Clone, Copy, Debug, PartialEq, Eq)]
 pub enum Buffer {
     Frames,
@@ -51,9 +58,16 @@ pub trait Machine {
     fn unfix(&self, state: &mut State, handle: Handle) -> Result<(), Refusal>;
     fn show(&self, state: &State, handle: Handle) -> Result<Place, Refusal>;
     fn peek(&self, state: &State, page: PageNumber) -> Result<Place, Refusal>;
-    fn word(&self, state: &State, handle: Handle, slot: usize) -> Result<PageNumber, Refusal>;
+    fn word(&self, state: &State, handle: Handle, slot: usize) -> Result<Named, Refusal>;
     fn write(&self, state: &mut State, handle: Handle, offset: usize, bytes: &[u8]) -> Result<(), Refusal>;
-    fn link(&self, state: &mut State, handle: Handle, slot: usize, page: PageNumber) -> Result<(), Refusal>;
+    fn link(
+        &self,
+        state: &mut State,
+        handle: Handle,
+        slot: usize,
+        page: PageNumber,
+        locked: bool,
+    ) -> Result<(), Refusal>;
     fn unlink(&self, state: &mut State, handle: Handle, slot: usize) -> Result<(), Refusal>;
     fn evict(&self, state: &mut State, page: PageNumber) -> Result<(), Refusal>;
     fn settle(&self, state: &mut State) -> Result<(), Refusal>;

@@ -6,6 +6,32 @@ pub use pagepool::{
 
 pub const SWIZZLE_BIT: u32 = 1 << 31;
 
+/// Request A.8: "Bit 30 of a word marks the page it names as locked".
+pub const LOCK_BIT: u32 = 1 << 30;
+
+/// The mark of a word, or none.
+pub const fn mark_of(word: u32) -> u32 {
+    word & LOCK_BIT
+}
+
+pub const fn is_marked(word: u32) -> bool {
+    mark_of(word) != 0
+}
+
+/// A word without its mark: what it names.
+pub const fn unmarked(word: u32) -> u32 {
+    word & !LOCK_BIT
+}
+
+/// What a word names, with the mark or without it.
+pub const fn with_mark(name: u32, locked: bool) -> u32 {
+    if locked {
+        name | LOCK_BIT
+    } else {
+        name
+    }
+}
+
 /// All that a call is handed: the records, and the frames and the store that the host lends.
 #[derive(Clone, PartialEq, Eq)]
 pub struct State {

@@ -1,8 +1,8 @@
 //! Chooses random calls that reach deep into the rules: most arguments fit the state, some break a rule.
 use crate::calls::Call;
 use crate::records::{
-    self, word_in, FrameIndex, FrameRecord, Handle, PageNumber, State, PAGE_SIZE, PAYLOAD_SIZE,
-    PAYLOAD_START, SLOTS, SWIZZLE_BIT,
+    self, is_marked, unmarked, word_in, FrameIndex, FrameRecord, Handle, PageNumber, State, PAGE_SIZE,
+    PAYLOAD_SIZE, PAYLOAD_START, SLOTS, SWIZZLE_BIT,
 };
 use random::Random;
 
@@ -76,9 +76,18 @@ pub fn call(random: &mut Random, state: &State, index: usize) -> Call {
         4 => Call::Show(handle),
         5 => Call::Peek(page(random, state)),
         6 => Call::Word(handle, named_slot(random, state, handle)),
-        7 => write(random, state, handle),
-        8 => link(random, state, handle),
-        9 => Call::Unlink(handle, named_slot(random, state, handle)),
+        7 => {
+            let handle = edited(random, state, handle);
+            write(random, state, handle)
+        }
+        8 => {
+            let handle = edited(random, state, handle);
+            link(random, state, handle)
+        }
+        9 => {
+            let handle = edited(random, state, handle);
+            Call::Unlink(handle, unlinked_slot(random, state, handle))
+        }
         10 => Call::Evict(evict_page(random, state)),
         11 => Call::Settle,
         _ => Call::Find(page(random, state)),
@@ -97,6 +106,20 @@ fn handle(random: &mut Random, state: &State) -> Handle {
         Some(handle) if random.percent(92) => handle,
         Some(handle) => spoilt_handle(random, state, handle),
         None => unpinned_handle(random, state),
+    }
+}
+
+/// A handle for an edit: at times that of a pinned page that is locked.
+fn edited(random: &mut Random, state: &State, handle: Handle) -> Handle {
+    let is_locked = |(frame, record): &(FrameIndex, &FrameRecord)| {
+        let inside = usize::from(record.parent) < state.frame_count() && usize::from(record.slot) < SLOTS;
+        let marked = || state.words(record.parent).nth(record.slot.into()).is_some_and(is_marked);
+        *frame != FrameIndex(0) && record.pins > 0 && inside && marked()
+    };
+    let locked = state.occupied().filter(is_locked);
+    match random.choose(locked.map(|(frame, record)| Handle { frame, page: record.page })) {
+        Some(locked) if random.percent(12) => locked,
+        _ => handle,
     }
 }
 
@@ -119,7 +142,7 @@ fn spoilt_handle(random: &mut Random, state: &State, good: Handle) -> Handle {
     }
 }
 
-/// Whether a word is a page number.
+/// Whether a word is a page number, marked or not.
 fn is_number(word: u32) -> bool {
     word != 0 && word < SWIZZLE_BIT
 }
@@ -146,8 +169,9 @@ fn fix(random: &mut Random, state: &State, handle: Handle) -> Call {
     }
 }
 
-/// A link: most of the time into an empty slot, otherwise into one that is taken.
+/// A link: most of the time into an empty slot, otherwise into one that is taken. Three in ten have the mark.
 fn link(random: &mut Random, state: &State, handle: Handle) -> Call {
+    let locked = random.percent(30);
     match random.choose(pinned_slots(state, |word| word != 0)) {
         Some((handle, slot)) if random.percent(30) => {
             let page = match random.below(5) {
@@ -155,18 +179,18 @@ fn link(random: &mut Random, state: &State, handle: Handle) -> Call {
                 1 => random.choose(named_in_store(state)),
                 _ => None,
             };
-            Call::Link(handle, slot, page.unwrap_or_else(|| link_page(random, state)))
+            Call::Link(handle, slot, page.unwrap_or_else(|| link_page(random, state)), locked)
         }
         _ => {
             let slot = free_slot(random, state, handle);
-            Call::Link(handle, slot, link_page(random, state))
+            Call::Link(handle, slot, link_page(random, state), locked)
         }
     }
 }
 
 /// The page that a slot of a frame names.
 fn named_in(state: &State, frame: FrameIndex, slot: usize) -> Option<u16> {
-    let word = state.words(frame).nth(slot)?;
+    let word = unmarked(state.words(frame).nth(slot)?);
     match word.checked_sub(SWIZZLE_BIT) {
         Some(frame) => state.pool.records.get(frame as usize).map(|record| record.page.0),
         None => Some(word as u16),
@@ -178,7 +202,7 @@ fn named_in_store(state: &State) -> Vec<u16> {
     let resident: Vec<u16> = state.occupied().map(|(_, record)| record.page.0).collect();
     let stored = (0..).zip(state.store.chunks_exact(PAGE_SIZE)).filter(|(page, _)| !resident.contains(page));
     let words = stored.flat_map(|(_, page)| (0..SLOTS).map(|slot| word_in(page, slot)));
-    words.filter(|word| *word != 0).map(|word| word as u16).collect()
+    words.map(unmarked).filter(|word| *word != 0).map(|word| word as u16).collect()
 }
 
 /// A slot, at times above 15.
@@ -203,6 +227,15 @@ fn slot_where(random: &mut Random, state: &State, handle: Handle, test: fn(u32) 
 fn named_slot(random: &mut Random, state: &State, handle: Handle) -> usize {
     let test = if random.percent(60) { is_number } else { |word| word != 0 };
     slot_where(random, state, handle, test)
+}
+
+/// A slot to unlink: most of the time one that names a page, otherwise any.
+fn unlinked_slot(random: &mut Random, state: &State, handle: Handle) -> usize {
+    if random.percent(85) {
+        named_slot(random, state, handle)
+    } else {
+        any_slot(random)
+    }
 }
 
 fn free_slot(random: &mut Random, state: &State, handle: Handle) -> usize {
@@ -273,7 +306,7 @@ fn unlinked(state: &State) -> Vec<u16> {
     for (frame, record) in state.occupied() {
         if let Some(page) = stored(record.page) {
             let cleared = slots_where(state, frame, |word| word == 0);
-            pages.extend(cleared.map(|slot| word_in(page, slot) as u16).filter(|page| *page != 0));
+            pages.extend(cleared.map(|slot| unmarked(word_in(page, slot)) as u16).filter(|page| *page != 0));
         }
     }
     pages
@@ -282,7 +315,7 @@ fn unlinked(state: &State) -> Vec<u16> {
 /// A word of the store as it stands gives the page, or it is resident.
 fn seems_named(state: &State, page: u16) -> bool {
     let mut stored = state.store.chunks_exact(PAGE_SIZE);
-    stored.any(|other| (0..SLOTS).any(|slot| word_in(other, slot) == page.into()))
+    stored.any(|other| (0..SLOTS).any(|slot| unmarked(word_in(other, slot)) == page.into()))
         || state.occupied().any(|(_, record)| record.page.0 == page)
 }
 

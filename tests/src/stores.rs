@@ -1,9 +1,10 @@
 //! Random sound stores.
-use crate::records::{page_of_mut, put_word, word_in, PAGE_SIZE, PAYLOAD_START, SLOTS};
+use crate::records::{page_of_mut, put_word, with_mark, word_in, PAGE_SIZE, PAYLOAD_START, SLOTS};
 use random::Random;
 
-/// N pages with random payloads. So many in a hundred are named by a word, most of them in a tree below the root.
-pub fn sound_store(random: &mut Random, pages: usize, named: usize) -> Vec<u8> {
+/// N pages with random payloads. So many in a hundred are named by a word, most of them in a tree below the root, and so many of
+/// these words are marked, in reach or not.
+pub fn sound_store(random: &mut Random, pages: usize, named: usize, marked: usize) -> Vec<u8> {
     let mut store = vec![0; PAGE_SIZE * pages];
     for page in 0..pages {
         random.fill(&mut page_of_mut(&mut store, page)[PAYLOAD_START..]);
@@ -11,7 +12,8 @@ pub fn sound_store(random: &mut Random, pages: usize, named: usize) -> Vec<u8> {
     for page in 1..pages {
         if random.percent(named) {
             let parent = parent_for(random, page, pages);
-            name_in(random, page_of_mut(&mut store, parent), page);
+            let word = with_mark(page as u32, random.percent(marked));
+            name_in(random, page_of_mut(&mut store, parent), word);
         }
     }
     store
@@ -26,10 +28,10 @@ fn parent_for(random: &mut Random, page: usize, pages: usize) -> usize {
     }
 }
 
-/// Puts a page's number into an empty slot, if the one tried is.
-fn name_in(random: &mut Random, parent: &mut [u8], page: usize) {
-    let slot = random.below(SLOTS);
+/// Puts a word into an empty slot, if the one tried is: the first more often than any other, since the root's parent fields are 0.
+fn name_in(random: &mut Random, parent: &mut [u8], word: u32) {
+    let slot = if random.percent(15) { 0 } else { random.below(SLOTS) };
     if word_in(parent, slot) == 0 {
-        put_word(parent, slot, page as u32);
+        put_word(parent, slot, word);
     }
 }

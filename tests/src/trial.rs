@@ -8,7 +8,7 @@ use crate::records::{
     PAGE_SIZE,
 };
 
-/// A word of a stored page: the page, the slot, and the page that it names.
+/// A word of a stored page: the page, the slot, and the word, which is the page that it names, with the mark or without.
 pub type Link = (usize, usize, u32);
 
 /// A pool of so many frames and 16 pages: pages 5, 6 and 7 are in frames 1, 2 and 3, under slots 1, 2 and 3 of the root, and page
@@ -87,6 +87,14 @@ impl Trial {
         match self.call(Call::Find(page)) {
             Answer::Found(found) => (found.frame.map(|frame| frame.0), found.looks),
             other => panic!("find {page}: {other:?}"),
+        }
+    }
+
+    /// The page that a slot names, 0 for none, and whether the word marks it as locked.
+    pub fn word(&mut self, page: Handle, slot: usize) -> (u16, bool) {
+        match self.call(Call::Word(page, slot)) {
+            Answer::Named(named) => (named.page.0, named.locked),
+            other => panic!("word {slot} of {page:?}: {other:?}"),
         }
     }
 

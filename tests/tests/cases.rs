@@ -1,4 +1,4 @@
-//! Document 01's bench cases, executed, and what request A.5 makes of its sweep.
+//! Document 01's bench cases, executed, and what requests A.5 and A.8 make of its sweep and of its words.
 use pool_tests::calls::{Answer, Call};
 use pool_tests::coverage::Coverage;
 use pool_tests::history::History;
@@ -16,7 +16,7 @@ fn a_word_names_a_frame() {
     let (mut trial, root) = three_children(4);
     assert_eq!(word_bytes(&trial, 3), [0x03, 0x00, 0x00, 0x80]);
     assert_eq!(trial.find(7), (Some(3), 4));
-    assert_eq!(trial.call(Call::Word(root, 3)), Answer::Number(7));
+    assert_eq!(trial.word(root, 3), (7, false));
     assert_eq!(trial.fix(root, 3), handle(3, 7));
 }
 
@@ -24,22 +24,48 @@ fn a_word_names_a_frame() {
 fn a_word_names_a_page() {
     let mut trial = Trial::open(4, 16, &[]);
     let root = trial.root();
-    trial.accept(Call::Link(root, 3, 7));
+    trial.accept(Call::Link(root, 3, 7, false));
     assert_eq!(word_bytes(&trial, 3), [0x07, 0x00, 0x00, 0x00]);
-    assert_eq!(trial.call(Call::Word(root, 3)), Answer::Number(7));
+    assert_eq!(trial.word(root, 3), (7, false));
     assert_eq!(trial.fix(root, 3).page, PageNumber(7));
+}
+
+/// A.8: bytes 03 00 00 C0 name frame 3, and bytes 07 00 00 40 page 7, as locked.
+#[test]
+fn a_marked_word_names_the_same() {
+    let mut trial = Trial::open(4, 16, &[(0, 1, 5), (0, 2, 6), (0, 3, 0x4000_0007)]);
+    let root = trial.root();
+    assert_eq!(word_bytes(&trial, 3), [0x07, 0x00, 0x00, 0x40]);
+    assert_eq!(trial.word(root, 3), (7, true));
+    for slot in 1..4 {
+        trial.fix(root, slot);
+    }
+    assert_eq!(word_bytes(&trial, 3), [0x03, 0x00, 0x00, 0xc0]);
+    assert_eq!(trial.word(root, 3), (7, true));
+    assert_eq!(trial.fix(root, 3), handle(3, 7));
+}
+
+/// Links page 7 in the root, with the mark or without, and fixes it in frame 1. Gives the word, and the one in the root's image.
+fn word_and_image(locked: bool) -> [u32; 2] {
+    let mut trial = Trial::open(4, 16, &[]);
+    let root = trial.root();
+    trial.accept(Call::Link(root, 0, 7, locked));
+    assert_eq!(trial.fix(root, 0).frame, FrameIndex(1));
+    let word = trial.frame_word(0, 0);
+    trial.accept(Call::Settle);
+    assert_eq!(trial.frame_word(0, 0), word);
+    [word, trial.stored_word(0, 0)]
 }
 
 #[test]
 fn an_image_names_pages() {
-    let mut trial = Trial::open(4, 16, &[]);
-    let root = trial.root();
-    trial.accept(Call::Link(root, 0, 7));
-    assert_eq!(trial.fix(root, 0).frame, FrameIndex(1));
-    assert_eq!(trial.frame_word(0, 0), 0x8000_0001);
-    trial.accept(Call::Settle);
-    assert_eq!(trial.stored_word(0, 0), 0x0000_0007);
-    assert_eq!(trial.frame_word(0, 0), 0x8000_0001);
+    assert_eq!(word_and_image(false), [0x8000_0001, 0x0000_0007]);
+}
+
+/// A.8: word 0xC0000001, frame 1 holding page 7: the image's word is 0x40000007.
+#[test]
+fn an_image_keeps_the_mark() {
+    assert_eq!(word_and_image(true), [0xc000_0001, 0x4000_0007]);
 }
 
 #[test]
@@ -61,7 +87,7 @@ fn slots_end_at_15() {
     assert_eq!(trial.number(Call::Word(root, 15)), 0);
     assert_eq!(trial.number(Call::Fix(root, 15)), 0);
     let slot_16 =
-        [Call::Word(root, 16), Call::Fix(root, 16), Call::Link(root, 16, 2), Call::Unlink(root, 16)];
+        [Call::Word(root, 16), Call::Fix(root, 16), Call::Link(root, 16, 2, false), Call::Unlink(root, 16)];
     for call in slot_16 {
         assert_eq!(trial.number(call), 4);
     }
@@ -154,9 +180,12 @@ fn sweeps_that_end_within_a_round() {
 fn the_last_page_of_4096() {
     let mut trial = Trial::open(4, 4096, &[]);
     let root = trial.root();
-    assert_eq!(trial.number(Call::Link(root, 0, 4095)), 0);
-    assert_eq!(trial.number(Call::Link(root, 1, 4096)), 6);
+    assert_eq!(trial.number(Call::Link(root, 0, 4095, false)), 0);
+    assert_eq!(trial.number(Call::Link(root, 1, 4096, false)), 6);
+    assert_eq!(trial.number(Call::Link(root, 1, 4096, true)), 6);
+    assert_eq!(trial.number(Call::Link(root, 1, 4094, true)), 0);
     assert_eq!(trial.fix(root, 0), handle(1, 4095));
+    assert_eq!(trial.word(root, 1), (4094, true));
 }
 
 #[test]
@@ -164,7 +193,7 @@ fn the_calls_of_the_listing() {
     let mut trial = Trial::open(4, 16, &[]);
     let root = trial.root();
     assert_eq!(root, handle(0, 0));
-    assert_eq!(trial.number(Call::Link(root, 3, 7)), 0);
+    assert_eq!(trial.number(Call::Link(root, 3, 7, false)), 0);
     let child = trial.fix(root, 3);
     assert_eq!(child, handle(1, 7));
     assert_eq!(trial.number(Call::Evict(7)), 21);

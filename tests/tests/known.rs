@@ -82,7 +82,7 @@ fn recorded(call: &Call) -> Option<record::Call> {
         Call::Fix(handle, slot) => record::Call::Fix { slot: *slot as u8, handle: of(handle) },
         Call::Unfix(handle) => record::Call::Unfix { handle: of(handle) },
         Call::Write(handle, ..) => record::Call::Write { offset: 0, data: vec![], handle: of(handle) },
-        Call::Link(handle, slot, page) => {
+        Call::Link(handle, slot, page, _) => {
             record::Call::Link { page: *page, slot: *slot as u8, handle: of(handle) }
         }
         Call::Unlink(handle, slot) => record::Call::Unlink { slot: *slot as u8, handle: of(handle) },
@@ -101,6 +101,14 @@ fn line(answer: &Answer) -> Line {
     Line { call: 0, refusal: 0, frame, page }
 }
 
+/// Request A.8: "Link takes the mark, in the listing never."
+fn never_marked(call: Call) -> Call {
+    match call {
+        Call::Link(handle, slot, page, _) => Call::Link(handle, slot, page, false),
+        other => other,
+    }
+}
+
 /// A link or fix below a pinned page, below the root only where no other is pinned, so that other pages become parents; an unfix;
 /// or an evict of a resident page.
 fn below_others(random: &mut Random, state: &State) -> Call {
@@ -110,7 +118,7 @@ fn below_others(random: &mut Random, state: &State) -> Call {
     let others = handles.into_iter().filter(|handle| handle.frame != FrameIndex(0));
     let (parent, slot) = (random.choose(others).unwrap_or(any), random.below(3));
     match random.below(10) {
-        0..4 => Call::Link(parent, slot, random.between(1, 15) as u16),
+        0..4 => Call::Link(parent, slot, random.between(1, 15) as u16, false),
         4..7 => Call::Fix(parent, slot),
         7 => Call::Unfix(any),
         _ => Call::Evict(random.choose(state.occupied().map(|(_, record)| record.page.0)).unwrap_or(0)),
@@ -128,7 +136,7 @@ fn a_page_that_stays_goes_as_told() {
         for _ in 0..400 {
             let state = &listed.trial.state;
             let call = if random.percent(40) {
-                steer.next(&mut random, state)
+                never_marked(steer.next(&mut random, state))
             } else {
                 below_others(&mut random, state)
             };
@@ -145,7 +153,7 @@ fn a_page_that_stays_goes_as_told() {
                 }
             }
             let hand = listed.trial.state.pool.hand;
-            listed.call(&call);
+            assert_ne!(listed.call(&call), 26, "{call:?}");
             swept += usize::from(listed.trial.state.pool.hand != hand);
         }
     }

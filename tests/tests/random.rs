@@ -7,8 +7,9 @@ use pool_tests::draws::Draws;
 use pool_tests::history::History;
 use pool_tests::lockstep::step;
 use pool_tests::model::drawing::Drawing;
+use pool_tests::model::locks::Lock;
 use pool_tests::pool::UnderTest;
-use pool_tests::records::{State, PAGE_SIZE};
+use pool_tests::records::{put_word, State, LOCK_BIT, PAGE_SIZE, SLOTS};
 use pool_tests::runs;
 use pool_tests::steer::{self, Steer};
 use pool_tests::stores::sound_store;
@@ -40,13 +41,15 @@ fn run(
 }
 
 /// A link into a taken slot must have met every namer of its page, an evict every reason to stay, a fix have done everything that
-/// it can do to usages, a find have ended wherever it can, and a draw have shown all that it can but for some.
+/// it can do to usages, a find have ended wherever it can, a draw have shown all that it can but for some, and calls have met all
+/// that they can of marks and locked pages.
 fn met_every_case(coverage: &Coverage, never_drawn: &[Drawing]) {
     assert_eq!(coverage.missing_namers(), [], "namers that no link into a taken slot met");
     assert_eq!(coverage.missing_stays(), [], "reasons to stay that no evict met");
     assert_eq!(coverage.missing_warmths(), [], "what no fix did to usages");
     assert_eq!(coverage.missing_ends(), [], "where no find ended");
     assert_eq!(coverage.missing_drawings(&Drawing::ALL), never_drawn, "what no draw showed");
+    assert_eq!(coverage.missing_locks(&Lock::ALL), [], "what no call met of marks and locked pages");
 }
 
 /// F and N, most of them small, so that frames are few and words meet.
@@ -59,6 +62,16 @@ fn sizes(random: &mut Random) -> (usize, usize) {
     }
 }
 
+/// Bytes for frames before an open: any, at times with words that are bit 30 alone.
+fn free_bytes(random: &mut Random, frames: usize) -> Vec<u8> {
+    let mut bytes = random.bytes(PAGE_SIZE * frames);
+    if random.percent(30) {
+        let slot = random.below(SLOTS);
+        bytes.chunks_exact_mut(PAGE_SIZE).for_each(|page| put_word(page, slot, LOCK_BIT));
+    }
+    bytes
+}
+
 /// Opens a pool over a random store; the frames' bytes before it are free.
 fn begin<'a>(
     random: &mut Random,
@@ -66,8 +79,9 @@ fn begin<'a>(
     coverage: &mut Coverage,
 ) -> Result<History<'a, UnderTest>, String> {
     let named = random.pick(&[0, 40, 70, 95]);
-    let store = sound_store(random, pages, named);
-    History::open(&UnderTest, random.bytes(PAGE_SIZE * frames), store, coverage)
+    let marked = random.pick(&[0, 10, 30, 70]);
+    let store = sound_store(random, pages, named, marked);
+    History::open(&UnderTest, free_bytes(random, frames), store, coverage)
 }
 
 /// Makes so many calls, draws records between them, and checks every so many points whole.
@@ -105,6 +119,7 @@ fn unaltered_lists() {
         go_on(random, &mut history, 1000, every, coverage)
     });
     met_every_case(&coverage, &[Drawing::Refused(1), Drawing::Refused(2)]);
+    assert_eq!(coverage.missing_locks(&Lock::ALTERED), Lock::ALTERED, "what no unaltered list meets");
 }
 
 /// Every call on a copy of a state, each with arguments of its own.
@@ -156,6 +171,8 @@ fn altered_states() {
         damaged_states(random, &history.state, 110, coverage)
     });
     met_every_case(&coverage, &[]);
+    let altered = [&Lock::ALTERED[..], &[Lock::BadNumber(16)]].concat();
+    assert_eq!(coverage.missing_locks(&altered), [], "what no altered state met of marks and locked pages");
 }
 
 #[test]

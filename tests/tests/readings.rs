@@ -2,9 +2,10 @@
 use pool_tests::calls::{Answer, Call, NAMES};
 use pool_tests::pool::{Buffer, Fixed, Machine, Place, UnderTest};
 use pool_tests::records::{
-    handle, Entry, FrameIndex, FrameRecord, Generator, Handle, PageNumber, Pool, PAGE_SIZE, SWIZZLE_BIT,
+    handle, with_mark, Entry, FrameIndex, FrameRecord, Generator, Handle, PageNumber, Pool, LOCK_BIT,
+    PAGE_SIZE, SWIZZLE_BIT,
 };
-use pool_tests::trial::{three_children, Trial};
+use pool_tests::trial::{three_children, Link, Trial};
 use words::rules::Table;
 
 /// The store lags behind the map: a page that moved can stand in two stored words.
@@ -12,12 +13,12 @@ use words::rules::Table;
 fn an_open_in_between_can_be_refused() {
     let mut trial = Trial::open(4, 16, &[]);
     let root = trial.root();
-    trial.accept(Call::Link(root, 0, 5));
-    trial.accept(Call::Link(root, 1, 7));
+    trial.accept(Call::Link(root, 0, 5, false));
+    trial.accept(Call::Link(root, 1, 7, false));
     trial.accept(Call::Settle);
     let five = trial.fix(root, 0);
     trial.accept(Call::Unlink(root, 1));
-    trial.accept(Call::Link(five, 0, 7));
+    trial.accept(Call::Link(five, 0, 7, false));
     trial.accept(Call::Unfix(five));
     trial.accept(Call::Evict(5));
     assert_eq!(trial.number(Call::Open), 16);
@@ -103,23 +104,34 @@ fn the_first_broken_rule_answers() {
     let first = |call: &Call, broken: &[u8]| {
         table.answers(NAMES[call.index()]).find(|number| broken.contains(number)).expect("one of its rules")
     };
-    let (mut trial, [root, five, _]) = two_children();
+    let (mut trial, [root, five, six]) = two_children();
     trial.put_stored_word(12, 14, 16);
-    trial.accept(Call::Link(five, 0, 8));
+    trial.accept(Call::Link(five, 0, 8, false));
+    trial.accept(Call::Link(six, 1, 9, false));
+    trial.put_frame_word(0, 2, LOCK_BIT | trial.frame_word(0, 2));
     let eight = trial.fix(five, 0);
     trial.accept(Call::Unfix(eight));
     let stale = handle(3, 7);
-    let cases: [(Call, &[u8]); 13] = [
+    let cases: [(Call, &[u8]); 22] = [
+        (Call::Write(six, 193, vec![]), &[5, 26]),
+        (Call::Write(six, 0, vec![]), &[26]),
+        (Call::Unlink(six, 16), &[4, 26]),
+        (Call::Unlink(six, 0), &[7, 26]),
+        (Call::Link(six, 16, 0, false), &[4, 6, 26]),
+        (Call::Link(six, 0, 0, false), &[6, 26]),
+        (Call::Link(six, 0, 5, false), &[9, 26]),
+        (Call::Link(six, 1, 10, true), &[8, 26]),
+        (Call::Link(six, 1, 9, true), &[8, 9, 26]),
         (Call::Fix(stale, 16), &[3, 4]),
         (Call::Word(stale, 16), &[3, 4]),
         (Call::Write(stale, 193, vec![]), &[3, 5]),
         (Call::Unlink(stale, 16), &[3, 4]),
-        (Call::Link(stale, 16, 0), &[3, 4, 6]),
-        (Call::Link(root, 16, 0), &[4, 6]),
-        (Call::Link(five, 1, 16), &[6, 9]),
-        (Call::Link(root, 1, 16), &[6, 8, 9]),
-        (Call::Link(root, 1, 0), &[6, 8]),
-        (Call::Link(root, 1, 6), &[8, 9]),
+        (Call::Link(stale, 16, 0, false), &[3, 4, 6]),
+        (Call::Link(root, 16, 0, false), &[4, 6]),
+        (Call::Link(five, 1, 16, false), &[6, 9]),
+        (Call::Link(root, 1, 16, false), &[6, 8, 9]),
+        (Call::Link(root, 1, 0, false), &[6, 8]),
+        (Call::Link(root, 1, 6, false), &[8, 9]),
         (Call::Evict(16), &[6, 11]),
         (Call::Evict(0), &[20, 21, 22]),
         (Call::Evict(5), &[21, 22]),
@@ -151,7 +163,7 @@ fn a_flag_is_zero_or_one() {
         Call::Peek(9),
         Call::Word(root, 1),
         Call::Write(five, 0, vec![2]),
-        Call::Link(root, 0, 9),
+        Call::Link(root, 0, 9, false),
         Call::Unlink(root, 3),
         Call::Evict(6),
         Call::Settle,
@@ -258,10 +270,10 @@ fn a_stale_handle_is_good_again() {
 #[test]
 fn page_0_is_refused_in_link_alone() {
     let (mut trial, [root, ..]) = two_children();
-    assert_eq!(trial.number(Call::Link(root, 5, 0)), 6);
+    assert_eq!(trial.number(Call::Link(root, 5, 0, false)), 6);
     assert_eq!(trial.number(Call::Evict(0)), 20);
     assert_eq!(trial.find(0), (Some(0), 1));
-    for call in [Call::Peek(16), Call::Find(16), Call::Evict(16), Call::Link(root, 5, 16)] {
+    for call in [Call::Peek(16), Call::Find(16), Call::Evict(16), Call::Link(root, 5, 16, false)] {
         assert_eq!(trial.number(call), 6);
     }
 }
@@ -304,7 +316,7 @@ fn pins_count_on_where_usage_stops() {
 fn settle_marks_clean() {
     let (mut trial, [_, five, six]) = two_children();
     trial.accept(Call::Write(five, 7, vec![1, 2, 3]));
-    trial.accept(Call::Link(six, 0, 8));
+    trial.accept(Call::Link(six, 0, 8, false));
     assert_eq!([1, 2].map(|frame| trial.record(frame).is_dirty()), [true, true]);
     trial.accept(Call::Settle);
     assert_eq!([1, 2].map(|frame| trial.record(frame).is_dirty()), [false, false]);
@@ -385,14 +397,14 @@ fn equal_bytes_are_dirty_and_none_are_not() {
 #[test]
 fn link_asks_images_and_the_rest_of_the_store() {
     let (mut trial, [root, five, _]) = two_children();
-    assert_eq!(trial.number(Call::Link(five, 0, 6)), 9, "a swizzled word names it");
-    assert_eq!(trial.number(Call::Link(five, 0, 7)), 9, "a number names it");
+    assert_eq!(trial.number(Call::Link(five, 0, 6, false)), 9, "a swizzled word names it");
+    assert_eq!(trial.number(Call::Link(five, 0, 7, false)), 9, "a number names it");
     trial.accept(Call::Unlink(root, 3));
-    trial.accept(Call::Link(five, 0, 7));
+    trial.accept(Call::Link(five, 0, 7, false));
     trial.put_stored_word(12, 15, 8);
-    assert_eq!(trial.number(Call::Link(five, 1, 8)), 9, "a page out of reach names it");
+    assert_eq!(trial.number(Call::Link(five, 1, 8, false)), 9, "a page out of reach names it");
     trial.put_stored_word(5, 15, 9);
-    trial.accept(Call::Link(five, 1, 9));
+    trial.accept(Call::Link(five, 1, 9, false));
 }
 
 /// A.9: a page that is named is refused by 9 in a taken slot too, and one that isn't by 8, which an empty slot then takes.
@@ -414,9 +426,9 @@ fn a_named_page_comes_before_a_taken_slot() {
         (1, 0, 6, "page 0"),
         (3, 16, 6, "a page not below N, though a stored word has its number"),
     ] {
-        assert_eq!(trial.number(Call::Link(root, slot, page)), number, "{why}");
+        assert_eq!(trial.number(Call::Link(root, slot, page, false)), number, "{why}");
     }
-    trial.accept(Call::Link(five, 0, 10));
+    trial.accept(Call::Link(five, 0, 10, false));
 }
 
 /// A.4: the root is refused by 20 pinned or not, a pinned page by 21 also where it is a parent, a parent without pins by 22, and
@@ -744,10 +756,340 @@ fn a_refused_draw_leaves_the_generator() {
     assert_eq!(generator.number, 3_867_844_562);
 }
 
-/// Rule 14 on each of its grounds.
+/// Page 5, which a marked word names, and page 6, in frames 1 and 2 under slots 1 and 2 of the root; all three pinned. Page 5 names
+/// page 8, and page 6 page 9 by a marked word; neither is resident.
+fn one_locked() -> (Trial, [Handle; 3]) {
+    let words = [(0, 1, LOCK_BIT | 5), (0, 2, 6), (5, 3, 8), (6, 3, LOCK_BIT | 9)];
+    let mut trial = Trial::open(5, 16, &words);
+    let root = trial.root();
+    let handles = [root, trial.fix(root, 1), trial.fix(root, 2)];
+    (trial, handles)
+}
+
+/// A.8: "Whoever writes, links, unlinks .. in a locked page is refused": one that the mark's word names, and no other call.
+#[test]
+fn a_locked_page_is_not_edited() {
+    let (mut trial, [_, five, six]) = one_locked();
+    let edits = |page| [Call::Write(page, 0, vec![1]), Call::Link(page, 0, 10, false), Call::Unlink(page, 3)];
+    assert_eq!(edits(five).map(|call| trial.number(call)), [26; 3]);
+    assert_eq!(edits(six).map(|call| trial.number(call)), [0; 3]);
+    let eight = trial.fix(five, 3);
+    trial.accept(Call::Unfix(eight));
+    trial.accept(Call::Evict(8));
+    for call in [Call::Show(five), Call::Peek(5), Call::Find(5), Call::Word(five, 3), Call::Settle] {
+        trial.accept(call);
+    }
+    trial.accept(Call::Unfix(five));
+    trial.accept(Call::Evict(5));
+}
+
+/// A.8: "26: the handle's page is locked, after 5 and before 6".
+#[test]
+fn a_locked_page_comes_after_5_and_before_6() {
+    let (mut trial, [_, five, _]) = one_locked();
+    trial.fix(five, 3);
+    let stale = handle(1, 6);
+    for (call, number, why) in [
+        (Call::Write(stale, 193, vec![]), 3, "another page's handle"),
+        (Call::Write(five, 193, vec![]), 5, "an offset above 192"),
+        (Call::Write(five, 192, vec![1]), 5, "a length above 192 - offset"),
+        (Call::Write(five, 192, vec![]), 26, "no bytes, at the end"),
+        (Call::Write(five, 0, vec![]), 26, "no bytes"),
+        (Call::Write(five, 0, vec![0]), 26, "the bytes that stand there"),
+        (Call::Link(stale, 16, 0, false), 3, "another page's handle"),
+        (Call::Link(five, 16, 0, false), 4, "a slot above 15"),
+        (Call::Link(five, 0, 0, false), 26, "page 0"),
+        (Call::Link(five, 0, 16, true), 26, "a page not below N"),
+        (Call::Link(five, 0, 6, false), 26, "a page that is named"),
+        (Call::Link(five, 3, 10, true), 26, "a taken slot"),
+        (Call::Link(five, 3, 8, false), 26, "a taken slot, and the page in it"),
+        (Call::Link(five, 0, 10, true), 26, "nothing else"),
+        (Call::Unlink(stale, 16), 3, "another page's handle"),
+        (Call::Unlink(five, 16), 4, "a slot above 15"),
+        (Call::Unlink(five, 0), 26, "a word of 0"),
+        (Call::Unlink(five, 3), 26, "a resident page"),
+    ] {
+        assert_eq!(trial.number(call.clone()), number, "{call:?}: {why}");
+    }
+}
+
+/// A.8, "marks the page it names": neither what lies below it nor what names it is locked.
+#[test]
+fn a_lock_is_one_pages() {
+    let (mut trial, [root, five, six]) = one_locked();
+    let eight = trial.fix(five, 3);
+    trial.accept(Call::Write(eight, 0, vec![8]));
+    trial.accept(Call::Write(root, 0, vec![1]));
+    let nine = trial.fix(six, 3);
+    assert_eq!(trial.number(Call::Write(nine, 0, vec![9])), 26);
+    trial.accept(Call::Write(six, 0, vec![6]));
+}
+
+/// A.8: no word names the root, so nothing locks it. Its parent fields, both 0, are those of its own first word.
+#[test]
+fn nothing_locks_the_root() {
+    let mut trial = Trial::open(4, 16, &[(0, 0, LOCK_BIT | 5)]);
+    let root = trial.root();
+    let edit = [Call::Write(root, 0, vec![1]), Call::Link(root, 1, 6, true), Call::Unlink(root, 1)];
+    edit.iter().for_each(|call| trial.accept(call.clone()));
+    let five = trial.fix(root, 0);
+    assert_eq!(trial.frame_word(0, 0), 0xc000_0001);
+    assert_eq!(trial.number(Call::Write(five, 0, vec![1])), 26);
+    edit.iter().for_each(|call| trial.accept(call.clone()));
+}
+
+/// A.8: the mark is an argument of its own, and a page number has none.
+#[test]
+fn link_takes_the_mark_apart() {
+    let mut trial = Trial::open(4, 16, &[]);
+    let root = trial.root();
+    trial.accept(Call::Link(root, 0, 7, true));
+    trial.accept(Call::Link(root, 1, 8, false));
+    assert_eq!([0, 1].map(|slot| trial.frame_word(0, slot)), [0x4000_0007, 8]);
+    assert_eq!([0, 1, 2].map(|slot| trial.word(root, slot)), [(7, true), (8, false), (0, false)]);
+    assert_eq!(trial.number(Call::Link(root, 2, 0x4009, false)), 6);
+    let seven = trial.fix(root, 0);
+    assert_eq!((seven, trial.find(7)), (handle(1, 7), (Some(1), 2)));
+    assert_eq!(trial.record(1).page, PageNumber(7));
+    assert_eq!([0, 1, 2].map(|slot| trial.word(root, slot)), [(7, true), (8, false), (0, false)]);
+    assert_eq!(trial.call(Call::Peek(7)), payload(Buffer::Frames, 1));
+    trial.accept(Call::Unfix(seven));
+    trial.accept(Call::Evict(7));
+    assert_eq!(trial.frame_word(0, 0), 0x4000_0007);
+}
+
+/// A.8: "Loading, eviction, settling .. carry it", of a locked page and of one below it, by evict and by a sweep, and none of them
+/// dirties the page whose word it is.
+#[test]
+fn marks_are_carried() {
+    let words = [(0, 0, LOCK_BIT | 1), (1, 0, LOCK_BIT | 2), (1, 1, 3), (0, 1, 4)];
+    let mut trial = Trial::open(3, 8, &words);
+    let root = trial.root();
+    let one = trial.fix(root, 0);
+    let two = trial.fix(one, 0);
+    assert_eq!([trial.frame_word(0, 0), trial.frame_word(1, 0)], [0xc000_0001, 0xc000_0002]);
+    trial.accept(Call::Unfix(two));
+    let three = trial.fix(one, 1);
+    assert_eq!([0, 1].map(|slot| trial.frame_word(1, slot)), [0x4000_0002, 0x8000_0002]);
+    trial.accept(Call::Unfix(three));
+    trial.accept(Call::Evict(3));
+    assert_eq!([0, 1].map(|slot| trial.frame_word(1, slot)), [0x4000_0002, 3]);
+    trial.accept(Call::Write(root, 0, vec![1]));
+    trial.accept(Call::Settle);
+    assert_eq!([trial.stored_word(0, 0), trial.frame_word(0, 0)], [0x4000_0001, 0xc000_0001]);
+    trial.accept(Call::Unfix(one));
+    trial.accept(Call::Evict(1));
+    assert_eq!([trial.frame_word(0, 0), trial.frame_word(0, 1)], [0x4000_0001, 4]);
+    assert_eq!([0, 1, 2].map(|frame| trial.record(frame).is_dirty()), [false; 3]);
+    assert_eq!([0, 1].map(|slot| trial.stored_word(1, slot)), [0x4000_0002, 3]);
+}
+
+/// A.8: a dirty page is written out with its marks, as it leaves and as it is settled.
+#[test]
+fn marks_are_written_out() {
+    let (mut trial, [root, _, six]) = one_locked();
+    trial.accept(Call::Link(six, 0, 10, true));
+    trial.accept(Call::Settle);
+    assert_eq!([0, 3].map(|slot| trial.stored_word(6, slot)), [0x4000_000a, 0x4000_0009]);
+    trial.accept(Call::Unlink(six, 0));
+    trial.accept(Call::Link(six, 1, 10, true));
+    trial.accept(Call::Unfix(six));
+    trial.accept(Call::Evict(6));
+    assert_eq!([0, 1].map(|slot| trial.stored_word(6, slot)), [0, 0x4000_000a]);
+    let six = trial.fix(root, 2);
+    assert_eq!([0, 1, 3].map(|slot| trial.word(six, slot)), [(0, false), (10, true), (9, true)]);
+}
+
+/// A.8: a lock is the page's, whichever frame holds it.
+#[test]
+fn a_lock_outlives_the_frame() {
+    let (mut trial, [root, five, six]) = one_locked();
+    for handle in [five, six] {
+        trial.accept(Call::Unfix(handle));
+        trial.accept(Call::Evict(handle.page.0));
+    }
+    trial.state.pool.hand = FrameIndex(2);
+    let [five, six] = [1, 2].map(|slot| trial.fix(root, slot));
+    assert_eq!([five, six], [handle(2, 5), handle(3, 6)]);
+    assert_eq!([five, six].map(|page| trial.number(Call::Write(page, 0, vec![1]))), [26, 0]);
+}
+
+/// A.8: unlinking a marked word is an edit of the page that holds it, refused by 10 as any while the page that it names is
+/// resident. Without its mark the page can be edited, and with a mark again it can't.
+#[test]
+fn a_marked_word_is_unlinked_where_it_stands() {
+    let (mut trial, [root, five, _]) = one_locked();
+    assert_eq!(trial.number(Call::Unlink(root, 1)), 10);
+    trial.accept(Call::Unfix(five));
+    trial.accept(Call::Evict(5));
+    for (locked, number) in [(false, 0), (true, 26)] {
+        trial.accept(Call::Unlink(root, 1));
+        trial.accept(Call::Link(root, 1, 5, locked));
+        let five = trial.fix(root, 1);
+        assert_eq!(trial.number(Call::Write(five, 0, vec![1])), number);
+        trial.accept(Call::Unfix(five));
+        trial.accept(Call::Evict(5));
+    }
+}
+
+/// A.8: a locked page keeps its own words, marked or not, until its own mark is gone.
+#[test]
+fn a_locked_page_keeps_its_words() {
+    let mut trial = Trial::open(4, 16, &[(0, 0, LOCK_BIT | 1), (1, 0, 2), (1, 1, LOCK_BIT | 3)]);
+    let root = trial.root();
+    let one = trial.fix(root, 0);
+    assert_eq!([0, 1].map(|slot| trial.number(Call::Unlink(one, slot))), [26; 2]);
+    trial.accept(Call::Unfix(one));
+    trial.accept(Call::Evict(1));
+    trial.accept(Call::Unlink(root, 0));
+    trial.accept(Call::Link(root, 0, 1, false));
+    let one = trial.fix(root, 0);
+    assert_eq!([0, 1].map(|slot| trial.number(Call::Unlink(one, slot))), [0; 2]);
+}
+
+/// A.8, "Opening accepts bit 30 on a word naming a page and denies it on a word of otherwise 0": in any page and slot. Numbers are
+/// compared by their low 30 bits.
+#[test]
+fn open_reads_marks() {
+    let mark = LOCK_BIT;
+    let cases: [(&[Link], u8); 17] = [
+        (&[(0, 0, mark | 5)], 0),
+        (&[(0, 0, mark | 15), (15, 15, mark | 1)], 0),
+        (&[(9, 7, mark | 9)], 0),
+        (&[(8, 0, mark | 9), (9, 0, mark | 8)], 0),
+        (&[(0, 0, mark)], 16),
+        (&[(0, 15, mark)], 16),
+        (&[(9, 3, mark)], 16),
+        (&[(15, 15, mark)], 16),
+        (&[(0, 0, 5), (0, 1, mark | 5)], 16),
+        (&[(0, 0, mark | 5), (15, 15, 5)], 16),
+        (&[(0, 0, mark | 5), (15, 15, mark | 5)], 16),
+        (&[(0, 0, mark | 16)], 16),
+        (&[(0, 0, mark | 1 << 16 | 5)], 16),
+        (&[(0, 0, mark | 0x3fff_ffff)], 16),
+        (&[(0, 0, 1 << 29 | 5)], 16),
+        (&[(0, 0, SWIZZLE_BIT | mark)], 16),
+        (&[(0, 0, SWIZZLE_BIT | mark | 5)], 16),
+    ];
+    for (words, number) in cases {
+        assert_eq!(Trial::closed(4, 16, words).number(Call::Open), number, "{words:x?}");
+    }
+}
+
+/// A.8: in an occupied frame bit 30 alone is refused by 2, and so are a number and its like with the mark, a marked number of a
+/// resident page, and a marked word that is swizzled to the root or to a frame that doesn't point back.
+#[test]
+fn marks_and_records_must_agree() {
+    let mark = LOCK_BIT;
+    for (slot, word, number) in [
+        (4, mark, 2),
+        (4, mark | 7, 2),
+        (4, mark | 5, 2),
+        (4, mark | 16, 2),
+        (4, mark | 1 << 16 | 8, 2),
+        (4, mark | 8, 0),
+        (3, mark | 7, 0),
+        (4, SWIZZLE_BIT | mark, 2),
+        (0, SWIZZLE_BIT | mark, 2),
+        (4, SWIZZLE_BIT | mark | 1, 2),
+        (4, SWIZZLE_BIT | mark | 3, 2),
+        (1, SWIZZLE_BIT | mark | 2, 2),
+        (1, SWIZZLE_BIT | mark | 1, 0),
+        (1, SWIZZLE_BIT | 1 << 29 | 1, 2),
+    ] {
+        let (mut trial, _) = two_children();
+        trial.put_frame_word(0, slot, word);
+        assert_eq!(trial.number(Call::Settle), number, "word {word:#x} in slot {slot}");
+    }
+}
+
+/// A.8: an empty frame's bytes are free, marks among them.
+#[test]
+fn a_mark_in_an_empty_frame_is_free() {
+    let (mut trial, _) = two_children();
+    for (slot, word) in [LOCK_BIT, LOCK_BIT | 5, SWIZZLE_BIT | LOCK_BIT, u32::MAX].into_iter().enumerate() {
+        trial.put_frame_word(3, slot, word);
+    }
+    trial.accept(Call::Settle);
+    trial.put_frame_word(2, 0, LOCK_BIT);
+    assert_eq!(trial.number(Call::Settle), 2);
+}
+
+/// A.8: rule 9 goes by the low 30 bits too, all of them. Bit 30 alone names nothing, and a stored word with bit 31 no page.
+#[test]
+fn link_asks_past_the_marks() {
+    let (mut trial, [root, five, six]) = one_locked();
+    trial.put_stored_word(12, 15, LOCK_BIT | 10);
+    for (page, why) in [
+        (5, "a marked swizzled word names it"),
+        (6, "a swizzled word names it"),
+        (9, "a marked number of a resident page names it"),
+        (8, "a locked page names it"),
+        (10, "a marked word of a page out of reach names it"),
+    ] {
+        for locked in [false, true] {
+            assert_eq!(trial.number(Call::Link(six, 0, page, locked)), 9, "{why}");
+        }
+    }
+    trial.put_stored_word(12, 14, LOCK_BIT);
+    trial.put_stored_word(12, 13, SWIZZLE_BIT | 11);
+    trial.put_stored_word(12, 12, SWIZZLE_BIT | LOCK_BIT | 11);
+    trial.put_stored_word(12, 11, LOCK_BIT | 1 << 16 | 11);
+    trial.accept(Call::Link(six, 0, 11, true));
+    assert_eq!(trial.number(Call::Link(root, 1, 12, true)), 8);
+    trial.accept(Call::Show(five));
+}
+
+/// A.8: a page that names itself by a marked word is out of reach, and no link brings it in.
+#[test]
+fn a_page_that_locks_itself() {
+    let mut trial = Trial::open(4, 16, &[(9, 2, LOCK_BIT | 9)]);
+    let root = trial.root();
+    assert_eq!(trial.number(Call::Link(root, 0, 9, false)), 9);
+    trial.accept(Call::Peek(9));
+}
+
+/// A.8: only an alteration from outside makes a locked page dirty. It is written out then as any other.
+#[test]
+fn a_dirty_locked_page_is_written() {
+    let (mut trial, [_, five, _]) = one_locked();
+    trial.record(1).dirty = 1;
+    trial.state.frames[PAGE_SIZE + 64] = 7;
+    trial.accept(Call::Settle);
+    assert_eq!(trial.state.store[5 * PAGE_SIZE + 64], 7);
+    trial.record(1).dirty = 1;
+    trial.state.frames[PAGE_SIZE + 64] = 8;
+    trial.accept(Call::Unfix(five));
+    trial.accept(Call::Evict(5));
+    assert_eq!((trial.state.store[5 * PAGE_SIZE + 64], trial.frame_word(0, 1)), (8, 0x4000_0005));
+}
+
+/// A.8, "its payload in the map never changes while the marked word stands": over edits all around it, and after another open.
+#[test]
+fn a_locked_page_stays_as_it_is() {
+    let (mut trial, [root, five, six]) = one_locked();
+    let before = trial.state.store[5 * PAGE_SIZE..][..PAGE_SIZE].to_vec();
+    let eight = trial.fix(five, 3);
+    for (page, linked) in [(root, 10), (six, 11), (eight, 12)] {
+        trial.accept(Call::Write(page, 0, vec![1; 192]));
+        trial.accept(Call::Link(page, 14, linked, page == six));
+    }
+    for handle in [eight, five] {
+        trial.accept(Call::Unfix(handle));
+        trial.accept(Call::Evict(handle.page.0));
+    }
+    trial.accept(Call::Settle);
+    trial.accept(Call::Open);
+    assert_eq!(trial.state.store[5 * PAGE_SIZE..][..PAGE_SIZE], before);
+    let root = trial.root();
+    let five = trial.fix(root, 1);
+    assert_eq!(trial.number(Call::Write(five, 0, vec![1])), 26);
+}
+
+/// Rule 14 on each of its grounds, whether the words of resident pages that name the same are marked or not.
 #[test]
 fn a_stored_page_that_may_not_come_in() {
-    let grounds: [&[(usize, u32)]; 7] = [
+    let grounds: [&[(usize, u32)]; 18] = [
         &[(0, SWIZZLE_BIT)],
         &[(15, 16)],
         &[(2, 9), (3, 9)],
@@ -755,15 +1097,31 @@ fn a_stored_page_that_may_not_come_in() {
         &[(0, 7)],
         &[(0, 8)],
         &[(0, u32::MAX)],
+        &[(0, LOCK_BIT)],
+        &[(15, LOCK_BIT)],
+        &[(2, 9), (3, LOCK_BIT | 9)],
+        &[(2, LOCK_BIT | 9), (3, LOCK_BIT | 9)],
+        &[(0, LOCK_BIT | 16)],
+        &[(0, LOCK_BIT | 1 << 16 | 9)],
+        &[(0, LOCK_BIT | 5)],
+        &[(0, LOCK_BIT | 7)],
+        &[(0, LOCK_BIT | 8)],
+        &[(0, SWIZZLE_BIT | LOCK_BIT)],
+        &[(0, SWIZZLE_BIT | LOCK_BIT | 1)],
     ];
-    for words in grounds {
+    for (words, locked) in grounds.into_iter().flat_map(|words| [(words, false), (words, true)]) {
         let (mut trial, [root, ..]) = two_children();
-        trial.accept(Call::Link(root, 4, 8));
+        trial.accept(Call::Link(root, 4, 8, locked));
+        trial.put_frame_word(0, 1, with_mark(SWIZZLE_BIT | 1, locked));
+        trial.put_frame_word(0, 3, with_mark(7, locked));
         for (slot, word) in words {
             trial.put_stored_word(7, *slot, *word);
         }
-        assert_eq!(trial.number(Call::Fix(root, 3)), 14, "{words:?}");
+        assert_eq!(trial.number(Call::Fix(root, 3)), 14, "{words:x?}, locked: {locked}");
     }
+    let (mut trial, [root, ..]) = two_children();
+    trial.put_stored_word(7, 0, LOCK_BIT | 9);
+    trial.accept(Call::Fix(root, 3));
 }
 
 #[test]

@@ -1,5 +1,5 @@
-//! The table of rules against the C header and the Rust package: numbers, names, and which call is refused by which, in which order.
-//! And that a number which the table's head calls a hole stays one.
+//! The table of rules against the C header and the Rust package: numbers, names, and which call is refused by which, in which
+//! order. And that a number which the table's head calls a hole stays one.
 use pagepool::{NoRule, Refusal};
 use pool_tests::calls::{DRAW, NAMES};
 use std::fs;

@@ -19,8 +19,8 @@ const SEEDS: [u32; 8] = [1, 2, 3, 77, 65_536, 123_456_789, 1 << 31, u32::MAX];
 const RECORDS: u64 = 20_000;
 
 /// What no record of a workload answers: its slot, offset, length and call are in their ranges (4, 5 and 17), an unaltered list
-/// never breaks 1, 2 and 14, no record opens a pool (16), and 12 is a hole.
-const NEVER: [u8; 8] = [1, 2, 4, 5, 12, 14, 16, 17];
+/// never breaks 1, 2 and 14, no record opens a pool (16), no link has the mark (26), and 12 is a hole.
+const NEVER: [u8; 9] = [1, 2, 4, 5, 12, 14, 16, 17, 26];
 
 /// How often a call of the listing, by its number, gave an answer, 0 for accepted.
 type Pairs = BTreeMap<(u8, u8), u64>;

@@ -1,6 +1,9 @@
 //! Rule 2 in one pass over the frames. Where each record's parent word is swizzled to its frame, and there are no more words
-//! of N or above than such records, every swizzled word points back and every other word is a number below N.
-use super::page::{overlaid, swizzled_to, word, words, Page};
+//! of N or above than such records, every swizzled word points back and every other word is a number below N. Marks aside, but
+//! that one alone is no word at all.
+use super::page::{
+    has_mark_alone, is_marked, name, overlaid, stored_words, swizzled_to, unmarked, word, Page, StoredWords,
+};
 use super::seen::Seen;
 use pagepool::{FrameIndex, FrameRecord, PageNumber, Pool, MAX_USAGE, SLOTS};
 
@@ -38,6 +41,8 @@ impl Empties {
     }
 }
 
+/// Not inlined: within a larger function its loop takes longer.
+#[inline(never)]
 fn are_empty(records: &[FrameRecord]) -> bool {
     let mut empties = Empties::default();
     records.iter().for_each(|record| empties.add(record));
@@ -89,10 +94,11 @@ fn in_range(record: &FrameRecord, count: usize, pages: u32) -> bool {
 fn is_linked(record: &FrameRecord, frame: usize, records: &[FrameRecord], frames: &[Page]) -> bool {
     let parent = usize::from(record.parent);
     records[parent].is_used()
-        && word(&frames[parent], record.slot.into()) == swizzled_to(FrameIndex(frame as u8))
+        && name(word(&frames[parent], record.slot.into())) == swizzled_to(FrameIndex(frame as u8))
 }
 
-/// How many words are N or above, and whether a page or a number below N stood twice. Pages without words are passed over.
+/// How many words are N or above, and whether a page or a number below N stood twice, or a mark alone. Pages without words are
+/// passed over.
 #[derive(Default)]
 struct Tally {
     over: usize,
@@ -100,15 +106,20 @@ struct Tally {
 }
 
 impl Tally {
+    /// Words without marks are gone through in place, others in a copy without them.
     #[inline(always)]
     fn add_page<const MOST: usize>(&mut self, page: &Page, pages: u32, seen: &mut Seen<MOST>) {
-        if overlaid(page) != 0 {
-            self.add_words(page, pages, seen);
+        let overlaid = overlaid(page);
+        if is_marked(overlaid) {
+            self.repeated |= has_mark_alone(page);
+            self.add_words(&unmarked(page), pages, seen);
+        } else if overlaid != 0 {
+            self.add_words(stored_words(page), pages, seen);
         }
     }
 
-    fn add_words<const MOST: usize>(&mut self, page: &Page, pages: u32, seen: &mut Seen<MOST>) {
-        for word in words(page) {
+    fn add_words<const MOST: usize>(&mut self, words: &StoredWords, pages: u32, seen: &mut Seen<MOST>) {
+        for word in words.map(u32::from_le_bytes) {
             if word >= pages {
                 self.over += 1;
             } else if word != 0 {

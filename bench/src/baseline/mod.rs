@@ -1,5 +1,5 @@
-//! The thirteen calls of document 01, and request A.10's draw, in safe Rust, on records lent by `&mut`. Each answers what the
-//! method of the same name of `PagePool` does. `tally` has request A.12's.
+//! The thirteen calls of document 01, as the requests have them, and request A.10's draw, in safe Rust, on records lent by `&mut`.
+//! Each answers what the method of the same name of `PagePool` does. `tally` has request A.12's.
 mod agreement;
 mod drawing;
 mod moves;
@@ -11,8 +11,8 @@ pub mod tally;
 
 use page::{pages_of, pages_of_mut, SWIZZLE_BIT};
 use pagepool::{
-    Entry, Fixed, Found, FrameIndex, FrameRecord, Generator, Handle, PageNumber, Pool, Refusal, MAX_PINS,
-    MAX_USAGE, MOST_PAGES, PAGE_SIZE, PAYLOAD_SIZE, PAYLOAD_START,
+    Entry, Fixed, Found, FrameIndex, FrameRecord, Generator, Handle, Named, PageNumber, Pool, Refusal,
+    LOCK_BIT, MAX_PINS, MAX_USAGE, MOST_PAGES, PAGE_SIZE, PAYLOAD_SIZE, PAYLOAD_START,
 };
 use rules::rule;
 use seen::{Seen, FEW};
@@ -63,9 +63,9 @@ fn fix_with<const MOST: usize>(
     let word = page::word(&pages_of(frames)[usize::from(handle.frame)], slot);
     rule(Refusal::EmptySlot, word != 0)?;
     if word >= SWIZZLE_BIT {
-        return pin(pool, FrameIndex((word - SWIZZLE_BIT) as u8));
+        return pin(pool, moves::frame_in(word));
     }
-    let page = PageNumber(word as u16);
+    let page = PageNumber(page::name(word) as u16);
     rule(
         Refusal::BadStoredPage,
         naming::may_come_in(&pages_of(store)[usize::from(page)], PageNumber(pool.pages), seen),
@@ -112,13 +112,13 @@ pub fn word(
     store: &[u8],
     handle: Handle,
     slot: usize,
-) -> Result<Option<PageNumber>, Refusal> {
+) -> Result<Option<Named>, Refusal> {
     rules::state(pool, frames, store)?;
     rules::handle(pool, handle)?;
     rules::slot(slot)?;
     let word = page::word(&pages_of(frames)[usize::from(handle.frame)], slot);
-    let page = PageNumber(moves::plain(&pool.records, word) as u16);
-    Ok((page != PageNumber(0)).then_some(page))
+    let page = PageNumber(page::name(moves::plain(&pool.records, word)) as u16);
+    Ok((page != PageNumber(0)).then_some(Named { page, locked: page::is_marked(word) }))
 }
 
 #[inline(never)]
@@ -133,6 +133,7 @@ pub fn write(
     rules::state(pool, frames, store)?;
     rules::handle(pool, handle)?;
     rule(Refusal::BadRange, offset <= PAYLOAD_SIZE && bytes.len() <= PAYLOAD_SIZE - offset)?;
+    rules::unlocked(pool, frames, handle)?;
     if !bytes.is_empty() {
         let start = PAGE_SIZE * usize::from(handle.frame) + PAYLOAD_START + offset;
         frames[start..start + bytes.len()].copy_from_slice(bytes);
@@ -149,11 +150,13 @@ pub fn link(
     handle: Handle,
     slot: usize,
     page: PageNumber,
+    locked: bool,
 ) -> Result<(), Refusal> {
+    let word = u32::from(page) | if locked { LOCK_BIT } else { 0 };
     if usize::from(pool.pages) <= FEW {
-        link_with(pool, frames, store, handle, slot, page, &mut Seen::<FEW>::new())
+        link_with(pool, frames, store, handle, slot, word, &mut Seen::<FEW>::new())
     } else {
-        link_with(pool, frames, store, handle, slot, page, &mut Seen::<MOST_PAGES>::new())
+        link_with(pool, frames, store, handle, slot, word, &mut Seen::<MOST_PAGES>::new())
     }
 }
 
@@ -163,16 +166,18 @@ fn link_with<const MOST: usize>(
     store: &[u8],
     handle: Handle,
     slot: usize,
-    page: PageNumber,
+    word: u32,
     seen: &mut Seen<MOST>,
 ) -> Result<(), Refusal> {
+    let page = PageNumber(page::name(word) as u16);
     rules::state_with(pool, frames, store, seen)?;
     rules::handle(pool, handle)?;
     rules::slot(slot)?;
+    rules::unlocked(pool, frames, handle)?;
     rule(Refusal::BadPage, page != PageNumber(0) && page.0 < pool.pages)?;
     rule(Refusal::AlreadyNamed, !seen.has(page) && !naming::is_stored(pool, pages_of(store), page))?;
     rule(Refusal::FullSlot, page::word(&pages_of(frames)[usize::from(handle.frame)], slot) == 0)?;
-    put_link(pool, frames, handle, slot, page.into());
+    put_link(pool, frames, handle, slot, word);
     Ok(())
 }
 
@@ -187,6 +192,7 @@ pub fn unlink(
     rules::state(pool, frames, store)?;
     rules::handle(pool, handle)?;
     rules::slot(slot)?;
+    rules::unlocked(pool, frames, handle)?;
     let word = page::word(&pages_of(frames)[usize::from(handle.frame)], slot);
     rule(Refusal::EmptySlot, word != 0)?;
     rule(Refusal::Resident, word < SWIZZLE_BIT)?;

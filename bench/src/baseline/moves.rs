@@ -1,14 +1,19 @@
 //! A page leaving its frame, coming into one, and settling; and the frame that a load takes.
-use super::page::{pages_of, pages_of_mut, put_word, swizzled_to, word, Page, SWIZZLE_BIT};
+use super::page::{pages_of, pages_of_mut, put_name, put_word, swizzled_to, word, Page, SWIZZLE_BIT};
 use super::records;
-use pagepool::{FrameIndex, FrameRecord, PageNumber, Pool, Refusal, MAX_USAGE, SLOTS};
+use pagepool::{FrameIndex, FrameRecord, PageNumber, Pool, Refusal, LOCK_BIT, MAX_USAGE, SLOTS};
 
-/// The page number that a word stands for.
+/// The frame that a swizzled word names.
+pub fn frame_in(word: u32) -> FrameIndex {
+    FrameIndex(word as u8)
+}
+
+/// A word with the page number that it stands for, and with its mark.
 pub fn plain(records: &[FrameRecord], word: u32) -> u32 {
     if word < SWIZZLE_BIT {
         word
     } else {
-        records[(word - SWIZZLE_BIT) as usize].page.into()
+        word & LOCK_BIT | u32::from(records[usize::from(frame_in(word))].page)
     }
 }
 
@@ -19,7 +24,7 @@ pub fn evict(pool: &mut Pool, frames: &mut [u8], store: &mut [u8], frame: FrameI
     if record.is_dirty() {
         pages_of_mut(store)[usize::from(record.page)] = frames[usize::from(frame)];
     }
-    put_word(&mut frames[usize::from(record.parent)], record.slot.into(), record.page.into());
+    put_name(&mut frames[usize::from(record.parent)], record.slot.into(), record.page.into());
 }
 
 /// Loads a page into an empty frame, for a slot of its parent's frame.
@@ -34,7 +39,7 @@ pub fn load(
 ) {
     let frames = pages_of_mut(frames);
     frames[usize::from(frame)] = pages_of(store)[usize::from(page)];
-    put_word(&mut frames[usize::from(parent)], slot, swizzled_to(frame));
+    put_name(&mut frames[usize::from(parent)], slot, swizzled_to(frame));
     *pool.record_mut(frame) =
         FrameRecord { used: 1, dirty: 0, usage: 1, slot: slot as u8, parent, pins: 1, page };
 }

@@ -1,8 +1,10 @@
 //! The rules that calls share.
 use super::agreement;
-use super::page::pages_of;
+use super::page::{is_marked, pages_of, word};
 use super::seen::{Seen, FEW};
-use pagepool::{Handle, PageNumber, Pool, Refusal, LEAST_FRAMES, MOST_FRAMES, MOST_PAGES, PAGE_SIZE, SLOTS};
+use pagepool::{
+    FrameIndex, Handle, PageNumber, Pool, Refusal, LEAST_FRAMES, MOST_FRAMES, MOST_PAGES, PAGE_SIZE, SLOTS,
+};
 
 /// Refuses where a rule isn't kept.
 pub fn rule(refusal: Refusal, kept: bool) -> Result<(), Refusal> {
@@ -54,6 +56,13 @@ pub fn handle(pool: &Pool, handle: Handle) -> Result<(), Refusal> {
 /// Rule 4.
 pub fn slot(slot: usize) -> Result<(), Refusal> {
     rule(Refusal::BadSlot, slot < SLOTS)
+}
+
+/// Rule 26, by the word that names the handle's page. None names the root.
+pub fn unlocked(pool: &Pool, frames: &[u8], handle: Handle) -> Result<(), Refusal> {
+    let record = pool.record(handle.frame);
+    let named_by = word(&pages_of(frames)[usize::from(record.parent)], record.slot.into());
+    rule(Refusal::IsLocked, handle.frame == FrameIndex(0) || !is_marked(named_by))
 }
 
 /// Rule 6.

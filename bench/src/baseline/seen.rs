@@ -4,12 +4,14 @@ use pagepool::PageNumber;
 /// The pages that a small table has room for, which takes next to no time to clear.
 pub const FEW: usize = 256;
 
-/// Whether each number below `MOST` was added.
+/// Whether each number below `MOST` was added. 0 counts as added, since no word may name page 0.
 pub struct Seen<const MOST: usize>([bool; MOST]);
 
 impl<const MOST: usize> Seen<MOST> {
     pub fn new() -> Seen<MOST> {
-        Seen([false; MOST])
+        let mut seen = Seen([false; MOST]);
+        seen.0[0] = true;
+        seen
     }
 
     pub fn has(&self, page: PageNumber) -> bool {

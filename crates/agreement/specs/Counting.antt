@@ -11,7 +11,7 @@ use borrow.Author.Tests.{eqb-true, eqb-false, eq-eqb, ne-eqb, not-true}
 use mir.Val.{boolByte}
 use lib.Dec.{eqb}
 use Rattle.rules.specs.Tests.{_and_, some}
-use Rattle.rules.specs.TestLaws.{clash, case, on, off, same, and-left, and-true, and-off, both, some-true, some-false}
+use Rattle.rules.specs.TestLaws.{clash, case, on, off, is-off, same, and-left, and-true, and-off, both, some-true, some-false}
 
 -- how many numbers below n pass
 unfoldable pub countIf : ℕ → (ℕ → Bool) → ℕ
@@ -56,6 +56,12 @@ count-le (suc n) t = elim (case (t n)) [
   | off e ↦ rw e (omega (arith, count-le n t))
 ]
 
+-- where each number that passes t passes u or v, and one of the two alone
+pub count-split : (n : ℕ) (t u v : ℕ → Bool) → ((i : ℕ) → i < n → boolByte (t i) ≡ boolByte (u i) + boolByte (v i)) → countIf n t ≡ countIf n u + countIf n v
+unfolding countIf
+count-split zero t u v h = refl
+count-split (suc n) t u v h = omega (arith, count-split n t u v (λ i l. h i (omega arith)), h n (omega arith))
+
 -- the test with one number taken out
 unfoldable pub without : ℕ → (ℕ → Bool) → ℕ → Bool
 without x t i = t i and not (eqb i x)
@@ -86,6 +92,9 @@ count-without (suc n) x t l e = elim (ℕ-discrete x n) [
       let b : without x t n ≡ t n = without-other x t n (λ z. q (sym z)) in
       rw (b, a) (omega arith)
 ]
+
+pub none-passes : (n : ℕ) (t : ℕ → Bool) → countIf n t ≡ 0 → (i : ℕ) → i < n → t i ≡ false
+none-passes n t z i l = is-off (t i) (λ e. omega (arith, count-without n i t l e))
 
 -- a map that takes the numbers below F that pass t, each to another, to numbers below n that pass u
 pub record Into (F n : ℕ) (t u : ℕ → Bool) (to : ℕ → ℕ) : Type 0 where

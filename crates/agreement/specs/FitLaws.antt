@@ -16,8 +16,8 @@ use lib.ListN.{length, set, replicate, length-set, length-replicate}
 use lib.Seq.{getD-set-same, getD-set-other}
 use lib.Bits.{bitOr, bitAnd, or-add-and, and-le-l, and-le-r, or-zero-l}
 use Rattle.page.specs.Figures.{slotCount, pageSize, wordSize, mostPages}
-use Rattle.page.specs.Word.{nameAt}
-use Rattle.page.specs.Page.{slot, name, name-row}
+use Rattle.page.specs.Word.{wordAt}
+use Rattle.page.specs.Page.{slot}
 use Rattle.machine.specs.declared.FrameRecord.{FrameRecord}
 use Rattle.rules.specs.Tests.{_and_}
 use Rattle.rules.specs.TestLaws.{case, on, off, pick-yes, pick-no, both, and-true, and-yes, and-no, clash}
@@ -25,7 +25,7 @@ use Rattle.machine.specs.Machine.{isUsed, recordAt, pageIn}
 use Rattle.machine.specs.Agreement.{isBlank}
 use Rattle.seen.specs.Fold.{fold}
 use Rattle.agreement.specs.Counting.{countIf, count-zero, count-yes, count-no, count-add, count-ext, count-none, count-le}
-use Rattle.agreement.specs.Fit.{Blank, firstFields, lastFields, NoField, Gathers, RootFits, ResidentFits, Linked, Fits, numberBelow, perFrame, numberIn, numbersInFrames, overFrom, isOver, HasWords, HasNumbers, overWeight, entry, Entries, BelowOf, weight, addWord, fill, SumsWords}
+use Rattle.agreement.specs.Fit.{Blank, firstFields, lastFields, NoField, Gathers, RootFits, ResidentFits, Linked, Fits, numberBelow, perFrame, numberIn, numbersInFrames, asStands, overFrom, isOver, usedIn, markedInFrames, numbersMet, HasWords, HasNumbers, overWeight, entry, Entries, BelowOf, weight, addWord, fill, SumsWords}
 
 -- ---- the all-zero record
 
@@ -104,9 +104,9 @@ filled row t (suc n) h =
     let q : suc n ≡ n + 1 = omega arith in
     (length-set (fold (fill row) t n) n (row n) ∙ l, rw q (entries-more row (fold (fill row) t n) n (row n) (omega arith) refl (r .1)))
 
-pub below-of : (fs : List ℕ) (N at : ℕ) (ns : List ℕ) → ns ≡ fold (fill (λ k. numberBelow N (nameAt fs (at + wordSize * k)))) (replicate slotCount 0) slotCount → BelowOf fs N at ns
+pub below-of : (fs : List ℕ) (N at : ℕ) (ns : List ℕ) → ns ≡ fold (fill (λ k. numberBelow N (wordAt fs (at + wordSize * k)))) (replicate slotCount 0) slotCount → BelowOf fs N at ns
 below-of fs N at ns e =
-    let r = filled (λ k. numberBelow N (nameAt fs (at + wordSize * k))) (replicate slotCount 0) slotCount (omega (arith, length-replicate {A = ℕ} slotCount 0)) in
+    let r = filled (λ k. numberBelow N (wordAt fs (at + wordSize * k))) (replicate slotCount 0) slotCount (omega (arith, length-replicate {A = ℕ} slotCount 0)) in
     rw e (record { size = r .0 ∙ length-replicate {A = ℕ} slotCount 0; right = r .1 })
 
 -- ---- the numbers in a row
@@ -128,7 +128,7 @@ below-lt N w o = elim (decLt w N) [
 pub numbers-lt : (fs : List ℕ) (N at : ℕ) (ns : List ℕ) → 1 ≤ N → BelowOf fs N at ns → (k : ℕ) → k < slotCount → entry ns k < N
 numbers-lt fs N at ns o B k h = rw (B .right k h) (below-lt N _ o)
 
-module _ (rs : List FrameRecord) (fs : List ℕ) (N f : ℕ) where
+module _ (read : ℕ → ℕ) (rs : List FrameRecord) (fs : List ℕ) (N f : ℕ) where
   -- place j of frame f
   module _ (j : ℕ) (h : j < perFrame) where
     at-frame : (perFrame * f + j) / perFrame ≡ f
@@ -137,61 +137,80 @@ module _ (rs : List FrameRecord) (fs : List ℕ) (N f : ℕ) where
     at-place : (perFrame * f + j) % perFrame ≡ j
     at-place = omega arith
 
-    pub numbers-used : isUsed (recordAt rs f) ≡ true → numbersInFrames rs fs N (perFrame * f + j) ≡ numberIn rs fs N f j
+    pub numbers-used : isUsed (recordAt rs f) ≡ true → numbersInFrames read rs fs N (perFrame * f + j) ≡ numberIn read rs fs N f j
     unfolding numbersInFrames
     numbers-used u = rw (at-frame, at-place) (sym (pick-yes 0 u refl))
 
-    pub numbers-empty : isUsed (recordAt rs f) ≡ false → numbersInFrames rs fs N (perFrame * f + j) ≡ 0
+    pub numbers-empty : isUsed (recordAt rs f) ≡ false → numbersInFrames read rs fs N (perFrame * f + j) ≡ 0
     unfolding numbersInFrames
     numbers-empty u = rw (at-frame, at-place) (sym (pick-no _ u refl))
 
-  pub numbers-page : isUsed (recordAt rs f) ≡ true → numbersInFrames rs fs N (perFrame * f) ≡ pageIn rs f
+  pub numbers-page : isUsed (recordAt rs f) ≡ true → numbersInFrames read rs fs N (perFrame * f) ≡ pageIn rs f
   unfolding numberIn
   numbers-page u =
-      ap (numbersInFrames rs fs N) (sym (add-zero (perFrame * f))) ∙ numbers-used 0 (omega arith) u ∙ sym (pick-yes (numberBelow N (name fs f (0 - 1))) (eq-eqb 0 0 refl) refl)
+      ap (numbersInFrames read rs fs N) (sym (add-zero (perFrame * f))) ∙ numbers-used 0 (omega arith) u ∙ sym (pick-yes (numberBelow N (read (slot fs f (0 - 1)))) (eq-eqb 0 0 refl) refl)
 
-  pub numbers-word : (k : ℕ) → k < slotCount → isUsed (recordAt rs f) ≡ true → numbersInFrames rs fs N (perFrame * f + (1 + k)) ≡ numberBelow N (name fs f k)
+  pub numbers-word : (k : ℕ) → k < slotCount → isUsed (recordAt rs f) ≡ true → numbersInFrames read rs fs N (perFrame * f + (1 + k)) ≡ numberBelow N (read (slot fs f k))
   unfolding numberIn
   numbers-word k h u =
       let e : 1 + k - 1 ≡ k = omega arith in
-      numbers-used (1 + k) (omega arith) u ∙ sym (pick-no (pageIn rs f) (ne-eqb (1 + k) 0 (λ z. omega arith)) refl) ∙ ap (λ (x : ℕ). numberBelow N (name fs f x)) e
+      numbers-used (1 + k) (omega arith) u ∙ sym (pick-no (pageIn rs f) (ne-eqb (1 + k) 0 (λ z. omega arith)) refl) ∙ ap (λ (x : ℕ). numberBelow N (read (slot fs f x))) e
 
-  -- the row has the words of an occupied frame
-  has-words : isUsed (recordAt rs f) ≡ true → HasWords fs N (pageSize * f) (numbersInFrames rs fs N) (perFrame * f + 1)
-  has-words u k h = ap (numbersInFrames rs fs N) (add-assoc (perFrame * f) 1 k) ∙ numbers-word k h u ∙ ap (numberBelow N) (name-row fs f k)
+-- ---- the row has what stands in frame f
 
-  -- the row has the numbers of frame f
-  pub has-numbers : HasNumbers fs N f (recordAt rs f) (numbersInFrames rs fs N) (perFrame * f)
-  has-numbers = record { page = numbers-page; words = has-words; empty = λ u j h. numbers-empty j h u }
+module _ (rs : List FrameRecord) (fs : List ℕ) (F N : ℕ) where
+  pub met-first : (i : ℕ) → i < perFrame * F → numbersMet rs fs F N i ≡ numbersInFrames asStands rs fs N i
+  unfolding numbersMet
+  met-first i l = sym (pick-yes _ (lt-ltb i (perFrame * F) l) refl)
 
+  pub met-then : (j : ℕ) → numbersMet rs fs F N (perFrame * F + j) ≡ markedInFrames (usedIn rs) fs N j
+  unfolding numbersMet
+  met-then j =
+      let e : perFrame * F + j - perFrame * F ≡ j = omega arith in
+      sym (pick-no _ (le-ltb (perFrame * F + j) (perFrame * F) (omega arith)) refl) ∙ ap (markedInFrames (usedIn rs) fs N) e
+
+  module _ (f : ℕ) (l : f < F) where
+    has-words : isUsed (recordAt rs f) ≡ true → HasWords fs N (pageSize * f) (numbersMet rs fs F N) (perFrame * f + 1)
+    unfolding slot
+    has-words u k h =
+        ap (numbersMet rs fs F N) (add-assoc (perFrame * f) 1 k) ∙ met-first (perFrame * f + (1 + k)) (omega arith) ∙ numbers-word asStands rs fs N f k h u
+
+    pub has-numbers : HasNumbers fs N f (recordAt rs f) (numbersMet rs fs F N) (perFrame * f)
+    has-numbers = record {
+      page = λ u. met-first (perFrame * f) (omega arith) ∙ numbers-page asStands rs fs N f u;
+      words = has-words;
+      empty = λ u j h. met-first (perFrame * f + j) (omega arith) ∙ numbers-empty asStands rs fs N f j h u;
+    }
+
+module _ (rs : List FrameRecord) (fs : List ℕ) (N f : ℕ) where
   -- ---- the words that are not below N, counted frame by frame
 
-  over-at : (k : ℕ) → k < slotCount → isUsed (recordAt rs f) ≡ true → isOver rs fs N (slotCount * f + k) ≡ overFrom fs N (pageSize * f) k
+  over-at : (k : ℕ) → k < slotCount → isUsed (recordAt rs f) ≡ true → isOver asStands rs fs N (slotCount * f + k) ≡ overFrom fs N (pageSize * f) k
   unfolding isOver overFrom slot
   over-at k h u =
       let a : (slotCount * f + k) / slotCount ≡ f = omega arith in
       let b : (slotCount * f + k) % slotCount ≡ k = omega arith in
       rw (a, b) (sym (and-yes u refl))
 
-  pub over-used : isUsed (recordAt rs f) ≡ true → countIf (slotCount * (f + 1)) (isOver rs fs N) ≡ countIf (slotCount * f) (isOver rs fs N) + countIf slotCount (overFrom fs N (pageSize * f))
+  pub over-used : isUsed (recordAt rs f) ≡ true → countIf (slotCount * (f + 1)) (isOver asStands rs fs N) ≡ countIf (slotCount * f) (isOver asStands rs fs N) + countIf slotCount (overFrom fs N (pageSize * f))
   over-used u =
       let e : slotCount * (f + 1) ≡ slotCount * f + slotCount = omega arith in
-      rw e (count-add (slotCount * f) slotCount (isOver rs fs N) ∙ ap (λ (k : ℕ). countIf (slotCount * f) (isOver rs fs N) + k) (count-ext slotCount _ _ (λ k h. over-at k h u)))
+      rw e (count-add (slotCount * f) slotCount (isOver asStands rs fs N) ∙ ap (λ (k : ℕ). countIf (slotCount * f) (isOver asStands rs fs N) + k) (count-ext slotCount _ _ (λ k h. over-at k h u)))
 
-  none-over : (k : ℕ) → k < slotCount → isUsed (recordAt rs f) ≡ false → isOver rs fs N (slotCount * f + k) ≡ false
+  none-over : (k : ℕ) → k < slotCount → isUsed (recordAt rs f) ≡ false → isOver asStands rs fs N (slotCount * f + k) ≡ false
   unfolding isOver
   none-over k h u =
       let a : (slotCount * f + k) / slotCount ≡ f = omega arith in
       rw a (sym (and-no _ u))
 
-  pub over-empty : isUsed (recordAt rs f) ≡ false → countIf (slotCount * (f + 1)) (isOver rs fs N) ≡ countIf (slotCount * f) (isOver rs fs N)
+  pub over-empty : isUsed (recordAt rs f) ≡ false → countIf (slotCount * (f + 1)) (isOver asStands rs fs N) ≡ countIf (slotCount * f) (isOver asStands rs fs N)
   over-empty u =
       let e : slotCount * (f + 1) ≡ slotCount * f + slotCount = omega arith in
-      rw e (count-add (slotCount * f) slotCount (isOver rs fs N) ∙ ap (λ (k : ℕ). countIf (slotCount * f) (isOver rs fs N) + k) (count-none slotCount _ (λ k h. none-over k h u)) ∙ add-zero _)
+      rw e (count-add (slotCount * f) slotCount (isOver asStands rs fs N) ∙ ap (λ (k : ℕ). countIf (slotCount * f) (isOver asStands rs fs N) + k) (count-none slotCount _ (λ k h. none-over k h u)) ∙ add-zero _)
 
 -- ---- the word that was read
 
-module _ (fs : List ℕ) (N at k w : ℕ) (e : w ≡ nameAt fs (at + wordSize * k)) where
+module _ (fs : List ℕ) (N at k w : ℕ) (e : w ≡ wordAt fs (at + wordSize * k)) where
   pub over-high : N ≤ w → overFrom fs N at k ≡ true
   unfolding overFrom
   over-high l = rw (← e) (le-leb N w l)
@@ -242,7 +261,7 @@ pub record SumsTo (fs : List ℕ) (N at k sum : ℕ) : Type 0 where
   pub low : ℕ
   pub parts : sum ≡ overWeight * countIf k (overFrom fs N at) + low
   pub few : low ≤ 4095 * k
-  pub none : low ≡ 0 → (j : ℕ) → j < k → numberBelow N (nameAt fs (at + wordSize * j)) ≡ 0
+  pub none : low ≡ 0 → (j : ℕ) → j < k → numberBelow N (wordAt fs (at + wordSize * j)) ≡ 0
 
 module _ (fs : List ℕ) (N at : ℕ) where
   sums-none : SumsTo fs N at 0 0
@@ -252,7 +271,7 @@ module _ (fs : List ℕ) (N at : ℕ) where
   sums-few k sum h s = omega (arith, s .parts, s .few, count-le k (overFrom fs N at))
 
   -- one more word
-  sums-more : 1 ≤ N → N ≤ mostPages → (k sum w : ℕ) → w ≡ nameAt fs (at + wordSize * k) → SumsTo fs N at k sum → SumsTo fs N at (k + 1) (sum + weight (N - 1) w)
+  sums-more : 1 ≤ N → N ≤ mostPages → (k sum w : ℕ) → w ≡ wordAt fs (at + wordSize * k) → SumsTo fs N at k sum → SumsTo fs N at (k + 1) (sum + weight (N - 1) w)
   sums-more o l k sum w e s = elim (decLt w N) [
     | yes h ↦
         let c : countIf (k + 1) (overFrom fs N at) ≡ countIf k (overFrom fs N at) = count-no k (overFrom fs N at) (over-low fs N at k w e h) in

@@ -6,7 +6,7 @@ use mathlib.Core.Bool.{Bool, true}
 use mathlib.Core.List.{List, []}
 use native.Mathlib.Omega.{arith}
 use Rattle.page.specs.Figures.{slotCount, mostPages}
-use Rattle.page.specs.Word.{Number}
+use Rattle.page.specs.Word.{nameOf, Number}
 use Rattle.page.specs.Page.{name, name-row}
 use Rattle.machine.specs.declared.Pool.{Pool}
 use Rattle.rules.specs.Tests.{_or_}
@@ -28,25 +28,25 @@ use Rattle.agreement.specs.FitLaws.{below-low, numbers-page, numbers-wor
 use Rattle.agreement.specs.Same.{nothing, page, loose, at, end-lead}
 
 module _ (p : Pool) (fs : List ℕ) (S : Sizes (p .count) (p .pages) fs) (A : Agreed p fs) (residents : List ℕ) (T : Residents (p .records) residents)
-    (seen : Seen) (P : PassedRow (numbersInFrames (p .records) fs (p .pages)) (perFrame * p .count) seen) where
+    (seen : Seen) (P : PassedRow (numbersInFrames nameOf (p .records) fs (p .pages)) (perFrame * p .count) seen) where
   abbrev s : State
   s = state p fs []
 
   -- ---- what is in the row of the numbers
 
   abbrev inRow : ℕ → Bool
-  inRow = among (numbersInFrames (p .records) fs (p .pages)) (perFrame * p .count)
+  inRow = among (numbersInFrames nameOf (p .records) fs (p .pages)) (perFrame * p .count)
 
-  row-at : (i x : ℕ) → i < perFrame * p .count → numbersInFrames (p .records) fs (p .pages) i ≡ x → inRow x ≡ true
-  row-at i x l e = is-among (numbersInFrames (p .records) fs (p .pages)) (perFrame * p .count) x i l e
+  row-at : (i x : ℕ) → i < perFrame * p .count → numbersInFrames nameOf (p .records) fs (p .pages) i ≡ x → inRow x ≡ true
+  row-at i x l e = is-among (numbersInFrames nameOf (p .records) fs (p .pages)) (perFrame * p .count) x i l e
 
   row-page : (f x : ℕ) → occupied p f ≡ true → pageIn (p .records) f ≡ x → inRow x ≡ true
-  row-page f x o e = row-at (perFrame * f) x (omega (arith, occupied-lt p f o)) (numbers-page (p .records) fs (p .pages) f (occupied-used p f o) ∙ e)
+  row-page f x o e = row-at (perFrame * f) x (omega (arith, occupied-lt p f o)) (numbers-page nameOf (p .records) fs (p .pages) f (occupied-used p f o) ∙ e)
 
   row-word : (f k x : ℕ) → occupied p f ≡ true → k < slotCount → name fs f k ≡ x → Number x → x ≢ 0 → inRow x ≡ true
   row-word f k x o h e l n =
       let b : name fs f k < p .pages = A .below f k o h (omega arith) (λ z. n (sym e ∙ z)) in
-      row-at (perFrame * f + (1 + k)) x (omega (arith, occupied-lt p f o)) (numbers-word (p .records) fs (p .pages) f k h (occupied-used p f o) ∙ below-low _ _ b ∙ e)
+      row-at (perFrame * f + (1 + k)) x (omega (arith, occupied-lt p f o)) (numbers-word nameOf (p .records) fs (p .pages) f k h (occupied-used p f o) ∙ below-low _ _ b ∙ e)
 
   -- ---- and what is named
 
@@ -56,8 +56,8 @@ module _ (p : Pool) (fs : List ℕ) (S : Sizes (p .count) (p .pages) fs) (A : Ag
 
     row-named : inRow x ≡ true → namedByResident s x ≡ true
     row-named t =
-        let r = among-is (numbersInFrames (p .records) fs (p .pages)) (perFrame * p .count) x t in
-        let e : numbersInFrames (p .records) fs (p .pages) (r .0) ≡ x = r .2 in
+        let r = among-is (numbersInFrames nameOf (p .records) fs (p .pages)) (perFrame * p .count) x t in
+        let e : numbersInFrames nameOf (p .records) fs (p .pages) (r .0) ≡ x = r .2 in
         by ∙ elim (at p fs S A (r .0) (r .1)) [
           | nothing z ↦ absurd (omega arith)
           | page f o m q ↦ or-left _ (in-table s (S .most) A residents T f x o (sym q ∙ e))

@@ -4,6 +4,7 @@ pub mod Counting
 pub mod Twice
 pub mod Fit
 pub mod FitLaws
+pub mod MarkedNumbers
 pub mod PassLaws
 pub mod ParentSteps
 pub mod Same

@@ -1,25 +1,29 @@
 -- How the pass over the frames begins, goes on by one frame, and ends. Assumes nothing.
 use Prim.Native.Nat.{ℕ, _+_, _*_, _<_, _≤_}
 use mathlib.Core.Path.{_≡_, refl, sym, _∙_, ap}
-use mathlib.Core.Bool.{Bool, true, false}
+use mathlib.Core.Bool.{Bool, true, false, not}
 use mathlib.Core.List.{List}
 use native.Mathlib.Omega.{arith}
-use native.Mathlib.Nat.{add-zero}
+use native.Mathlib.Nat.{add-zero, le-refl}
 use native.Mathlib.Decide.{ℕ-discrete, decLt}
+use borrow.Author.Tests.{eq-eqb, ne-eqb, eqb-true}
 use mir.Val.{boolByte}
+use lib.Dec.{eqb}
 use lib.ListN.{length, set, replicate, length-set, length-replicate, getD-replicate, List·getD-eq-default}
 use lib.Seq.{getD-set-other}
-use Rattle.page.specs.Figures.{slotCount, mostFrames, recordCount}
+use Rattle.page.specs.Figures.{slotCount, mostFrames, mostPages, recordCount}
+use Rattle.page.specs.Word.{nameOf}
 use Rattle.machine.specs.declared.FrameRecord.{FrameRecord}
-use Rattle.rules.specs.TestLaws.{case, on, off}
+use Rattle.rules.specs.TestLaws.{clash, case, on, off, or-left, or-right, or-off}
 use Rattle.machine.specs.Machine.{isUsed, recordAt, pageIn}
 use Rattle.seen.specs.Seen.{Seen}
-use Rattle.residents.specs.Residents.{Residents}
+use Rattle.residents.specs.Residents.{Residents, holdsPage}
 use Rattle.residents.specs.Handed.{Clear}
-use Rattle.agreement.specs.Counting.{countIf, count-zero, count-more, count-le}
-use Rattle.agreement.specs.Twice.{Progress, pass-none, not-twice}
-use Rattle.agreement.specs.Fit.{Blank, Gathers, Fits, perFrame, numbersInFrames, isOver, usedIn, aboveUsed, RestBlank, FramesFit, FrameNoted, entry, parentAt, Before, Settled}
-use Rattle.agreement.specs.FitLaws.{entries-more, has-numbers, over-used, over-empty, used-bit}
+use Rattle.agreement.specs.Counting.{countIf, count-zero, count-more, count-le, count-ext, none-passes}
+use Rattle.agreement.specs.Twice.{PassedRow, Twice, Progress, pass-none, pass-zeros, twice-more, not-twice, sorted-twice, passed-sorted}
+use Rattle.agreement.specs.Fit.{Blank, Gathers, Fits, perFrame, numbersInFrames, asStands, isOver, usedIn, isMarkedIn, numbersMet, placesMet, aboveUsed, RestBlank, FramesFit, FrameNoted, AllMarks, entry, parentAt, Before, Settled}
+use Rattle.agreement.specs.FitLaws.{entries-more, met-then, has-numbers, over-used, over-empty, used-bit}
+use Rattle.agreement.specs.MarkedNumbers.{over-marked, none-stands, counted-alike, stands-alike, names-met, met-names}
 
 -- an entry of a table of zeros
 clear-at : (m x : ℕ) → entry (replicate m 0) x ≡ 0
@@ -28,37 +32,43 @@ clear-at m x = elim (decLt x m) [
   | no l ↦ List·getD-eq-default (replicate m 0) 0 (let e : length (replicate {A = ℕ} m 0) ≡ m = length-replicate {A = ℕ} m 0 in omega arith)
 ]
 
+-- a number that the code meets twice stands in the frames twice
+met-twice : (rs : List FrameRecord) (fs : List ℕ) (F N : ℕ) → N ≤ mostPages → (n : ℕ) → n ≤ placesMet F → Twice (numbersMet rs fs F N) n → FramesFit rs fs F N → ⊥
+met-twice rs fs F N few n l t fit =
+    not-twice (numbersInFrames nameOf rs fs N) (perFrame * F) (perFrame * F) (le-refl (perFrame * F)) (fit .once)
+    (sorted-twice _ _ _ _ (met-names rs fs F N few) (twice-more (numbersMet rs fs F N) n (placesMet F) l t))
+
 module _ (rs : List FrameRecord) (fs : List ℕ) (F N : ℕ) where
   pub before-first : (t residents : List ℕ) (seen : Seen) → F ≤ length t → Clear residents seen → Before rs fs F N 0 seen t residents 0 0
   before-first t residents seen m C = record {
     most = omega arith;
     fits = λ g a. absurd (omega arith);
-    passed = rw (C .noneSeen) (pass-none (numbersInFrames rs fs N));
+    passed = rw (C .noneSeen) (pass-none (numbersMet rs fs F N));
     room = m;
     parents = λ g a. absurd (omega arith);
     size = ap length (C .noPage) ∙ length-replicate {A = ℕ} mostFrames 0;
     held = λ g a. absurd (omega arith);
     clear = λ g a. rw (C .noPage) (clear-at mostFrames g);
     counted = sym (count-zero (usedIn rs));
-    named = sym (count-zero (isOver rs fs N));
+    named = sym (count-zero (isOver asStands rs fs N));
   }
 
   pub before-few : (f : ℕ) (seen : Seen) (t residents : List ℕ) (occupied over : ℕ) → Before rs fs F N f seen t residents occupied over → (occupied ≤ f) × (over ≤ slotCount * f)
-  before-few f seen t residents occupied over B = (rw (B .counted) (count-le f (usedIn rs)), rw (B .named) (count-le (slotCount * f) (isOver rs fs N)))
+  before-few f seen t residents occupied over B = (rw (B .counted) (count-le f (usedIn rs)), rw (B .named) (count-le (slotCount * f) (isOver asStands rs fs N)))
 
   module _ (f : ℕ) (seen : Seen) (t residents : List ℕ) (occupied over : ℕ) (B : Before rs fs F N f seen t residents occupied over) (l : f < F)
       (seen' : Seen) (more : ℕ) (fresh : Bool) (D : FrameNoted fs N f (recordAt rs f) seen seen' more fresh) where
     -- the frame's numbers in the row
-    progress : Progress (numbersInFrames rs fs N) (perFrame * (f + 1)) seen' fresh
+    progress : Progress (numbersMet rs fs F N) (perFrame * (f + 1)) seen' fresh
     progress =
         let q : perFrame * (f + 1) ≡ perFrame * f + perFrame = omega arith in
-        rw q (D .notes (numbersInFrames rs fs N) (perFrame * f) (has-numbers rs fs N f) (B .passed))
+        rw q (D .notes (numbersMet rs fs F N) (perFrame * f) (has-numbers rs fs F N f l) (B .passed))
 
     -- a number of the frame stands in the frames twice
-    pub stands-twice : fresh ≡ false → FramesFit rs fs F N → ⊥
-    stands-twice z fit = not-twice (numbersInFrames rs fs N) (perFrame * (f + 1)) (perFrame * F) (omega arith) (fit .once) (rw z at progress)
+    pub stands-twice : N ≤ mostPages → fresh ≡ false → FramesFit rs fs F N → ⊥
+    stands-twice few z fit = met-twice rs fs F N few (perFrame * (f + 1)) (omega arith) (rw z at progress) fit
 
-    over-more : fresh ≡ true → over + more ≡ countIf (slotCount * (f + 1)) (isOver rs fs N)
+    over-more : fresh ≡ true → over + more ≡ countIf (slotCount * (f + 1)) (isOver asStands rs fs N)
     over-more z = elim (case (isUsed (recordAt rs f))) [
       | on u ↦ sum (B .named) (D .counts z u) ∙ sym (over-used rs fs N f u)
       | off u ↦ sum (B .named) (D .nothing u) ∙ add-zero _ ∙ sym (over-empty rs fs N f u)
@@ -108,9 +118,6 @@ module _ (rs : List FrameRecord) (fs : List ℕ) (F N : ℕ) (f : ℕ) (seen : S
   at-end : Before rs fs F N F seen t residents occupied over
   at-end = let e : f ≡ F = omega (arith, B .most) in rw e at B
 
-  pub frames-even : FramesFit rs fs F N → over + 1 ≡ occupied
-  frames-even fit = ap (λ (n : ℕ). n + 1) (at-end .named) ∙ fit .even ∙ sym (at-end .counted)
-
   -- the table of pages goes on with those of the all-zero records
   page-table : RestBlank rs F → Residents rs residents
   page-table rest = record {
@@ -121,13 +128,78 @@ module _ (rs : List FrameRecord) (fs : List ℕ) (F N : ℕ) (f : ℕ) (seen : S
     ];
   }
 
-  pub settle : over + 1 ≡ occupied → (g : ℕ) (P : Type 0) → recordCount ≤ g → RestTo rs F g P → P → Settled rs fs F N seen t residents
-  settle e g P m R q =
-      let b : RestBlank rs F = λ h a k. R .blanks q h a (omega arith) in
-      record {
-        rest = b;
-        fit = record { fits = at-end .fits; once = at-end .passed .once; even = ap (λ (n : ℕ). n + 1) (sym (at-end .named)) ∙ e ∙ at-end .counted };
-        parents = record { size = B .room; parent = at-end .parents };
-        passed = at-end .passed;
-        held = page-table b;
-      }
+  -- ---- the numbers with marks
+
+  -- a frame holds a page by the table where its record is in use
+  held-used : (g : ℕ) → g < F → holdsPage residents g ≡ usedIn rs g
+  unfolding holdsPage
+  held-used g m = elim (case (usedIn rs g)) [
+    | on u ↦ elim (ℕ-discrete g 0) [
+      | yes z ↦ or-left _ (eq-eqb g 0 z) ∙ sym u
+      | no z ↦ or-right (eqb g 0) (ap not (ne-eqb _ 0 (λ y. at-end .fits g m .resident z u .other (sym (at-end .held g m) ∙ y)))) ∙ sym u
+    ]
+    | off u ↦
+        let b = at-end .fits g m .empty u in
+        or-off (ne-eqb g 0 (λ z. clash (sym (at-end .fits g m .root z .used) ∙ u))) (ap not (eq-eqb _ 0 (at-end .held g m ∙ b .page))) ∙ sym u
+  ]
+
+  module _ (few : N ≤ mostPages) (seen' : Seen) (count : ℕ) (fresh : Bool) (M : AllMarks residents fs F N (eqb (over + 1) occupied) seen seen' count fresh) where
+    marked : ℕ
+    marked = countIf (slotCount * F) (isMarkedIn (usedIn rs) fs N)
+
+    all-over : over ≡ countIf (slotCount * F) (isOver nameOf rs fs N) + marked
+    unfolding marked
+    all-over = at-end .named ∙ over-marked rs fs N few (slotCount * F)
+
+    all-marked : eqb (over + 1) occupied ≡ false → fresh ≡ true → count ≡ marked
+    unfolding marked
+    all-marked t z = M .asked t .counts z ∙ count-ext (slotCount * F) _ _ (λ j m. counted-alike (holdsPage residents) (usedIn rs) fs F N held-used j m)
+
+    noted : eqb (over + 1) occupied ≡ false → Progress (numbersMet rs fs F N) (placesMet F) seen' fresh
+    noted t = M .asked t .notes .goes (numbersMet rs fs F N) (perFrame * F)
+        (λ j m. met-then rs fs F N j ∙ sym (stands-alike (holdsPage residents) (usedIn rs) fs F N held-used j m)) (at-end .passed)
+
+    -- one of them stands twice
+    pub marks-twice : fresh ≡ false → FramesFit rs fs F N → ⊥
+    marks-twice z fit = elim (case (eqb (over + 1) occupied)) [
+      | on t ↦ clash (sym (M .unasked t .2) ∙ z)
+      | off t ↦ met-twice rs fs F N few (placesMet F) (le-refl (placesMet F)) (rw z at (noted t)) fit
+    ]
+
+    -- the words that are not below N are those that name frames, and those with marks
+    pub frames-even : fresh ≡ true → FramesFit rs fs F N → over + 1 ≡ occupied + count
+    frames-even z fit = elim (case (eqb (over + 1) occupied)) [
+      | on t ↦ let c : count ≡ 0 = M .unasked t .1 in let e : over + 1 ≡ occupied = eqb-true _ _ t in omega arith
+      | off t ↦ omega (arith, all-over, all-marked t z, fit .even, at-end .counted)
+    ]
+
+    module _ (least : countIf F (usedIn rs) ≤ countIf (slotCount * F) (isOver nameOf rs fs N) + 1) (z : fresh ≡ true) (e : over + 1 ≡ occupied + count) where
+      -- there are none where they weren't looked for
+      no-mark : eqb (over + 1) occupied ≡ true → marked ≡ 0
+      no-mark t = let d : over + 1 ≡ occupied = eqb-true _ _ t in omega (arith, all-over, least, at-end .counted)
+
+      names-even : countIf (slotCount * F) (isOver nameOf rs fs N) + 1 ≡ countIf F (usedIn rs)
+      names-even = elim (case (eqb (over + 1) occupied)) [
+        | on t ↦ let d : over + 1 ≡ occupied = eqb-true _ _ t in omega (arith, all-over, no-mark t, at-end .counted)
+        | off t ↦ omega (arith, all-over, all-marked t z, at-end .counted)
+      ]
+
+      all-passed : PassedRow (numbersMet rs fs F N) (placesMet F) seen'
+      unfolding marked
+      all-passed = elim (case (eqb (over + 1) occupied)) [
+        | on t ↦ rw (M .unasked t .0) (pass-zeros (numbersMet rs fs F N) (perFrame * F) seen (slotCount * F)
+            (λ j m. met-then rs fs F N j ∙ none-stands (usedIn rs) fs N j (none-passes (slotCount * F) _ (no-mark t) j m)) (at-end .passed))
+        | off t ↦ rw z at (noted t)
+      ]
+
+      pub settle : (g : ℕ) (P : Type 0) → recordCount ≤ g → RestTo rs F g P → P → Settled rs fs F N seen' t residents
+      settle g P m R q =
+          let b : RestBlank rs F = λ h a k. R .blanks q h a (omega arith) in
+          let n : PassedRow (numbersInFrames nameOf rs fs N) (perFrame * F) seen' = passed-sorted _ _ _ _ (met-names rs fs F N few) (names-met rs fs F N) seen' all-passed in
+          record {
+            rest = b;
+            fit = record { fits = at-end .fits; once = n .once; even = names-even };
+            parents = record { size = B .room; parent = at-end .parents };
+            passed = n;
+            held = page-table b;
+          }

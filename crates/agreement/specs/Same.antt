@@ -10,7 +10,7 @@ use native.Mathlib.Decide.{ℕ-discrete, decLt}
 use borrow.Author.Tests.{eqb-true, le-leb, leb-true}
 use lib.Dec.{eqb}
 use Rattle.page.specs.Figures.{slotCount, recordCount}
-use Rattle.page.specs.Word.{frameIn, frameWord, Number, Swizzled, high, low, reading}
+use Rattle.page.specs.Word.{nameOf, frameIn, frameWord, Number, Swizzled, high, low, reading}
 use Rattle.page.specs.Page.{name}
 use Rattle.machine.specs.declared.FrameRecord.{FrameRecord}
 use Rattle.machine.specs.declared.Pool.{Pool}
@@ -32,12 +32,12 @@ use Rattle.agreement.specs.ParentSteps.{Below, climb-same}
 flag-range : {b : ℕ} → eqb b 1 ≡ true → b ≤ 1
 flag-range {b} u = let e : b ≡ 1 = eqb-true b 1 u in omega arith
 
-over-of : (rs : List FrameRecord) (fs : List ℕ) (N j : ℕ) → isOver rs fs N j ≡ true → (isUsed (recordAt rs (j / slotCount)) ≡ true) × (N ≤ name fs (j / slotCount) (j % slotCount))
+over-of : (rs : List FrameRecord) (fs : List ℕ) (N j : ℕ) → isOver nameOf rs fs N j ≡ true → (isUsed (recordAt rs (j / slotCount)) ≡ true) × (N ≤ name fs (j / slotCount) (j % slotCount))
 unfolding isOver
 over-of rs fs N j t = let a = and-true (isUsed (recordAt rs (j / slotCount))) _ t in (a .0, leb-true N _ (a .1))
 
 -- the word in slot k of frame f
-of-over : (rs : List FrameRecord) (fs : List ℕ) (N f k : ℕ) → k < slotCount → isUsed (recordAt rs f) ≡ true → N ≤ name fs f k → isOver rs fs N (slotCount * f + k) ≡ true
+of-over : (rs : List FrameRecord) (fs : List ℕ) (N f k : ℕ) → k < slotCount → isUsed (recordAt rs f) ≡ true → N ≤ name fs f k → isOver nameOf rs fs N (slotCount * f + k) ≡ true
 unfolding isOver
 of-over rs fs N f k h u l =
     let a : (slotCount * f + k) / slotCount ≡ f = omega arith in
@@ -68,7 +68,7 @@ module _ (p : Pool) (fs : List ℕ) (S : Sizes (p .count) (p .pages) fs) where
     place f = slotCount * parentOf p f + parentSlotOf p f
 
     -- every frame but the root's has a word of its own that is not below N
-    words-of : Into (p .count) (slotCount * p .count) isOther (isOver (p .records) fs (p .pages)) place
+    words-of : Into (p .count) (slotCount * p .count) isOther (isOver nameOf (p .records) fs (p .pages)) place
     unfolding place isOther
     words-of = record {
       below = λ f l t. let o = without-of 0 (usedIn (p .records)) f t in let r = resident f (o .0) l (o .1) in omega (arith, r .parent, r .slot);
@@ -87,14 +87,22 @@ module _ (p : Pool) (fs : List ℕ) (S : Sizes (p .count) (p .pages) fs) where
           omega arith;
     }
 
-    -- where there are no more such words, each names a frame that points back to it
-    over-named : countIf (slotCount * p .count) (isOver (p .records) fs (p .pages)) + 1 ≡ countIf (p .count) (usedIn (p .records))
+    -- so there are no fewer such words than frames to name
+    words-least : countIf (p .count) (usedIn (p .records)) ≤ countIf (slotCount * p .count) (isOver nameOf (p .records) fs (p .pages)) + 1
+    unfolding isOther
+    words-least =
+        let a : countIf (p .count) isOther ≤ countIf (slotCount * p .count) (isOver nameOf (p .records) fs (p .pages)) = into-le _ _ _ _ _ words-of in
+        let b : countIf (p .count) (usedIn (p .records)) ≡ countIf (p .count) isOther + 1 = count-without (p .count) 0 (usedIn (p .records)) (omega (arith, S .least)) (root-fits .used) in
+        omega arith
+
+    -- where there are no more, each names a frame that points back to it
+    over-named : countIf (slotCount * p .count) (isOver nameOf (p .records) fs (p .pages)) + 1 ≡ countIf (p .count) (usedIn (p .records))
         → (f k : ℕ) → occupied p f ≡ true → k < slotCount → p .pages ≤ name fs f k → (g : ℕ) × Points p g f k × (name fs f k ≡ frameWord g)
     unfolding place isOther
     over-named even f k o h l =
         let all : countIf (p .count) (usedIn (p .records)) ≡ countIf (p .count) isOther + 1 = count-without (p .count) 0 (usedIn (p .records)) (omega (arith, S .least)) (root-fits .used) in
-        let few : countIf (slotCount * p .count) (isOver (p .records) fs (p .pages)) ≤ countIf (p .count) isOther = omega arith in
-        let r = into-all (p .count) (slotCount * p .count) isOther (isOver (p .records) fs (p .pages)) place words-of few
+        let few : countIf (slotCount * p .count) (isOver nameOf (p .records) fs (p .pages)) ≤ countIf (p .count) isOther = omega arith in
+        let r = into-all (p .count) (slotCount * p .count) isOther (isOver nameOf (p .records) fs (p .pages)) place words-of few
         (slotCount * f + k) (omega (arith, occupied-lt p f o)) (of-over (p .records) fs (p .pages) f k h (occupied-used p f o) l) in
         let t = without-of 0 (usedIn (p .records)) (r .0) (r .2) in
         let a = resident (r .0) (t .0) (r .1) (t .1) in
@@ -113,7 +121,7 @@ module _ (p : Pool) (fs : List ℕ) (S : Sizes (p .count) (p .pages) fs) where
     root = root-fits (fit .fits)
 
     row : ℕ → ℕ
-    row = numbersInFrames (p .records) fs (p .pages)
+    row = numbersInFrames nameOf (p .records) fs (p .pages)
 
     of-used : (f : ℕ) → occupied p f ≡ true → f ≢ 0 → ResidentFits (p .count) (p .pages) (recordAt (p .records) f)
     of-used f o n = resident (fit .fits) f n (occupied-lt p f o) (occupied-used p f o)
@@ -128,11 +136,11 @@ module _ (p : Pool) (fs : List ℕ) (S : Sizes (p .count) (p .pages) fs) where
 
     row-page : (f : ℕ) → occupied p f ≡ true → row (perFrame * f) ≡ pageIn (p .records) f
     unfolding row
-    row-page f o = numbers-page (p .records) fs (p .pages) f (occupied-used p f o)
+    row-page f o = numbers-page nameOf (p .records) fs (p .pages) f (occupied-used p f o)
 
     row-word : (f k : ℕ) → occupied p f ≡ true → k < slotCount → name fs f k < p .pages → row (perFrame * f + (1 + k)) ≡ name fs f k
     unfolding row
-    row-word f k o h l = numbers-word (p .records) fs (p .pages) f k h (occupied-used p f o) ∙ below-low (p .pages) (name fs f k) l
+    row-word f k o h l = numbers-word nameOf (p .records) fs (p .pages) f k h (occupied-used p f o) ∙ below-low (p .pages) (name fs f k) l
 
     root-occupied : occupied p 0 ≡ true
     root-occupied = make-occupied p 0 (omega (arith, S .least)) (root .used)
@@ -256,17 +264,17 @@ module _ (p : Pool) (fs : List ℕ) (S : Sizes (p .count) (p .pages) fs) where
 
     -- what stands at a place of the row
     pub data At (i : ℕ) : Type 0 where
-      nothing : numbersInFrames (p .records) fs (p .pages) i ≡ 0 → At i
-      page : (f : ℕ) → occupied p f ≡ true → i ≡ perFrame * f → numbersInFrames (p .records) fs (p .pages) i ≡ pageIn (p .records) f → At i
-      loose : (f k : ℕ) → occupied p f ≡ true → k < slotCount → i ≡ perFrame * f + (1 + k) → Number (name fs f k) → name fs f k ≢ 0 → numbersInFrames (p .records) fs (p .pages) i ≡ name fs f k → At i
+      nothing : numbersInFrames nameOf (p .records) fs (p .pages) i ≡ 0 → At i
+      page : (f : ℕ) → occupied p f ≡ true → i ≡ perFrame * f → numbersInFrames nameOf (p .records) fs (p .pages) i ≡ pageIn (p .records) f → At i
+      loose : (f k : ℕ) → occupied p f ≡ true → k < slotCount → i ≡ perFrame * f + (1 + k) → Number (name fs f k) → name fs f k ≢ 0 → numbersInFrames nameOf (p .records) fs (p .pages) i ≡ name fs f k → At i
 
     at-word : (i f k : ℕ) → i ≡ perFrame * f + (1 + k) → k < slotCount → occupied p f ≡ true → At i
     at-word i f k e h o =
-        let w : numbersInFrames (p .records) fs (p .pages) i ≡ numberBelow (p .pages) (name fs f k) = ap (numbersInFrames (p .records) fs (p .pages)) e ∙ numbers-word (p .records) fs (p .pages) f k h (occupied-used p f o) in
+        let w : numbersInFrames nameOf (p .records) fs (p .pages) i ≡ numberBelow (p .pages) (name fs f k) = ap (numbersInFrames nameOf (p .records) fs (p .pages)) e ∙ numbers-word nameOf (p .records) fs (p .pages) f k h (occupied-used p f o) in
         elim (decLt (name fs f k) (p .pages)) [
           | no b ↦ nothing (w ∙ below-high (p .pages) (name fs f k) (omega arith))
           | yes b ↦
-              let v : numbersInFrames (p .records) fs (p .pages) i ≡ name fs f k = w ∙ below-low (p .pages) (name fs f k) b in
+              let v : numbersInFrames nameOf (p .records) fs (p .pages) i ≡ name fs f k = w ∙ below-low (p .pages) (name fs f k) b in
               elim (ℕ-discrete (name fs f k) 0) [
                 | yes z ↦ nothing (v ∙ z)
                 | no z ↦ loose f k o h e (omega (arith, S .pages)) z v
@@ -275,10 +283,10 @@ module _ (p : Pool) (fs : List ℕ) (S : Sizes (p .count) (p .pages) fs) where
 
     at-frame : (i f j : ℕ) → i ≡ perFrame * f + j → j < perFrame → f < p .count → At i
     at-frame i f j e h l = elim (case (isUsed (recordAt (p .records) f))) [
-      | off u ↦ nothing (ap (numbersInFrames (p .records) fs (p .pages)) e ∙ numbers-empty (p .records) fs (p .pages) f j h u)
+      | off u ↦ nothing (ap (numbersInFrames nameOf (p .records) fs (p .pages)) e ∙ numbers-empty nameOf (p .records) fs (p .pages) f j h u)
       | on u ↦ elim (ℕ-discrete j 0) [
         | yes z ↦ let q : i ≡ perFrame * f = omega arith in
-            page f (make-occupied p f l u) q (ap (numbersInFrames (p .records) fs (p .pages)) q ∙ numbers-page (p .records) fs (p .pages) f u)
+            page f (make-occupied p f l u) q (ap (numbersInFrames nameOf (p .records) fs (p .pages)) q ∙ numbers-page nameOf (p .records) fs (p .pages) f u)
         | no z ↦ at-word i f (j - 1) (omega arith) (omega arith) (make-occupied p f l u)
       ]
     ]
@@ -286,7 +294,7 @@ module _ (p : Pool) (fs : List ℕ) (S : Sizes (p .count) (p .pages) fs) where
     pub at : (i : ℕ) → i < perFrame * p .count → At i
     at i l = at-frame i (i / perFrame) (i % perFrame) (omega arith) (omega arith) (omega arith)
 
-    once-at : (i j : ℕ) → i < j → At i → At j → numbersInFrames (p .records) fs (p .pages) i ≡ numbersInFrames (p .records) fs (p .pages) j → numbersInFrames (p .records) fs (p .pages) i ≡ 0
+    once-at : (i j : ℕ) → i < j → At i → At j → numbersInFrames nameOf (p .records) fs (p .pages) i ≡ numbersInFrames nameOf (p .records) fs (p .pages) j → numbersInFrames nameOf (p .records) fs (p .pages) i ≡ 0
     once-at i j l (nothing e) y q = e
     once-at i j l (page f o m e) (nothing d) q = q ∙ d
     once-at i j l (page f o m e) (page g o' m' d) q = absurd (omega (arith, A .apart f g o o' (sym e ∙ q ∙ d)))
@@ -298,7 +306,7 @@ module _ (p : Pool) (fs : List ℕ) (S : Sizes (p .count) (p .pages) fs) where
         absurd (omega (arith, r .0, r .1))
 
     -- a word that is not below N is swizzled
-    swizzled : (j : ℕ) → j < slotCount * p .count → isOver (p .records) fs (p .pages) j ≡ true → Points p (frameIn (name fs (j / slotCount) (j % slotCount))) (j / slotCount) (j % slotCount)
+    swizzled : (j : ℕ) → j < slotCount * p .count → isOver nameOf (p .records) fs (p .pages) j ≡ true → Points p (frameIn (name fs (j / slotCount) (j % slotCount))) (j / slotCount) (j % slotCount)
     swizzled j l t =
         let v = over-of (p .records) fs (p .pages) j t in
         let o = make-occupied p (j / slotCount) (omega arith) (v .0) in
@@ -310,7 +318,7 @@ module _ (p : Pool) (fs : List ℕ) (S : Sizes (p .count) (p .pages) fs) where
         ])
 
     -- every such word names a frame of its own
-    frames-of : Into (slotCount * p .count) (p .count) (isOver (p .records) fs (p .pages)) (isOther is-fit) (λ j. frameIn (name fs (j / slotCount) (j % slotCount)))
+    frames-of : Into (slotCount * p .count) (p .count) (isOver nameOf (p .records) fs (p .pages)) (isOther is-fit) (λ j. frameIn (name fs (j / slotCount) (j % slotCount)))
     unfolding isOther
     frames-of = record {
       below = λ j l t. occupied-lt p _ (swizzled j l t .at);
@@ -323,11 +331,11 @@ module _ (p : Pool) (fs : List ℕ) (S : Sizes (p .count) (p .pages) fs) where
           omega arith;
     }
 
-    is-even : countIf (slotCount * p .count) (isOver (p .records) fs (p .pages)) + 1 ≡ countIf (p .count) (usedIn (p .records))
+    is-even : countIf (slotCount * p .count) (isOver nameOf (p .records) fs (p .pages)) + 1 ≡ countIf (p .count) (usedIn (p .records))
     unfolding isOther
     is-even =
-        let a : countIf (slotCount * p .count) (isOver (p .records) fs (p .pages)) ≤ countIf (p .count) (isOther is-fit) = into-le _ _ _ _ _ frames-of in
-        let b : countIf (p .count) (isOther is-fit) ≤ countIf (slotCount * p .count) (isOver (p .records) fs (p .pages)) = into-le _ _ _ _ _ (words-of is-fit) in
+        let a : countIf (slotCount * p .count) (isOver nameOf (p .records) fs (p .pages)) ≤ countIf (p .count) (isOther is-fit) = into-le _ _ _ _ _ frames-of in
+        let b : countIf (p .count) (isOther is-fit) ≤ countIf (slotCount * p .count) (isOver nameOf (p .records) fs (p .pages)) = into-le _ _ _ _ _ (words-of is-fit) in
         let c : countIf (p .count) (usedIn (p .records)) ≡ countIf (p .count) (isOther is-fit) + 1 = count-without (p .count) 0 (usedIn (p .records)) (omega (arith, S .least)) (is-root .used) in
         omega arith
 
@@ -359,6 +367,11 @@ module _ (p : Pool) (fs : List ℕ) (S : Sizes (p .count) (p .pages) fs) where
 
       pub end-frames : (FramesFit (p .records) fs count (p .pages) → ⊥) → Decided p fs residents seen false
       end-frames h = refused (λ A. h (rw e (is-frames p fs S A)))
+
+    -- there are no fewer words that are not below N than frames to name
+    pub frames-least : ((f : ℕ) → f < count → Fits fs count (p .pages) f (recordAt (p .records) f) (aboveUsed (p .records) (recordAt (p .records) f)))
+        → countIf count (usedIn (p .records)) ≤ countIf (slotCount * count) (isOver nameOf (p .records) fs (p .pages)) + 1
+    frames-least fits = rw e (words-least p fs S (rw e at fits))
 
     module _ (seen : Seen) (t residents : List ℕ) (Z : Settled (p .records) fs count (p .pages) seen t residents) where
       below : (f : ℕ) → f < count → parentAt (p .records) f < count

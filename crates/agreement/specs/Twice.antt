@@ -4,6 +4,7 @@ use mathlib.Core.Path.{_≡_, refl, sym, _∙_, ap}
 use mathlib.Core.Logic.{_≢_}
 use mathlib.Core.Bool.{Bool, true, false}
 use native.Mathlib.Omega.{arith}
+use native.Mathlib.Nat.{add-zero, le-refl}
 use native.Mathlib.Decide.{ℕ-discrete, decLt}
 use Rattle.page.specs.Figures.{mostPages}
 use Rattle.rules.specs.Tests.{_or_, every}
@@ -126,3 +127,78 @@ pub pass-one : (row : ℕ → ℕ) (n : ℕ) (seen seen' : Seen) (x : ℕ) → r
 pass-one row n seen seen' x e l new S P =
     goes-on row n 1 (λ k. x) (λ k h. let z : n + k ≡ n = omega arith in ap row z ∙ e) (λ k h. l) seen seen' P new
     (marked-more (λ k. x) mostPages seen 0 (omega arith) seen x refl (λ z. l) seen' new S true new (and-yes refl refl) (marked-none (λ k. x) mostPages seen (P .tells .table)))
+
+-- ---- numbers noted in whatever row they stand next
+
+-- a row that is passed so far and has the m numbers w next goes on by them
+pub record RowNoted (w : ℕ → ℕ) (m : ℕ) (seen seen' : Seen) (fresh : Bool) : Type 0 where
+  pub goes : (row : ℕ → ℕ) (i : ℕ) → ((k : ℕ) → k < m → row (i + k) ≡ w k) → PassedRow row i seen → Progress row (i + m) seen' fresh
+
+pub noted-none : (w : ℕ → ℕ) (seen : Seen) → RowNoted w 0 seen seen true
+noted-none w seen = record { goes = λ row i h P. rw (add-zero i) P }
+
+module _ (w : ℕ → ℕ) (m : ℕ) (seen now : Seen) (R : RowNoted w m seen now true) where
+  -- by n numbers more
+  pub noted-then : (n : ℕ) (next : Seen) (r : Bool) → RowNoted (λ k. w (m + k)) n now next r → RowNoted w (m + n) seen next r
+  noted-then n next r Q = record {
+    goes = λ row i h P.
+        let q : i + (m + n) ≡ i + m + n = omega arith in
+        rw q (Q .goes row (i + m) (λ k b. let z : i + m + k ≡ i + (m + k) = omega arith in ap row z ∙ h (m + k) (omega arith)) (R .goes row i (λ k b. h k (omega arith)) P));
+  }
+
+  -- by one, which was noted
+  pub noted-one : (x : ℕ) → w m ≡ x → x < mostPages → (next : Seen) (new : Bool) → Notes x now next new → RowNoted w (m + 1) seen next new
+  noted-one x e l next new S = noted-then 1 next new (record { goes = λ row i h P. pass-one row i now next x (ap row (sym (add-zero i)) ∙ h 0 (omega arith) ∙ ap w (add-zero m) ∙ e) l new S P })
+
+  -- by n zeros
+  pub noted-zeros : (n : ℕ) → ((k : ℕ) → k < n → w (m + k) ≡ 0) → RowNoted w (m + n) seen now true
+  noted-zeros n z = noted-then n now true (record { goes = λ row i h P. pass-zeros row i now n (λ k b. h k b ∙ z k b) P })
+
+-- once a number stands twice, it does so in a longer row
+pub noted-twice : (w : ℕ → ℕ) (m n : ℕ) → m ≤ n → (seen now after : Seen) → RowNoted w m seen now false → RowNoted w n seen after false
+noted-twice w m n l seen now after R = record { goes = λ row i h P. twice-more row (i + m) (i + n) (omega arith) (R .goes row i (λ k b. h k (omega arith)) P) }
+
+pub noted-ext : (w v : ℕ → ℕ) (m : ℕ) → ((k : ℕ) → k < m → w k ≡ v k) → (seen next : Seen) (r : Bool) → RowNoted v m seen next r → RowNoted w m seen next r
+noted-ext w v m e seen next r R = record { goes = λ row i h P. R .goes row i (λ k b. h k b ∙ e k b) P }
+
+-- ---- the same numbers in another order
+
+-- each number but 0 at the first n places of a has a place of its own among the first m of c
+pub record Sorted (a : ℕ → ℕ) (n : ℕ) (c : ℕ → ℕ) (m : ℕ) : Type 0 where
+  pub to : ℕ → ℕ
+  pub inside : (i : ℕ) → i < n → a i ≢ 0 → to i < m
+  pub same : (i : ℕ) → i < n → a i ≢ 0 → c (to i) ≡ a i
+  pub apart : (i j : ℕ) → i < n → j < n → a i ≢ 0 → a j ≢ 0 → to i ≡ to j → i ≡ j
+
+module _ (a : ℕ → ℕ) (n : ℕ) (c : ℕ → ℕ) (m : ℕ) (S : Sorted a n c m) where
+  sorted-among : (x : ℕ) → x ≢ 0 → among a n x ≡ true → among c m x ≡ true
+  sorted-among x z t =
+      let r = among-is a n x t in
+      let y : a (r .0) ≢ 0 = λ y. z (sym (r .2) ∙ y) in
+      is-among c m x (S .to (r .0)) (S .inside (r .0) (r .1) y) (S .same (r .0) (r .1) y ∙ r .2)
+
+  pub sorted-twice : Twice a n → Twice c m
+  sorted-twice t =
+      let i : ℕ = t .first in
+      let j : ℕ = t .second in
+      let li : i < n = omega (arith, t .order, t .inside) in
+      let zj : a j ≢ 0 = λ z. t .number (t .equal ∙ z) in
+      let e : c (S .to i) ≡ c (S .to j) = S .same i li (t .number) ∙ t .equal ∙ sym (S .same j (t .inside) zj) in
+      let g : c (S .to i) ≢ 0 = λ z. t .number (sym (S .same i li (t .number)) ∙ z) in
+      elim (decLt (S .to i) (S .to j)) [
+        | yes l ↦ record { first = S .to i; second = S .to j; order = l; inside = S .inside j (t .inside) zj; equal = e; number = g }
+        | no l ↦ elim (ℕ-discrete (S .to i) (S .to j)) [
+          | yes q ↦ absurd (omega (arith, S .apart i j li (t .inside) (t .number) zj q, t .order))
+          | no q ↦ record { first = S .to j; second = S .to i; order = omega arith; inside = S .inside i li (t .number); equal = sym e; number = λ z. g (e ∙ z) }
+        ]
+      ]
+
+-- so what is passed in the one order is passed in the other
+pub passed-sorted : (a : ℕ → ℕ) (n : ℕ) (c : ℕ → ℕ) (m : ℕ) → Sorted a n c m → Sorted c m a n → (seen : Seen) → PassedRow a n seen → PassedRow c m seen
+passed-sorted a n c m S T seen P = record {
+  tells = tells-ext seen _ _ (P .tells) (λ x p l. same _ _ (sorted-among a n c m S x (λ z. omega arith)) (sorted-among c m a n T x (λ z. omega arith)));
+  once = λ i j l h e. elim (ℕ-discrete (c i) 0) [
+    | yes z ↦ z
+    | no z ↦ absurd (not-twice a n n (le-refl n) (P .once) (sorted-twice c m a n T (record { first = i; second = j; order = l; inside = h; equal = e; number = z })))
+  ];
+}

@@ -12,15 +12,19 @@ ghost use Rattle.agreement.specs.Sizes.{Sizes};
 ghost use Rattle.agreement.specs.Deciding.{Decides};
 ghost use Rattle.agreement.specs.Fit.{Linked, Fits, FrameNoted};
 
-// Is the frame's parent occupied (`above`), and its word swizzled to the frame.
+// Is the frame's parent occupied (`above`), and its word swizzled to the frame, with a mark or, as most, without.
 fn is_linked(frames: &[u8], frame: FrameIndex, rec: FrameRecord, above: bool) -> bool
     requires { ⌜ (frame .0 < mostFrames) × (pageSize * rec .parent .0 + pageSize ≤ length (now frames)) × (rec .slot < slotCount) ⌝ }
     ensures { λ r. ⌜ Decides r (Linked (now (frames .entry)) (frame .0) rec above) ⌝ }
 {
     if above {
         let slot = page::wide::from_u8(rec.slot);
-        let name = page::slot::slot_name(frames, rec.parent, slot);
-        return name == FrameIndex::word(frame);
+        let w = page::slot::slot_word(frames, rec.parent, slot);
+        let name = FrameIndex::word(frame);
+        if w == name {
+            return true;
+        }
+        return w == page::word::marked(true, name);
     }
     false
 }

@@ -1,5 +1,6 @@
-// Rule 2: do records and frames agree. One pass over the frames tests each record, the word that names the frame, and the numbers in it; then parents are followed, where one doesn't lie before its frame.
+// Rule 2: do records and frames agree. One pass over the frames tests each record, the word that names the frame, and the numbers in it; then numbers with marks are looked for, where there may be some, and parents are followed, where one doesn't lie before its frame.
 mod frame;
+mod marks;
 mod record;
 mod steps;
 mod words;
@@ -27,7 +28,7 @@ pub fn agrees(pool: Pool, frames: &[u8], residents: &mut Residents, seen: &mut S
     }
     let mut parents = [0u8; FrameIndex::MOST];
     let mut occupied: u32 = 0;
-    // Words that aren't below N. Each occupied frame but the root's has one of its own; where there are no more of them, each is swizzled to a frame that points back to it.
+    // Words that aren't below N as they stand. Each occupied frame but the root's has one of its own; where there are no more of them, each is swizzled to a frame that points back to it, with a mark or without. Others can only be numbers with marks.
     let mut over: u32 = 0;
     let mut f: usize = 0;
     while f < count {
@@ -72,7 +73,14 @@ pub fn agrees(pool: Pool, frames: &[u8], residents: &mut Residents, seen: &mut S
     if last != 0 {
         return false;
     }
-    if over + 1 != occupied {
+    // With the root's, which no word names.
+    let frames_named = over + 1;
+    let even = frames_named == occupied;
+    let marked = marks::note(frames, residents, count, n, even, seen);
+    if !marked.fresh {
+        return false;
+    }
+    if frames_named != occupied + marked.count {
         return false;
     }
     steps::lead_to_root(parents, count)

@@ -1,4 +1,4 @@
-// The page and the 16 words of a frame, noted in the table of the numbers seen.
+// The page and the 16 words of a frame, noted in the table of the numbers seen. Words are taken as they stand: one with a mark isn't below N.
 use page::PageNumber;
 use seen::Seen;
 ghost use mathlib.Core.Path.{_≡_};
@@ -46,7 +46,7 @@ fn word_sum(frames: &[u8], start: usize, pages: u32) -> u32
     let mut sum: u32 = 0;
     let mut k: usize = 0;
     while k < PageNumber::SLOTS {
-        let w = page::word::name_at(frames, start + page::word::SIZE * k);
+        let w = page::word::word_at(frames, start + page::word::SIZE * k);
         sum += word_weight(last, w);
         k += 1;
     }
@@ -61,7 +61,7 @@ fn numbers_below(frames: &[u8], start: usize, pages: u32) -> [u32; PageNumber::S
     let mut numbers: [u32; PageNumber::SLOTS] = [0; PageNumber::SLOTS];
     let mut k: usize = 0;
     while k < PageNumber::SLOTS {
-        let w = page::word::name_at(frames, start + page::word::SIZE * k);
+        let w = page::word::word_at(frames, start + page::word::SIZE * k);
         numbers[k] = number_below(pages, w);
         k += 1;
     }

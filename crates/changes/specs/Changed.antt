@@ -1,6 +1,7 @@
 -- What write, link and unlink leave, from what the code put where. Assumes nothing.
 use Prim.Native.Nat.{ℕ, _+_, _*_, _-_, _≤_, _<_}
 use mathlib.Core.Path.{_≡_, refl, sym, _∙_, ap}
+use mathlib.Core.Bool.{Bool}
 use mathlib.Core.List.{List, [], _∷_, append-assoc}
 use native.Mathlib.Omega.{arith}
 use native.Mathlib.Nat.{le-refl}
@@ -11,6 +12,7 @@ use lib.ListN.{length, take, drop}
 use lib.Seq.{take-all, drop-drop, set-getD}
 use Rattle.page.specs.declared.PageNumber.{PageNumber}
 use Rattle.page.specs.Figures.{pageSize, payloadStart, payloadSize, mostFrames}
+use Rattle.page.specs.Word.{marked, numberWord}
 use Rattle.page.specs.Page.{payloadAt, putPayload, putPayload-none, putSlot}
 use Rattle.machine.specs.declared.FrameRecord.{FrameRecord}
 use Rattle.machine.specs.declared.Handle.{Handle}
@@ -18,10 +20,10 @@ use Rattle.machine.specs.declared.Pool.{Pool}
 use Rattle.rules.specs.Tests.{firstBroken}
 use Rattle.rules.specs.TestLaws.{and-true, first-kept, pick-yes, pick-no}
 use Rattle.machine.specs.Machine.{State, state, blank, recordAt, withRecord, withRecords, dirtied}
-use Rattle.machine.specs.Rules.{rangeFits, wordOf, rule5, rule6-link, rule7, rule8, rule9, rule10}
+use Rattle.machine.specs.Rules.{rangeFits, wordOf, rule5, rule6-link, rule7, rule8, rule9, rule10, rule26}
 use Rattle.machine.specs.Answers.{out, doneAnswer}
 use Rattle.machine.specs.Calls.{writeRules, linkRules, unlinkRules, written, relinked, writeCall, linkCall, unlinkCall}
-use Rattle.machine.specs.Laws.RuleLaws.{HandleKept, SlotKept, handle-parts, slot-parts, done-yes}
+use Rattle.machine.specs.Laws.RuleLaws.{HandleKept, EditKept, handle-parts, edit-parts, done-yes}
 use Rattle.guard.specs.Held.{recordPlace}
 
 -- the records with the page in frame f marked dirty
@@ -39,15 +41,15 @@ pub record WriteKept (s : State) (h : Handle) (offset n : ℕ) : Type 0 where
 pub write-kept : (s : State) (h : Handle) (offset n : ℕ) {m : ℕ} → m ≡ firstBroken (writeRules s h offset n) → m ≡ 0 → WriteKept s h offset n
 unfolding rangeFits
 write-kept s h offset n e z =
-    let a = handle-parts s h (rule5 offset n ∷ []) (sym e ∙ z) in
-    let b = and-true (leb offset payloadSize) (leb n (payloadSize - offset)) (first-kept 4 (rangeFits offset n) [] (a .1) .0) in
+    let a = handle-parts s h (rule5 offset n ∷ rule26 s h ∷ []) (sym e ∙ z) in
+    let b = and-true (leb offset payloadSize) (leb n (payloadSize - offset)) (first-kept 4 (rangeFits offset n) (rule26 s h ∷ []) (a .1) .0) in
     record { kept = a .0; from = leb-true offset payloadSize (b .0); size = leb-true n (payloadSize - offset) (b .1) }
 
-pub linkable : (s : State) (h : Handle) (k : ℕ) (q : PageNumber) {m : ℕ} → m ≡ firstBroken (linkRules s h k q) → m ≡ 0 → SlotKept s h k
-linkable s h k q e z = slot-parts s h k (rule6-link s (q .0) ∷ rule9 s (q .0) ∷ rule8 (wordOf s h k) ∷ []) (sym e ∙ z) .0
+pub linkable : (s : State) (h : Handle) (k : ℕ) (q : PageNumber) {m : ℕ} → m ≡ firstBroken (linkRules s h k q) → m ≡ 0 → EditKept s h k
+linkable s h k q e z = edit-parts s h k (rule6-link s (q .0) ∷ rule9 s (q .0) ∷ rule8 (wordOf s h k) ∷ []) (sym e ∙ z) .0
 
-pub unlinkable : (s : State) (h : Handle) (k : ℕ) {m : ℕ} → m ≡ firstBroken (unlinkRules s h k) → m ≡ 0 → SlotKept s h k
-unlinkable s h k e z = slot-parts s h k (rule7 (wordOf s h k) ∷ rule10 (wordOf s h k) ∷ []) (sym e ∙ z) .0
+pub unlinkable : (s : State) (h : Handle) (k : ℕ) {m : ℕ} → m ≡ firstBroken (unlinkRules s h k) → m ≡ 0 → EditKept s h k
+unlinkable s h k e z = edit-parts s h k (rule7 (wordOf s h k) ∷ rule10 (wordOf s h k) ∷ []) (sym e ∙ z) .0
 
 -- ---- what is left
 
@@ -99,13 +101,13 @@ module _ (s : State) (h : Handle) (offset : ℕ) (bytes : List ℕ) {m : ℕ} wh
       done-yes s (writeRules s h offset (length bytes)) e z (bytes-written s (h .frame .0) offset bytes n (put-dirty (s .pool) h (k .kept .sized .most) (k .held .below) i d) j)
 
 module _ (s : State) (h : Handle) (k : ℕ) {at : ℕ} {r : FrameRecord} {fs : List ℕ} where
-  slot-put : (w : ℕ) → SlotKept s h k → at ≡ recordPlace h → r ≡ dirtied (recordAt (s .pool .records) at) → fs ≡ putSlot (s .frames) (h .frame .0) k w → state (withRecord (s .pool) at r) fs (s .store) ≡ relinked s (h .frame .0) k w
+  slot-put : (w : ℕ) → EditKept s h k → at ≡ recordPlace h → r ≡ dirtied (recordAt (s .pool .records) at) → fs ≡ putSlot (s .frames) (h .frame .0) k w → state (withRecord (s .pool) at r) fs (s .store) ≡ relinked s (h .frame .0) k w
   slot-put w a i d j = same-state (s .store) (put-dirty (s .pool) h (a .kept .sized .most) (a .held .below) i d) j
 
-  pub link-done : (q : PageNumber) {m w : ℕ} → m ≡ firstBroken (linkRules s h k q) → m ≡ 0 → at ≡ recordPlace h → r ≡ dirtied (recordAt (s .pool .records) at) → fs ≡ putSlot (s .frames) (h .frame .0) k w → w ≡ q .0
-      → out (doneAnswer 0) (state (withRecord (s .pool) at r) fs (s .store)) ≡ linkCall s h k q
+  pub link-done : (q : PageNumber) (l : Bool) {m w : ℕ} → m ≡ firstBroken (linkRules s h k q) → m ≡ 0 → at ≡ recordPlace h → r ≡ dirtied (recordAt (s .pool .records) at) → fs ≡ putSlot (s .frames) (h .frame .0) k w → w ≡ marked l (numberWord (q .0))
+      → out (doneAnswer 0) (state (withRecord (s .pool) at r) fs (s .store)) ≡ linkCall s h k q l
   unfolding linkCall
-  link-done q e z i d j n = done-yes s (linkRules s h k q) e z (slot-put (q .0) (linkable s h k q e z) i d (j ∙ ap (putSlot (s .frames) (h .frame .0) k) n))
+  link-done q l e z i d j n = done-yes s (linkRules s h k q) e z (slot-put (marked l (numberWord (q .0))) (linkable s h k q e z) i d (j ∙ ap (putSlot (s .frames) (h .frame .0) k) n))
 
   pub unlink-done : {m : ℕ} → m ≡ firstBroken (unlinkRules s h k) → m ≡ 0 → at ≡ recordPlace h → r ≡ dirtied (recordAt (s .pool .records) at) → fs ≡ putSlot (s .frames) (h .frame .0) k 0
       → out (doneAnswer 0) (state (withRecord (s .pool) at r) fs (s .store)) ≡ unlinkCall s h k

@@ -54,7 +54,7 @@ pub fn write(
     }
 }
 
-// Stores a page number, unswizzled, in an empty slot of the handle's page.
+// Stores a page number, unswizzled, in an empty slot of the handle's page, with the mark if that page is to be locked.
 pub fn link(
     pool: Pool,
     frames: &mut [u8],
@@ -62,8 +62,9 @@ pub fn link(
     handle: Handle,
     slot: usize,
     page: PageNumber,
+    locked: bool,
 ) -> Done
-    ensures { λ r. ⌜ out (doneAnswer (r .refusal)) (state (r .pool) (now (frames .exit)) (now (store .entry))) ≡ linkCall (state pool (now (frames .entry)) (now (store .entry))) handle slot page ⌝ }
+    ensures { λ r. ⌜ out (doneAnswer (r .refusal)) (state (r .pool) (now (frames .exit)) (now (store .entry))) ≡ linkCall (state pool (now (frames .entry)) (now (store .entry))) handle slot page locked ⌝ }
 {
     let mut residents = residents::NONE;
     let mut seen = seen::NONE;
@@ -84,7 +85,8 @@ pub fn link(
     if refusal != 0 {
         return Done { pool, refusal };
     }
-    page::slot::put_in_slot(frames, handle.frame, slot, PageNumber::word(page));
+    let word = page::word::marked(locked, PageNumber::word(page));
+    page::slot::put_in_slot(frames, handle.frame, slot, word);
     next.records[at] = records::dirtied(held);
     Done {
         pool: next,

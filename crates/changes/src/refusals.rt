@@ -23,7 +23,7 @@ fn range_fits(offset: usize, n: usize) -> bool
     n <= PageNumber::PAYLOAD_SIZE - offset
 }
 
-// Rules 1 to 3 and 5.
+// Rules 1 to 3, 5 and 26.
 pub fn write_refusal(
     pool: Pool,
     held: FrameRecord,
@@ -45,10 +45,13 @@ pub fn write_refusal(
     if !range_fits(offset, n) {
         return 5;
     }
+    if guard::is_locked(held, frames, handle.frame) {
+        return 26;
+    }
     0
 }
 
-// Rules 1 to 4, 6, 9 and 8.
+// Rules 1 to 4, 26, 6, 9 and 8.
 pub fn link_refusal(
     pool: Pool,
     held: FrameRecord,
@@ -63,7 +66,7 @@ pub fn link_refusal(
     requires { ⌜ (held ≡ recordAt (pool .records) (recordPlace handle)) × Clear (now residents) (now seen) ⌝ }
     ensures { λ r. ⌜ r ≡ firstBroken (linkRules (state pool (now (frames .entry)) (now (store .entry))) handle slot page) ⌝ }
 {
-    let refusal = guard::slot_refusal(pool, held, frames, store, handle, slot, residents, seen);
+    let refusal = guard::edit_refusal(pool, held, frames, store, handle, slot, residents, seen);
     if refusal != 0 {
         return refusal;
     }
@@ -83,7 +86,7 @@ pub fn link_refusal(
     0
 }
 
-// Rules 1 to 4, 7 and 10.
+// Rules 1 to 4, 26, 7 and 10.
 pub fn unlink_refusal(
     pool: Pool,
     held: FrameRecord,
@@ -97,7 +100,7 @@ pub fn unlink_refusal(
     requires { ⌜ (held ≡ recordAt (pool .records) (recordPlace handle)) × Clear (now residents) (now seen) ⌝ }
     ensures { λ r. ⌜ r ≡ firstBroken (unlinkRules (state pool (now (frames .entry)) (now (store .entry))) handle slot) ⌝ }
 {
-    let refusal = guard::slot_refusal(pool, held, frames, store, handle, slot, residents, seen);
+    let refusal = guard::edit_refusal(pool, held, frames, store, handle, slot, residents, seen);
     if refusal != 0 {
         return refusal;
     }

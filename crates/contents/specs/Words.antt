@@ -16,7 +16,7 @@ use Rattle.machine.specs.Laws.AgreementFacts.{occupied-lt}
 use Rattle.machine.specs.Moves.{plain}
 use Rattle.machine.specs.Laws.PlainLaws.{plain-low, plain-high}
 use Rattle.machine.specs.Answers.{number}
-use Rattle.machine.specs.Rules.{wordOf}
+use Rattle.machine.specs.Rules.{wordOf, markOf}
 use Rattle.machine.specs.Calls.{wordRules, wordCall}
 use Rattle.machine.specs.Laws.RuleLaws.{SlotKept, slot-kept, held-occupied, answer-yes}
 use Rattle.seen.specs.Seen.{Seen}
@@ -59,6 +59,8 @@ module _ (s : State) (h : Handle) (k : ℕ) {residents : List ℕ} {seen : Seen}
           rw y (plain-high _ g ∙ e .1 z .held .right g (omega arith) ∙ sym (plain-high _ g))
     ]
 
-    pub word-names : {p : PageNumber} → p ≡ pageNumber (plain (pageBy residents) w) → number (p .0) ≡ wordCall s h k .answer
+    pub word-names : {p : PageNumber} {l : Bool} → p ≡ pageNumber (plain (pageBy residents) w) → l ≡ markOf s h k → number (p .0) l ≡ wordCall s h k .answer
     unfolding wordCall
-    word-names y = answer-yes s _ s (e .0) z (ap (λ (p : PageNumber). number (p .0)) y ∙ ap number (by-table ∙ ap (plain (pageIn (s .pool .records))) i))
+    word-names {p} {l} y m =
+        let same : p .0 ≡ plain (pageIn (s .pool .records)) (wordOf s h k) = ap (λ (q : PageNumber). q .0) y ∙ by-table ∙ ap (plain (pageIn (s .pool .records))) i in
+        answer-yes s _ s (e .0) z (rw (same, m))

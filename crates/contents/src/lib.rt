@@ -99,7 +99,7 @@ fn page_named(residents: &Residents, name: u32) -> PageNumber
     PageNumber(residents[g])
 }
 
-// The page number in a slot of the handle's page, 0 for none.
+// The page number in a slot of the handle's page, 0 for none, and whether that page is locked.
 pub fn word(pool: Pool, frames: &[u8], store: &[u8], handle: Handle, slot: usize) -> WordAnswer
     ensures { λ r. ⌜ wordAnswer r ≡ wordCall (state pool (now (frames .entry)) (now (store .entry))) handle slot .answer ⌝ }
 {
@@ -120,8 +120,9 @@ pub fn word(pool: Pool, frames: &[u8], store: &[u8], handle: Handle, slot: usize
     if refusal != 0 {
         return WordAnswer::Refused(refusal);
     }
-    let name = page::slot::slot_name(frames, handle.frame, slot);
-    WordAnswer::Names(page_named(&residents, name))
+    let word = page::slot::slot_word(frames, handle.frame, slot);
+    let page = page_named(&residents, page::word::name_of(word));
+    WordAnswer::Names(page, page::word::is_marked(word))
 }
 
 // The frame that holds a page, and how many frames were looked at.

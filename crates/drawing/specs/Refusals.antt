@@ -17,8 +17,8 @@ use Rattle.rules.specs.Tests.{pick, _and_, _or_, Rule, firstBroken}
 use Rattle.rules.specs.TestLaws.{and-true, or-off, both, pick-either, first-kept, case, on, off, clash}
 use Rattle.machine.specs.Machine.{State}
 use Rattle.machine.specs.Answers.{Answer, refused, Out}
-use Rattle.machine.specs.Rules.{rangeFits, wordOf, rule3, rule4, rule5, rule6, rule6-link, rule7, rule8, rule9, rule10, rule11, rule13, rule14, rule15}
-use Rattle.machine.specs.Calls.{decide, poolRules, handleRules, wordRules, pageRules, rootRules, fixEntryRules, fixRules, writeRules, linkRules, unlinkRules, stayRules, evictRules, rootCall, fixCall, unfixCall, writeCall, linkCall, unlinkCall, evictCall, settleCall, findCall}
+use Rattle.machine.specs.Rules.{rangeFits, wordOf, rule3, rule4, rule5, rule6, rule6-link, rule7, rule8, rule9, rule10, rule11, rule13, rule14, rule15, rule26}
+use Rattle.machine.specs.Calls.{decide, poolRules, handleRules, wordRules, editRules, pageRules, rootRules, fixEntryRules, fixRules, writeRules, linkRules, unlinkRules, stayRules, evictRules, rootCall, fixCall, unfixCall, writeCall, linkCall, unlinkCall, evictCall, settleCall, findCall}
 use Rattle.machine.specs.History.{Call, accepted, row}
 use Rattle.machine.specs.Laws.Outcomes.{kept, broken, outcome, no-refusal, one-refusal, found-accepted, fix-accepted}
 use Rattle.recording.specs.Listing.{callOf, rule17, recordOut, callIn, dataIn}
@@ -27,9 +27,9 @@ use Rattle.generator.specs.declared.Generator.{Generator}
 use Rattle.drawing.specs.Drawing.{drawnOut, InRanges}
 use Rattle.drawing.specs.Ranges.{in-ranges}
 
--- 3, 6 to 11, 13 to 15 and 20 to 22: not 1 or 2, since the record was drawn; not 4, 5 or 17, since it lies in its ranges; and no other rule is one of its calls'
+-- 3, 6 to 11, 13 to 15, 20 to 22 and 26: not 1 or 2, since the record was drawn; not 4, 5 or 17, since it lies in its ranges; and no other rule is one of its calls'
 unfoldable pub canMeet : ℕ → Bool
-canMeet n = eqb n 3 or (leb 6 n and leb n 11) or (leb 13 n and leb n 15) or (leb 20 n and leb n 22)
+canMeet n = eqb n 3 or (leb 6 n and leb n 11) or (leb 13 n and leb n 15) or (leb 20 n and leb n 22) or eqb n 26
 
 -- an answer that is no refusal, or one by these
 abbrev pub MeetsThese : Answer → Type 0
@@ -75,6 +75,10 @@ module _ (s : State) (z : firstBroken (poolRules s) ≡ 0) where
   unfolding meet canMeet _or_ _and_
   slot-meets h k l = meet-both (handleRules s h) (rule4 k ∷ []) (handle-meets h) (rw (lt-ltb k slotCount l) refl)
 
+  edit-meets : (h : Handle) (k : ℕ) → k < slotCount → meet (editRules s h k) ≡ true
+  unfolding meet canMeet _or_ _and_
+  edit-meets h k l = meet-both (wordRules s h k) (rule26 s h ∷ []) (slot-meets h k l) refl
+
   page-meets : (q : PageNumber) → meet (pageRules s q) ≡ true
   unfolding meet canMeet _or_ _and_
   page-meets q = meet-both (poolRules s) (rule6 s (q .0) ∷ []) pool-meets refl
@@ -95,15 +99,15 @@ module _ (s : State) (z : firstBroken (poolRules s) ≡ 0) where
 
   write-meets : (h : Handle) (offset : ℕ) (d : List ℕ) → offset ≤ payloadSize → length d ≡ 0 → MeetsThese (writeCall s h offset d .answer)
   unfolding writeCall meet canMeet rangeFits _or_ _and_
-  write-meets h offset d l e = meets-these s (writeRules s h offset (length d)) _ refl (meet-both (handleRules s h) (rule5 offset (length d) ∷ []) (handle-meets h) (rw (e, le-leb offset payloadSize l, le-leb 0 (payloadSize - offset) (omega arith)) refl))
+  write-meets h offset d l e = meets-these s (writeRules s h offset (length d)) _ refl (meet-both (handleRules s h) (rule5 offset (length d) ∷ rule26 s h ∷ []) (handle-meets h) (rw (e, le-leb offset payloadSize l, le-leb 0 (payloadSize - offset) (omega arith)) refl))
 
-  link-meets : (h : Handle) (k : ℕ) (q : PageNumber) → k < slotCount → MeetsThese (linkCall s h k q .answer)
+  link-meets : (h : Handle) (k : ℕ) (q : PageNumber) (locked : Bool) → k < slotCount → MeetsThese (linkCall s h k q locked .answer)
   unfolding linkCall meet canMeet _or_ _and_
-  link-meets h k q l = meets-these s (linkRules s h k q) _ refl (meet-both (wordRules s h k) (rule6-link s (q .0) ∷ rule9 s (q .0) ∷ rule8 (wordOf s h k) ∷ []) (slot-meets h k l) refl)
+  link-meets h k q locked l = meets-these s (linkRules s h k q) _ refl (meet-both (editRules s h k) (rule6-link s (q .0) ∷ rule9 s (q .0) ∷ rule8 (wordOf s h k) ∷ []) (edit-meets h k l) refl)
 
   unlink-meets : (h : Handle) (k : ℕ) → k < slotCount → MeetsThese (unlinkCall s h k .answer)
   unfolding unlinkCall meet canMeet _or_ _and_
-  unlink-meets h k l = meets-these s (unlinkRules s h k) _ refl (meet-both (wordRules s h k) (rule7 (wordOf s h k) ∷ rule10 (wordOf s h k) ∷ []) (slot-meets h k l) refl)
+  unlink-meets h k l = meets-these s (unlinkRules s h k) _ refl (meet-both (editRules s h k) (rule7 (wordOf s h k) ∷ rule10 (wordOf s h k) ∷ []) (edit-meets h k l) refl)
 
   evict-meets : (q : PageNumber) → MeetsThese (evictCall s q .answer)
   unfolding evictCall meet canMeet _or_ _and_
@@ -130,7 +134,7 @@ module _ (s : State) (z : firstBroken (poolRules s) ≡ 0) where
     unfolding callOf
     call-meets =
         either _ _ _ root-meets (either _ _ _ (fix-meets _ _ (r .slot)) (either _ _ _ (unfix-meets _) (either _ _ _ (write-meets _ _ _ (r .offset) no-data)
-        (either _ _ _ (link-meets _ _ _ (r .slot)) (either _ _ _ (unlink-meets _ _ (r .slot)) (either _ _ _ (evict-meets _) (either _ _ _ settle-meets (find-meets _))))))))
+        (either _ _ _ (link-meets _ _ _ _ (r .slot)) (either _ _ _ (unlink-meets _ _ (r .slot)) (either _ _ _ (evict-meets _) (either _ _ _ settle-meets (find-meets _))))))))
 
     is-call : rule17 b .1 ≡ true
     unfolding _and_

@@ -64,7 +64,7 @@ fn main() {
     };
 
     let pool = rooted.pool;
-    let linked = pool::link(pool, &mut frames, &store, root, SLOT, PAGE);
+    let linked = pool::link(pool, &mut frames, &store, root, SLOT, PAGE, false);
     print::done(b"link", linked.refusal);
 
     let pool = linked.pool;

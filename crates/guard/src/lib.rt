@@ -9,12 +9,15 @@ use page::PageNumber;
 use residents::Residents;
 use seen::Seen;
 ghost use mathlib.Core.Path.{_≡_};
+ghost use Prim.Native.Nat.{_+_, _*_, _≤_, _<_};
+ghost use lib.ListN.{length};
+ghost use Rattle.page.specs.Figures.{pageSize, slotCount};
 ghost use Rattle.rules.specs.Tests.{firstBroken};
 ghost use Rattle.machine.specs.Machine.{state, recordAt};
 ghost use Rattle.machine.specs.Rules.{lengthsFit};
-ghost use Rattle.machine.specs.Calls.{poolRules, handleRules, wordRules, pageRules};
+ghost use Rattle.machine.specs.Calls.{poolRules, handleRules, wordRules, editRules, pageRules};
 ghost use Rattle.residents.specs.Handed.{Clear, Handed};
-ghost use Rattle.guard.specs.Held.{recordPlace, heldFits};
+ghost use Rattle.guard.specs.Held.{recordPlace, heldFits, heldLocked};
 
 // Rule 1: are F and N in their ranges, and have frames and store so many pages.
 pub fn lengths_fit(count: usize, pages: usize, frames: &[u8], store: &[u8]) -> bool
@@ -59,6 +62,19 @@ fn handle_fits(count: usize, held: FrameRecord, handle: Handle) -> bool
         return 0 < held.pins;
     }
     false
+}
+
+// Rule 26: is the page in a frame locked. `held` is its record, found to be in range; the word that names the page is its parent's, and none names the root.
+pub fn is_locked(held: FrameRecord, frames: &[u8], frame: FrameIndex) -> bool
+    requires { ⌜ (pageSize * held .parent .0 + pageSize ≤ length (now frames)) × (held .slot < slotCount) ⌝ }
+    ensures { λ r. ⌜ r ≡ heldLocked held (now (frames .entry)) (frame .0) ⌝ }
+{
+    if frame.0 == 0 {
+        return false;
+    }
+    let parent = held.parent;
+    let slot = page::wide::from_u8(held.slot);
+    page::word::is_marked(page::slot::slot_word(frames, parent, slot))
 }
 
 // Rules 1 and 2. Where they are kept, the tables tell the page in each frame, and which pages resident pages name.
@@ -135,6 +151,30 @@ pub fn slot_refusal(
     }
     if PageNumber::SLOTS <= slot {
         return 4;
+    }
+    0
+}
+
+// Rules 1 to 4 and 26, for a call that changes the words of the handle's page, with the record at the handle's place, and the tables.
+pub fn edit_refusal(
+    pool: Pool,
+    held: FrameRecord,
+    frames: &[u8],
+    store: &[u8],
+    handle: Handle,
+    slot: usize,
+    residents: &mut Residents,
+    seen: &mut Seen,
+) -> u8
+    requires { ⌜ (held ≡ recordAt (pool .records) (recordPlace handle)) × Clear (now residents) (now seen) ⌝ }
+    ensures { λ r. ⌜ (r ≡ firstBroken (editRules (state pool (now (frames .entry)) (now (store .entry))) handle slot)) × (r ≡ 0 → Handed pool (now (frames .entry)) (now (residents .exit)) (now (seen .exit))) ⌝ }
+{
+    let refusal = slot_refusal(pool, held, frames, store, handle, slot, residents, seen);
+    if refusal != 0 {
+        return refusal;
+    }
+    if is_locked(held, frames, handle.frame) {
+        return 26;
     }
     0
 }

@@ -28,8 +28,8 @@ pub data Answer : Type 0 where
   handle : ℕ → ℕ → ℕ → Answer
   -- show and peek: the place of the payload, its buffer, start and size
   payload : Buffer → ℕ → ℕ → Answer
-  -- word: the page number
-  number : ℕ → Answer
+  -- word: the page number, and whether that page is locked
+  number : ℕ → Bool → Answer
   -- find: the frame, or 'absent', and the frames looked at
   frame : ℕ → ℕ → Answer
   nowhere : ℕ → Answer
@@ -53,7 +53,7 @@ fixAnswer (Fixed h looks) = handle (h .frame .0) (h .page .0) looks
 fixAnswer (Refused n) = refused n
 
 abbrev pub wordAnswer : WordAnswer → Answer
-wordAnswer (Names p) = number (p .0)
+wordAnswer (Names p l) = number (p .0) l
 wordAnswer (RefusedWord n) = refused n
 
 abbrev pub findAnswer : FindAnswer → Answer
@@ -75,7 +75,7 @@ placeOf (payload b a n) = record { refusal = 0; in_store = isStore b; start = a;
 placeOf (refused n) = noPlace n
 placeOf done = noPlace 0
 placeOf (handle f p n) = noPlace 0
-placeOf (number p) = noPlace 0
+placeOf (number p l) = noPlace 0
 placeOf (frame f n) = noPlace 0
 placeOf (nowhere n) = noPlace 0
 

@@ -1,11 +1,12 @@
 -- The thirteen calls: each names its rules in checking order, and says what it answers and leaves where none is broken.
 use Prim.Native.Nat.{ℕ, _+_, _-_, _/_}
+use mathlib.Core.Bool.{Bool}
 use mathlib.Core.List.{List, [], _∷_, _++_}
 use lib.Dec.{eqb, ltb}
 use lib.ListN.{length}
 use Rattle.page.specs.declared.PageNumber.{PageNumber}
 use Rattle.page.specs.Figures.{pageSize, payloadSize}
-use Rattle.page.specs.Word.{isNumber, frameIn, numberWord}
+use Rattle.page.specs.Word.{marked, isNumber, frameIn, numberWord}
 use Rattle.page.specs.Page.{putSlot, pageOf, putPage, payloadAt, putPayload}
 use Rattle.machine.specs.declared.FrameRecord.{FrameRecord}
 use Rattle.machine.specs.declared.Handle.{Handle}
@@ -13,7 +14,7 @@ use Rattle.rules.specs.Tests.{pick, firstBroken, verdict, Rule}
 use Rattle.machine.specs.Machine.{State, state, withPool, recordAt, pageIn, withRecord, pinned, unpinned, dirtied, zeroPool, openedPool, found}
 use Rattle.machine.specs.Moves.{plain, settled, evicted, loaded}
 use Rattle.machine.specs.Sweep.{Swept, firstEmpty, sweep, withSwept}
-use Rattle.machine.specs.Rules.{wordOf, rule1, rule1-open, rule2, rule3, rule4, rule5, rule6, rule6-link, rule7, rule8, rule9, rule10, rule11, rule13, rule14, rule15, rule16, rule20, rule21, rule22}
+use Rattle.machine.specs.Rules.{wordOf, markOf, rule1, rule1-open, rule2, rule3, rule4, rule5, rule6, rule6-link, rule7, rule8, rule9, rule10, rule11, rule13, rule14, rule15, rule16, rule20, rule21, rule22, rule26}
 use Rattle.machine.specs.Answers.{Answer, refused, done, handle, payload, number, frame, nowhere, inFrames, inStore, Out, out}
 
 -- "A refused call answers its number alone. Nothing else changes."
@@ -24,7 +25,7 @@ decide s rules accepted = verdict (firstBroken rules) (λ n. out (refused n) s) 
 abbrev pub changeRecord : State → ℕ → (FrameRecord → FrameRecord) → State
 changeRecord s f change = withPool s (withRecord (s .pool) f (change (recordAt (s .pool .records) f)))
 
--- ---- the rules that calls share: those of every call but open; with a handle, and a slot of its page; with a page number
+-- ---- the rules that calls share: those of every call but open; with a handle, a slot of its page, and a change there; with a page number
 
 abbrev pub poolRules : State → List Rule
 poolRules s = rule1 s ∷ rule2 s ∷ []
@@ -34,6 +35,10 @@ handleRules s h = poolRules s ++ (rule3 s h ∷ [])
 
 abbrev pub wordRules : State → Handle → ℕ → List Rule
 wordRules s h k = handleRules s h ++ (rule4 k ∷ [])
+
+-- request A.8: the page is to be changed
+abbrev pub editRules : State → Handle → ℕ → List Rule
+editRules s h k = wordRules s h k ++ (rule26 s h ∷ [])
 
 abbrev pub pageRules : State → PageNumber → List Rule
 pageRules s q = poolRules s ++ (rule6 s (q .0) ∷ [])
@@ -113,15 +118,15 @@ payloadPlace s q =
 unfoldable pub peekCall : State → PageNumber → Out
 peekCall s q = decide s (pageRules s q) (out (payloadPlace s (q .0)) s)
 
--- ---- word: "gives the page number in a slot, swizzled or not"
+-- ---- word: "gives the page number in a slot, swizzled or not"; request A.8: the mark, "and word shows it"
 
 unfoldable pub wordCall : State → Handle → ℕ → Out
-wordCall s h k = decide s (wordRules s h k) (out (number (plain (pageIn (s .pool .records)) (wordOf s h k))) s)
+wordCall s h k = decide s (wordRules s h k) (out (number (plain (pageIn (s .pool .records)) (wordOf s h k)) (markOf s h k)) s)
 
 -- ---- write: "puts given bytes at a payload offset. Dirty, unless the length is 0."
 
 abbrev pub writeRules : State → Handle → ℕ → ℕ → List Rule
-writeRules s h offset n = handleRules s h ++ (rule5 offset n ∷ [])
+writeRules s h offset n = handleRules s h ++ (rule5 offset n ∷ rule26 s h ∷ [])
 
 abbrev pub dirtiedBy : ℕ → FrameRecord → FrameRecord
 dirtiedBy n r = pick (eqb n 0) r (dirtied r)
@@ -133,21 +138,21 @@ written s f offset bytes =
 unfoldable pub writeCall : State → Handle → ℕ → List ℕ → Out
 writeCall s h offset bytes = decide s (writeRules s h offset (length bytes)) (out done (written s (h .frame .0) offset bytes))
 
--- ---- link: "stores an unswizzled page number in an empty slot"; unlink: "clears one. Both set dirty."
+-- ---- link: "stores an unswizzled page number in an empty slot"; request A.8: "Link takes the mark". Unlink: "clears one. Both set dirty."
 
 -- request A.9: "Test 9 before 8."
 abbrev pub linkRules : State → Handle → ℕ → PageNumber → List Rule
-linkRules s h k q = wordRules s h k ++ (rule6-link s (q .0) ∷ rule9 s (q .0) ∷ rule8 (wordOf s h k) ∷ [])
+linkRules s h k q = editRules s h k ++ (rule6-link s (q .0) ∷ rule9 s (q .0) ∷ rule8 (wordOf s h k) ∷ [])
 
 -- the word w in slot k of frame f, whose page is then dirty
 abbrev pub relinked : State → ℕ → ℕ → ℕ → State
 relinked s f k w = state (withRecord (s .pool) f (dirtied (recordAt (s .pool .records) f))) (putSlot (s .frames) f k w) (s .store)
 
-unfoldable pub linkCall : State → Handle → ℕ → PageNumber → Out
-linkCall s h k q = decide s (linkRules s h k q) (out done (relinked s (h .frame .0) k (numberWord (q .0))))
+unfoldable pub linkCall : State → Handle → ℕ → PageNumber → Bool → Out
+linkCall s h k q l = decide s (linkRules s h k q) (out done (relinked s (h .frame .0) k (marked l (numberWord (q .0)))))
 
 abbrev pub unlinkRules : State → Handle → ℕ → List Rule
-unlinkRules s h k = wordRules s h k ++ (rule7 (wordOf s h k) ∷ rule10 (wordOf s h k) ∷ [])
+unlinkRules s h k = editRules s h k ++ (rule7 (wordOf s h k) ∷ rule10 (wordOf s h k) ∷ [])
 
 unfoldable pub unlinkCall : State → Handle → ℕ → Out
 unlinkCall s h k = decide s (unlinkRules s h k) (out done (relinked s (h .frame .0) k 0))

@@ -6,7 +6,7 @@ use mathlib.Core.Bool.{true}
 use mathlib.Core.List.{List, [], _∷_, _++_}
 use Rattle.page.specs.Figures.{pageSize, slotCount, payloadStart}
 use Rattle.page.specs.Word.{isNumber, frameWord, numberWord, renamed}
-use Rattle.page.specs.Page.{slot, name, byte, payloadAt, payloadOf}
+use Rattle.page.specs.Page.{slot, name, lock, byte, payloadAt, payloadOf}
 use Rattle.page.specs.Octets.{Octets}
 use Rattle.machine.specs.declared.Handle.{Handle}
 use Rattle.rules.specs.Tests.{firstBroken}
@@ -63,10 +63,10 @@ abbrev pub GivesHandle : Point → Call → ℕ → Type 0
 GivesHandle x c p = (f looks : ℕ) × (row c .out (x .now) .answer ≡ handle f p looks) × InFrame (next c x) p f
 
 pub record Holds (x : Point) : Type 0 where
-  -- "At each accepted call, show gives the map's payload of its handle's page, peek that of its page, word the map's word in its slot of its handle's page."
+  -- "At each accepted call, show gives the map's payload of its handle's page, peek that of its page, word the map's word in its slot of its handle's page." Request A.8: "and word shows it", the mark
   pub shown : (h : Handle) (fs st : ℕ × ℕ) → accepted (showCall (x .now) h .answer) ≡ true → GivesPayload x (showCall (x .now) h .answer) (h .page .0) fs st
   pub peeked : (p : ℕ) (fs st : ℕ × ℕ) → accepted (peekCall (x .now) (pageNumber p) .answer) ≡ true → GivesPayload x (peekCall (x .now) (pageNumber p) .answer) p fs st
-  pub worded : (h : Handle) (k : ℕ) → accepted (wordCall (x .now) h k .answer) ≡ true → wordCall (x .now) h k .answer ≡ number (name (x .map) (h .page .0) k)
+  pub worded : (h : Handle) (k : ℕ) → accepted (wordCall (x .now) h k .answer) ≡ true → wordCall (x .now) h k .answer ≡ number (name (x .map) (h .page .0) k) (lock (x .map) (h .page .0) k)
   -- "Fix answers a handle of the page that this word names, root one of page 0."
   pub fixed : (h : Handle) (k : ℕ) → accepted (fixCall (x .now) h k .answer) ≡ true → GivesHandle x (fix h k) (name (x .map) (h .page .0) k)
   pub rooted : accepted (rootCall (x .now) .answer) ≡ true → GivesHandle x root 0
@@ -80,7 +80,7 @@ pub record Holds (x : Point) : Type 0 where
   pub named : (p : ℕ) → p ≢ 0 → Resident x p → (q k : ℕ) × Resident x q × Names x q k p
   pub namedOnce : (p q k r j : ℕ) → p ≢ 0 → Resident x p → Resident x q → Names x q k p → Resident x r → Names x r j p → (q ≡ r) × (k ≡ j)
   pub tree : (p : ℕ) → Resident x p → LeadsToRoot x p
-  -- "In its frame a resident page has its bytes in the map, except that a word naming a resident page is swizzled to that page's frame."
+  -- "In its frame a resident page has its bytes in the map, except that a word naming a resident page is swizzled to that page's frame." Request A.8: "Loading, eviction .. carry it", the mark
   pub payloadBytes : (p f i : ℕ) → InFrame x p f → payloadStart ≤ i → i < pageSize → byte (x .now .frames) f i ≡ byte (x .map) p i
   pub swizzled : (p f k c g : ℕ) → InFrame x p f → Names x p k c → c ≢ 0 → InFrame x c g → slot (x .now .frames) f k ≡ renamed (slot (x .map) p k) (frameWord g)
   pub unswizzled : (p f k c : ℕ) → InFrame x p f → Names x p k c → (c ≢ 0 → Resident x c → ⊥) → slot (x .now .frames) f k ≡ renamed (slot (x .map) p k) (numberWord c)

@@ -5,6 +5,7 @@ use mathlib.Core.List.{List, [], _∷_}
 use lib.Dec.{eqb, ltb}
 use Rattle.page.specs.declared.PageNumber.{PageNumber}
 use Rattle.page.specs.Octets.{Octets}
+use Rattle.page.specs.Word.{marked, numberWord}
 use Rattle.page.specs.Page.{putSlot, putPayload}
 use Rattle.machine.specs.declared.Handle.{Handle}
 use Rattle.rules.specs.Tests.{pick}
@@ -23,7 +24,8 @@ pub data Call : Type 0 where
   peek : PageNumber → Call
   word : Handle → ℕ → Call
   write : Handle → ℕ → List ℕ → Call
-  link : Handle → ℕ → PageNumber → Call
+  -- with a mark or without
+  link : Handle → ℕ → PageNumber → Bool → Call
   unlink : Handle → ℕ → Call
   evict : PageNumber → Call
   settle : Call
@@ -83,8 +85,8 @@ row (peek q) = quiet (λ s. peekCall s q)
 row (word h k) = quiet (λ s. wordCall s h k)
 -- "An accepted write puts its bytes into the page its handle numbers, from byte 64 + offset on."
 row (write h offset d) = record { out = λ s. writeCall s h offset d; onMap = λ m. putPayload m (h .page .0) offset d; onBalance = λ b. b; anew = false; bytes = d }
--- "An accepted link puts its page number into its slot of that page; an accepted unlink puts 0 there."
-row (link h k q) = record { out = λ s. linkCall s h k q; onMap = λ m. putSlot m (h .page .0) k (q .0); onBalance = λ b. b; anew = false; bytes = [] }
+-- "An accepted link puts its page number into its slot of that page; an accepted unlink puts 0 there." Request A.8: "the plain map's words carry it", the mark
+row (link h k q l) = record { out = λ s. linkCall s h k q l; onMap = λ m. putSlot m (h .page .0) k (marked l (numberWord (q .0))); onBalance = λ b. b; anew = false; bytes = [] }
 row (unlink h k) = record { out = λ s. unlinkCall s h k; onMap = λ m. putSlot m (h .page .0) k 0; onBalance = λ b. b; anew = false; bytes = [] }
 row (evict q) = quiet (λ s. evictCall s q)
 row settle = quiet settleCall
@@ -95,7 +97,7 @@ accepted (refused n) = false
 accepted done = true
 accepted (handle f p n) = true
 accepted (payload b a n) = true
-accepted (number p) = true
+accepted (number p l) = true
 accepted (frame f n) = true
 accepted (nowhere n) = true
 
@@ -105,7 +107,7 @@ counted (refused n) b = b
 counted done b = b
 counted (handle f p n) b = fixedIn f p b
 counted (payload y a n) b = b
-counted (number p) b = b
+counted (number p l) b = b
 counted (frame f n) b = b
 counted (nowhere n) b = b
 

@@ -16,4 +16,4 @@ pub mod LinkOrder
 pub mod EvictReasons
 pub mod WarmPages
 pub mod FindWalk
-pub mod ByName
+pub mod BitThirty

@@ -1,4 +1,4 @@
--- Document 01 as definitions: what a reader needs to know what is promised.
+-- Document 01 and the requests as definitions: what a reader needs to know what is promised.
 pub mod Machine
 pub mod Agreement
 pub mod Soundness
@@ -10,7 +10,8 @@ pub mod Rules
 pub mod Calls
 pub mod History
 pub mod Demand3
--- Cases computed from them, laws of them for the code and the theorem, and the proof of demand 3.
+pub mod LockedPages
+-- Cases computed from them, laws of them for the code and the theorem, and the proofs of demand 3 and of what is said of locked pages.
 pub mod Tables
 pub mod Laws
 pub mod Theorem

@@ -10,7 +10,7 @@ use Rattle.machine.specs.declared.Pool.{Pool}
 use Rattle.rules.specs.Tests.{pick}
 use Rattle.machine.specs.Machine.{State, state, blank, loadedRecord, cleaned, isDirty, recordAt, pageIn, withRecord, withRecords}
 
--- ---- "The image of a resident page is its bytes with each swizzled word replaced by the number of the page in that frame."
+-- ---- "The image of a resident page is its bytes with each swizzled word replaced by the number of the page in that frame." Request A.8: "settling .. carry it", the mark
 
 -- the page number that a name stands for, where frame g holds page `page g`
 unfoldable pub plain : (ℕ → ℕ) → ℕ → ℕ
@@ -60,7 +60,7 @@ vacate p f = withRecord p f blank
 abbrev pub occupy : Pool → ℕ → FrameRecord → Pool
 occupy p e r = withRecord p e r
 
--- "a dirty page's image goes to the store; the parent's word becomes the page number without dirtying the parent; the frame is empty, its bytes kept, and the hand stays"
+-- "a dirty page's image goes to the store; the parent's word becomes the page number without dirtying the parent; the frame is empty, its bytes kept, and the hand stays"; request A.8: "eviction .. carry it"
 unfoldable pub evicted : State → ℕ → State
 evicted s f =
     let r = recordAt (s .pool .records) f in
@@ -68,7 +68,7 @@ evicted s f =
     (putSlot (s .frames) (r .parent .0) (r .slot) (renamed (slot (s .frames) (r .parent .0) (r .slot)) (numberWord (r .page .0))))
     (writtenOut (s .pool .records) (s .frames) (s .store) f)
 
--- "the page is loaded with pins 1, heat 1, clean, its parent recorded and the parent's word swizzled": page q into frame e, for slot k of frame f
+-- "the page is loaded with pins 1, heat 1, clean, its parent recorded and the parent's word swizzled": page q into frame e, for slot k of frame f. Request A.8: "Loading .. carry it"
 unfoldable pub loaded : State → ℕ → ℕ → ℕ → ℕ → State
 loaded s f k e q =
     state (occupy (s .pool) e (loadedRecord q f k))

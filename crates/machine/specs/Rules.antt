@@ -1,4 +1,4 @@
--- "Numbered denials, in checking order", but that link tests 9 before 8 (request A.9), and 20 to 22 stand after 11 (request A.4): the table of the rules. A rule's test holds where it is kept.
+-- "Numbered denials, in checking order", but that link tests 9 before 8 (request A.9), that 20 to 22 stand after 11 (request A.4), and 26 after 5 (request A.8): the table of the rules. A rule's test holds where it is kept.
 use Prim.Native.Nat.{ℕ, _*_, _-_, _/_}
 use mathlib.Core.Bool.{Bool, not}
 use mathlib.Core.List.{List}
@@ -6,12 +6,12 @@ use lib.Dec.{eqb, ltb, leb}
 use lib.ListN.{length}
 use Rattle.page.specs.Figures.{pageSize, slotCount, payloadSize, leastFrames, mostFrames, mostPages, maxPins}
 use Rattle.page.specs.Word.{isNumber, namesNothing}
-use Rattle.page.specs.Page.{name}
+use Rattle.page.specs.Page.{name, lock}
 use Rattle.machine.specs.declared.Pool.{Pool}
 use Rattle.machine.specs.declared.Handle.{Handle}
 use Rattle.rules.specs.Tests.{_and_, _or_, Rule}
 use Rattle.machine.specs.Machine.{State, isUsed, recordAt, isRoot, found}
-use Rattle.machine.specs.Agreement.{agree}
+use Rattle.machine.specs.Agreement.{parentOf, parentSlotOf, agree}
 use Rattle.machine.specs.Soundness.{sound}
 use Rattle.machine.specs.Sweep.{firstEmpty, childless, sweep}
 use Rattle.machine.specs.Naming.{named, loadable}
@@ -31,9 +31,16 @@ handleFits p h =
 unfoldable pub rangeFits : ℕ → ℕ → Bool
 rangeFits offset n = leb offset payloadSize and leb n (payloadSize - offset)
 
--- what the word in a slot of the handle's page names
+-- what the word in a slot of the handle's page names; and its mark
 abbrev pub wordOf : State → Handle → ℕ → ℕ
 wordOf s h k = name (s .frames) (h .frame .0) k
+
+abbrev pub markOf : State → Handle → ℕ → Bool
+markOf s h k = lock (s .frames) (h .frame .0) k
+
+-- request A.8: "Bit 30 of a word marks the page it names as locked". The page in frame f is named by its parent's word, the root by none.
+unfoldable pub locked : State → ℕ → Bool
+locked s f = not (isRoot f) and lock (s .frames) (parentOf (s .pool) f) (parentSlotOf (s .pool) f)
 
 -- ---- the table
 
@@ -45,7 +52,7 @@ rule1 s = (1, lengthsFit (s .pool .count) (s .pool .pages) (s .frames) (s .store
 abbrev pub rule1-open : List ℕ → List ℕ → Rule
 rule1-open fs st = (1, lengthsFit (length fs / pageSize) (length st / pageSize) fs st)
 
--- 2. "Records and frames don't agree (every call but open)."
+-- 2. "Records and frames don't agree (every call but open)." Request A.8: so where bit 30 stands alone in an occupied frame
 abbrev pub rule2 : State → Rule
 rule2 s = (2, agree (s .pool) (s .frames))
 
@@ -60,6 +67,10 @@ rule4 k = (4, ltb k slotCount)
 -- 5. "The offset is above 192 or the length above 192 − offset."
 abbrev pub rule5 : ℕ → ℕ → Rule
 rule5 offset n = (5, rangeFits offset n)
+
+-- request A.8: "26: the handle's page is locked, after 5 and before 6"
+abbrev pub rule26 : State → Handle → Rule
+rule26 s h = (26, not (locked s (h .frame .0)))
 
 -- 6. "The page number isn't below N, or is 0 in link."
 abbrev pub rule6 : State → ℕ → Rule
@@ -102,7 +113,7 @@ rule22 s q = (22, childless (s .frames) (found (s .pool) q))
 abbrev pub rule13 : State → ℕ → Rule
 rule13 s f = (13, not (eqb (recordAt (s .pool .records) f .pins) maxPins))
 
--- 14. "The stored page to be loaded has a word with bit 31 set, not below N, repeated within it, or naming a page that a resident page already names."
+-- 14. "The stored page to be loaded has a word with bit 31 set, not below N, repeated within it, or naming a page that a resident page already names." Request A.8: or one of bit 30 alone
 abbrev pub rule14 : State → ℕ → Rule
 rule14 s q = (14, loadable s q)
 

@@ -8,7 +8,7 @@ use Rattle.page.specs.Word.{namesNothing}
 use Rattle.page.specs.Page.{name}
 use Rattle.rules.specs.Tests.{_and_, _⇒_, every}
 
--- every word is 0 or a page number from 1 to N − 1
+-- every word is 0 or a page number from 1 to N − 1, by what it names. Request A.8: "Opening accepts bit 30 on a word naming a page and denies it on a word of otherwise 0"
 unfoldable pub wordsBelow : List ℕ → ℕ → Bool
 wordsBelow st N = every N (λ p. every slotCount (λ k. ltb (name st p k) N))
 

@@ -1,4 +1,4 @@
--- Cases computed from the definitions: the starred ones, and sentences of document 01 by subject.
+-- Cases computed from the definitions: the starred ones, and sentences of document 01 and of the requests by subject.
 pub mod Rows
 pub mod BenchCases
 pub mod OpenRows
@@ -12,3 +12,4 @@ pub mod AnswerRows
 pub mod AgreeRows
 pub mod RuleRows
 pub mod OrderRows
+pub mod LockRows

@@ -1,4 +1,4 @@
--- The proof of demand 3: the machine as functions and the invariant; each effect keeps it; what it makes of the calls' tests; what holds at a point; the theorem.
+-- The proof of demand 3: the machine as functions and the invariant; each effect keeps it; what it makes of the calls' tests; what holds at a point; the theorem; and, from the same invariant, what is said of locked pages.
 pub mod View
 pub mod Invariant
 pub mod KeepEffect
@@ -22,6 +22,7 @@ pub mod KeepsOpen
 pub mod Keeps
 pub mod TestReads
 pub mod InvariantReads
+pub mod LockReads
 pub mod CallCases
 pub mod FixCases
 pub mod Residence
@@ -34,4 +35,7 @@ pub mod HandlesHold
 pub mod Steps
 pub mod NeverRefused
 pub mod Demand3Holds
+pub mod LocksLast
+pub mod LockedHolds
+pub mod NeverLockedHolds
 pub mod PinsBalance

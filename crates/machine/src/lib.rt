@@ -51,9 +51,9 @@ pub struct Fix {
     pub answer: FixAnswer,
 }
 
-// The answer of word: the page number in the slot, 0 for none.
+// The answer of word: the page number in the slot, 0 for none, and whether that page is locked.
 pub enum WordAnswer {
-    Names(PageNumber),
+    Names(PageNumber, bool),
     Refused(u8),
 }
 

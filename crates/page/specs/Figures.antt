@@ -36,7 +36,7 @@ maxUsage = 3
 abbrev pub maxPins : ℕ
 maxPins = 65535
 
--- the bytes of a word, the values of a byte and of a word, and bit 31
+-- the bytes of a word, the values of a byte and of a word, and bits 31 and 30
 abbrev pub wordSize : ℕ
 wordSize = 4
 
@@ -48,3 +48,6 @@ wordRadix = 4294967296
 
 abbrev pub swizzleBit : ℕ
 swizzleBit = 2147483648
+
+abbrev pub lockBit : ℕ
+lockBit = 1073741824

@@ -8,7 +8,7 @@ use lib.ListN.{length, take, drop, getD, set}
 use lib.Seq.{ext-getD, paste}
 use Rattle.page.specs.Figures.{pageSize, slotCount, payloadStart, byteRadix, wordRadix}
 use Rattle.page.specs.Word.{wordAt, putWord, wordAt-inj, wordAt-lt}
-use Rattle.page.specs.Page.{slot, byte, putSlot, pageOf, putPage, putPayload}
+use Rattle.page.specs.Page.{slot, byte, putSlot, pageOf, putPage, putPayload, pageOf-length, slot-pageOf, byte-pageOf}
 
 -- every element is a byte (0 past the end)
 abbrev pub Octets : List ℕ → Type 0
@@ -96,3 +96,11 @@ buffer-ext b c n hb hc lb lc w y = ext-getD 0 b c (lb ∙ sym lc) (λ i h.
           ap (λ (x : ℕ). getD b x 0) e2 ∙ word-byte b c (256 * p + 4 * k) (r % 4) hb hc (omega arith) (w p k (omega arith) (omega arith)) ∙ ap (λ (x : ℕ). getD c x 0) (sym e2)
       | no l ↦ ap (λ (x : ℕ). getD b x 0) e ∙ y p r (omega arith) (omega arith) (omega arith) ∙ ap (λ (x : ℕ). getD c x 0) (sym e)
     ])
+
+-- and a page
+pub page-ext : (b c : List ℕ) (p q n m : ℕ) → Octets b → Octets c → length b ≡ pageSize * n → p < n → length c ≡ pageSize * m → q < m
+    → ((k : ℕ) → k < slotCount → slot b p k ≡ slot c q k) → ((i : ℕ) → payloadStart ≤ i → i < pageSize → byte b p i ≡ byte c q i) → pageOf b p ≡ pageOf c q
+page-ext b c p q n m hb hc lb hp lc hq w y =
+    buffer-ext (pageOf b p) (pageOf c q) 1 (octets-pageOf b p hb) (octets-pageOf c q hc) (pageOf-length b p n lb hp) (pageOf-length c q m lc hq)
+    (λ r k hr hk. let z : r ≡ 0 = omega arith in rw z (slot-pageOf b p k hk ∙ w k hk ∙ sym (slot-pageOf c q k hk)))
+    (λ r i hr lo hi. let z : r ≡ 0 = omega arith in rw z (byte-pageOf b p i hi ∙ y i lo hi ∙ sym (byte-pageOf c q i hi)))

@@ -1,6 +1,7 @@
 -- A buffer of pages: slot, byte, page and payload, and what is read after one of them was put. Assumes nothing.
 use mathlib.Core.Path.{_≡_, refl, sym, ap, _∙_}
 use mathlib.Core.Logic.{_≢_}
+use mathlib.Core.Bool.{Bool}
 use mathlib.Core.List.{List, _++_, append-assoc}
 use Prim.Native.Nat.{ℕ, _+_, _*_, _-_, _≤_, _<_}
 use native.Mathlib.Omega.{arith}
@@ -10,7 +11,7 @@ use lib.ListN.{length, take, drop, getD, length-take, length-drop, List·getD-ap
 use lib.Seq.{ext-getD, getD-take, getD-drop, paste, length-paste, getD-append-add, length-take-le, length-paste-head, paste-zero, take-all, drop-drop}
 use borrow.Rule.Slice.PartMut.{putMid}
 use Rattle.page.specs.Figures.{pageSize, slotCount, payloadStart, payloadSize, wordSize, wordRadix}
-use Rattle.page.specs.Word.{nameOf, nameAt, wordAt, putWord, putWord-length, putWord-before, putWord-after, wordAt-same, wordAt-before, wordAt-after, wordAt-ext}
+use Rattle.page.specs.Word.{isMarked, nameOf, nameAt, wordAt, putWord, putWord-length, putWord-before, putWord-after, wordAt-same, wordAt-before, wordAt-after, wordAt-ext}
 
 -- ---- "A page is 16 words of 4 bytes, little-endian, in slots 0 to 15, then 192 payload bytes." Page p starts at byte 256 × p.
 
@@ -18,9 +19,12 @@ use Rattle.page.specs.Word.{nameOf, nameAt, wordAt, putWord, putWord-len
 unfoldable pub slot : List ℕ → ℕ → ℕ → ℕ
 slot b p s = wordAt b (pageSize * p + wordSize * s)
 
--- what it names
+-- what it names; and its mark
 abbrev pub name : List ℕ → ℕ → ℕ → ℕ
 name b p s = nameOf (slot b p s)
+
+abbrev pub lock : List ℕ → ℕ → ℕ → Bool
+lock b p s = isMarked (slot b p s)
 
 -- the row of what the words from byte a on name
 abbrev pub wordsFrom : List ℕ → ℕ → ℕ → ℕ
@@ -186,6 +190,14 @@ byte-pageOf b p i hi =
 pub slot-pageOf : (b : List ℕ) (p t : ℕ) → t < slotCount → slot (pageOf b p) 0 t ≡ slot b p t
 slot-pageOf b p t ht = slot-ext (pageOf b p) b 0 p t (λ j hj. byte-pageOf b p (4 * t + j) (omega arith))
 
+-- two pages with equal bytes are one list
+pub pageOf-ext : (b c : List ℕ) (p q n m : ℕ) → length b ≡ pageSize * n → p < n → length c ≡ pageSize * m → q < m → ((i : ℕ) → i < pageSize → byte b p i ≡ byte c q i) → pageOf b p ≡ pageOf c q
+pageOf-ext b c p q n m lb hp lc hq e =
+    let l : length (pageOf b p) ≡ pageSize = pageOf-length b p n lb hp in
+    ext-getD 0 (pageOf b p) (pageOf c q) (l ∙ sym (pageOf-length c q m lc hq)) (λ i hi.
+    let h : i < pageSize = omega arith in
+    sym (byte-first (pageOf b p) i) ∙ byte-pageOf b p i h ∙ e i h ∙ sym (byte-pageOf c q i h) ∙ byte-first (pageOf c q) i)
+
 -- "A page written out and loaded again is that page", as bytes: a page put and read again
 pub pageOf-putPage : (b : List ℕ) (p : ℕ) (g : List ℕ) (n : ℕ) → length b ≡ pageSize * n → length g ≡ pageSize → p < n → pageOf (putPage b p g) p ≡ g
 pageOf-putPage b p g n l lg h =
@@ -218,6 +230,9 @@ module _ (b : List ℕ) (p offset : ℕ) (d : List ℕ) (n : ℕ) (l : length b 
 
   pub byte-putPayload-other : (q i : ℕ) → i < pageSize → q ≢ p → byte (putPayload b p offset d) q i ≡ byte b q i
   byte-putPayload-other q i hi h = outside q i hi (λ e. absurd (h e))
+
+  pub pageOf-putPayload-other : (q : ℕ) → q < n → q ≢ p → pageOf (putPayload b p offset d) q ≡ pageOf b q
+  pageOf-putPayload-other q hq h = pageOf-ext (putPayload b p offset d) b q q n n (putPayload-length ∙ l) hq l hq (λ i hi. byte-putPayload-other q i hi h)
 
 -- the same bytes put at the same offset of two pages whose bytes agree
 pub byte-putPayload-both : (b : List ℕ) (p : ℕ) (c : List ℕ) (q offset : ℕ) (d : List ℕ) (n m i : ℕ) → length b ≡ pageSize * n → p < n → length c ≡ pageSize * m → q < m → offset + length d ≤ payloadSize

@@ -1,17 +1,17 @@
--- The word: its four bytes, what it names, the two readings of that, and what is read after one was put. Assumes nothing.
+-- The word: its four bytes, what it names and its mark, the two readings of a name, and what is read after one was put. Assumes nothing.
 use mathlib.Core.Path.{_≡_, refl, sym, ap, _∙_}
 use mathlib.Core.Logic.{_≢_}
-use mathlib.Core.Bool.{Bool, true, false, not, _&&_}
+use mathlib.Core.Bool.{Bool, true, false, not, _&&_, cond}
 use mathlib.Core.List.{List}
 use Prim.Native.Nat.{ℕ, _+_, _*_, _-_, _/_, _%_, _≤_, _<_}
 use native.Mathlib.Omega.{arith}
-use native.Mathlib.Decide.{decLt}
+use native.Mathlib.Decide.{decLt, ℕ-discrete}
 use native.Mathlib.Nat.{div-div-eq-div-mul, div-add-mod', mod-eq-of-lt, add-zero}
-use borrow.Author.Tests.{lt-ltb, le-ltb, ltb-true, ltb-false, ne-eqb, eqb-false, not-true}
+use borrow.Author.Tests.{lt-ltb, le-ltb, ltb-true, ltb-false, eq-eqb, ne-eqb, eqb-false, not-true}
 use lib.Dec.{eqb, ltb}
 use lib.ListN.{length, getD, set, length-set}
 use lib.Seq.{lt-length-set, getD-set-same, getD-set-other}
-use Rattle.page.specs.Figures.{mostPages, mostFrames, byteRadix, wordSize, wordRadix, swizzleBit}
+use Rattle.page.specs.Figures.{mostPages, mostFrames, byteRadix, wordSize, wordRadix, swizzleBit, lockBit}
 
 -- ---- the four bytes, little-endian
 
@@ -23,15 +23,36 @@ wordAt b a = getD b a 0 + 256 * getD b (a + 1) 0 + 65536 * getD b (a + 2) 0 + 16
 unfoldable pub putWord : List ℕ → ℕ → ℕ → List ℕ
 putWord b a w = set (set (set (set b a (w % 256)) (a + 1) (w / 256 % 256)) (a + 2) (w / 65536 % 256)) (a + 3) (w / 16777216 % 256)
 
--- ---- what a word names: 0 (nothing), a page number, or a frame. Every reader goes by this, and not by the word's bits.
+-- ---- what a word says: the name and the mark. Every reader goes by these, and not by the word's bits.
 
--- today the word itself, as no bit of it says anything else
+-- request A.8: "Bit 30 of a word marks the page it names as locked"; alone, "on a word of otherwise 0", it marks nothing
+unfoldable pub isMarked : ℕ → Bool
+isMarked w = eqb (w / lockBit % 2) 1 && not (eqb w lockBit)
+
+-- what the word names, 0 (nothing), a page number or a frame: the word without its mark, "page numbers and frame indices become the low 30 bits". Bit 30 alone is so a number that no page has.
 unfoldable pub nameOf : ℕ → ℕ
-nameOf w = w
+nameOf w = cond (isMarked w) (w - lockBit) w
 
--- the word that says n, put in the place of the word `old`: what that says besides its name is kept
-unfoldable pub renamed : ℕ → ℕ → ℕ
-renamed old n = n
+-- the word that names n, with a mark or without
+unfoldable pub marked : Bool → ℕ → ℕ
+marked l n = cond l (lockBit + n) n
+
+-- the word that names n, put in the place of the word `old`: "Loading, eviction, settling .. carry it"
+abbrev pub renamed : ℕ → ℕ → ℕ
+renamed old n = marked (isMarked old) n
+
+-- computed: page 5 locked, frame 3 with its page locked, and bit 30 alone, a number that no page has
+pub locked-page : (nameOf 0x40000005 ≡ 5) × (isMarked 0x40000005 ≡ true)
+unfolding isMarked nameOf
+locked-page = (refl, refl)
+
+pub locked-frame : (nameOf 0xC0000003 ≡ 0x80000003) × (isMarked 0xC0000003 ≡ true)
+unfolding isMarked nameOf
+locked-frame = (refl, refl)
+
+pub bit-alone : (nameOf lockBit ≡ lockBit) × (isMarked lockBit ≡ false)
+unfolding isMarked nameOf
+bit-alone = (refl, refl)
 
 -- what the word in the bytes from a on names
 abbrev pub nameAt : List ℕ → ℕ → ℕ
@@ -46,7 +67,7 @@ isNumber n = ltb n swizzleBit
 abbrev pub Number : ℕ → Type 0
 Number n = n < swizzleBit
 
--- "With bit 31 set the page is swizzled, and the low 31 bits are a frame index."
+-- "With bit 31 set the page is swizzled", and the low 30 bits are a frame index
 abbrev pub Swizzled : ℕ → Type 0
 Swizzled n = swizzleBit ≤ n
 
@@ -105,40 +126,145 @@ pub page-given : (n : ℕ) → givesPage n ≡ true → Number n × (n ≢ 0)
 unfolding givesPage
 page-given n t = let a = and-parts (isNumber n) (not (namesNothing n)) t in (number-yes n (a .0), eqb-false n 0 (not-true _ (a .1)))
 
--- ---- laws of names
+-- ---- laws of names and marks
 
--- a word that is a page's number names that page
-pub name-number : (p : ℕ) → p < mostPages → nameOf (numberWord p) ≡ p
+-- a word has no mark, and is its name; or it has one, beside its name
+pub data Says (w : ℕ) : Type 0 where
+  plainly : isMarked w ≡ false → nameOf w ≡ w → (w ≢ lockBit → w / lockBit % 2 ≢ 1) → Says w
+  markedly : isMarked w ≡ true → w ≡ lockBit + nameOf w → w / lockBit % 2 ≡ 1 → nameOf w ≢ 0 → Says w
+
+-- by its bits: bit 30 alone, bit 30 clear, bit 30 among others
+last-off : (a : Bool) → (a && not true) ≡ false
+last-off true = refl
+last-off false = refl
+
+alone-unmarked : (w : ℕ) → w ≡ lockBit → isMarked w ≡ false
+unfolding isMarked
+alone-unmarked w e = rw (eq-eqb w lockBit e) (last-off (eqb (w / lockBit % 2) 1))
+
+clear-unmarked : (w : ℕ) → w / lockBit % 2 ≢ 1 → isMarked w ≡ false
+unfolding isMarked
+clear-unmarked w n = rw (ne-eqb (w / lockBit % 2) 1 n)
+
+set-marked : (w : ℕ) → w / lockBit % 2 ≡ 1 → w ≢ lockBit → isMarked w ≡ true
+unfolding isMarked
+set-marked w e n = rw (eq-eqb (w / lockBit % 2) 1 e, ne-eqb w lockBit n)
+
+says-plainly : (w : ℕ) → isMarked w ≡ false → (w ≢ lockBit → w / lockBit % 2 ≢ 1) → Says w
 unfolding nameOf
-name-number p h = refl
+says-plainly w e n = plainly e (rw e) n
 
--- a word renamed names what it says: a frame, or a page, and nothing only where it named nothing
+says-markedly : (w : ℕ) → isMarked w ≡ true → w / lockBit % 2 ≡ 1 → w ≢ lockBit → Says w
+unfolding nameOf
+says-markedly w e b n = markedly e (rw e (omega arith)) b (rw e (omega arith))
+
+pub says : (w : ℕ) → Says w
+says w = elim (ℕ-discrete w lockBit) [
+  | yes e ↦ says-plainly w (alone-unmarked w e) (λ n. absurd (n e))
+  | no e ↦ elim (ℕ-discrete (w / lockBit % 2) 1) [
+    | yes b ↦ says-markedly w (set-marked w b e) b e
+    | no b ↦ says-plainly w (clear-unmarked w b) (λ n. b)
+  ]
+]
+
+-- a word is its name with its mark, so that name and mark decide it
+pub marked-own : (w : ℕ) → w ≡ renamed w (nameOf w)
+unfolding marked
+marked-own w = elim (says w) [ plainly m n b ↦ rw m (sym n) | markedly m n b z ↦ rw m n ]
+
+pub renamed-same : (w n : ℕ) → nameOf w ≡ n → w ≡ renamed w n
+renamed-same w n e = marked-own w ∙ ap (renamed w) e
+
+pub word-ext : (w u : ℕ) → nameOf w ≡ nameOf u → isMarked w ≡ isMarked u → w ≡ u
+word-ext w u n m = marked-own w ∙ ap (renamed w) n ∙ ap (λ (l : Bool). marked l (nameOf u)) m ∙ sym (marked-own u)
+
+-- a word with a mark, and one without
+pub marked-name : (w : ℕ) → isMarked w ≡ true → w ≡ lockBit + nameOf w
+unfolding marked
+marked-name w t = marked-own w ∙ ap (λ (l : Bool). marked l (nameOf w)) t
+
+pub unmarked-name : (w : ℕ) → isMarked w ≡ false → nameOf w ≡ w
+unfolding marked
+unmarked-name w t = sym (marked-own w ∙ ap (λ (l : Bool). marked l (nameOf w)) t)
+
+-- a marked word names something; and a word that names nothing is 0
+pub mark-names : (w : ℕ) → isMarked w ≡ true → nameOf w ≢ 0
+mark-names w t = elim (says w) [ plainly m n b ↦ absurd (apart (sym t ∙ m)) | markedly m n b z ↦ z ]
+  where
+    apart : true ≡ false → ⊥
+    apart e = let y : _≡_ {A = ℕ} 0 1 = cc in omega arith
+
+pub name-nothing : (w : ℕ) → nameOf w ≡ 0 → w ≡ 0
+name-nothing w e = elim (says w) [ plainly m n b ↦ sym n ∙ e | markedly m n b z ↦ absurd (z e) ]
+
+-- a word below bit 30 is its own name, without a mark
+pub low-word : (w : ℕ) → w < lockBit → (nameOf w ≡ w) × (isMarked w ≡ false)
+low-word w h = elim (says w) [ plainly m n b ↦ (n, m) | markedly m n b z ↦ absurd (omega arith) ]
+
+-- up to bit 30 alone no word has a mark; above it, those with bit 30 set
+pub unmarked-low : (w : ℕ) → w ≤ lockBit → isMarked w ≡ false
+unmarked-low w h = elim (says w) [ plainly m n b ↦ m | markedly m n b z ↦ absurd (z (omega arith)) ]
+
+pub mark-above : (w : ℕ) → lockBit < w → isMarked w ≡ eqb (w / lockBit % 2) 1
+mark-above w h = elim (says w) [ plainly m n b ↦ m ∙ sym (ne-eqb (w / lockBit % 2) 1 (b (omega arith))) | markedly m n b z ↦ m ∙ sym (eq-eqb (w / lockBit % 2) 1 b) ]
+
+-- bit 31 of a word is its name's
+pub number-as-word : (w : ℕ) → isNumber (nameOf w) ≡ isNumber w
+number-as-word w = elim (says w) [
+  | plainly m n b ↦ ap isNumber n
+  | markedly m n b z ↦ elim (decLt w swizzleBit) [
+    | yes h ↦ yes-number (nameOf w) (omega arith) ∙ sym (yes-number w h)
+    | no h ↦ no-number (nameOf w) (omega arith) ∙ sym (no-number w (omega arith))
+  ]
+]
+
+-- a name that a word can have, with a mark or without: its bit 30 is clear
+abbrev pub Bare : ℕ → Type 0
+Bare n = n / lockBit % 2 ≡ 0
+
+-- put with a mark, or without, it is read again, and so is the mark; nothing can't have one
+says-marked : (l : Bool) (n : ℕ) → Bare n → (l ≡ true → n ≢ 0) → (nameOf (marked l n) ≡ n) × (isMarked (marked l n) ≡ l)
+unfolding marked
+says-marked true n h z = let s : n ≢ 0 = z refl in elim (says (lockBit + n)) [
+  | plainly m a b ↦ absurd (b (omega arith) (omega arith))
+  | markedly m a b c ↦ (omega arith, m)
+]
+says-marked false n h z = elim (says n) [ plainly m a b ↦ (a, m) | markedly m a b c ↦ absurd (omega arith) ]
+
+pub name-marked : (l : Bool) (n : ℕ) → Bare n → (l ≡ true → n ≢ 0) → nameOf (marked l n) ≡ n
+name-marked l n h z = says-marked l n h z .0
+
+pub mark-marked : (l : Bool) (n : ℕ) → Bare n → (l ≡ true → n ≢ 0) → isMarked (marked l n) ≡ l
+mark-marked l n h z = says-marked l n h z .1
+
+-- a word that is a page's number names that page, without a mark
+pub name-number : (p : ℕ) → p < mostPages → nameOf (numberWord p) ≡ p
+name-number p h = low-word p (omega arith) .0
+
+pub mark-number : (p : ℕ) → p < mostPages → isMarked (numberWord p) ≡ false
+mark-number p h = low-word p (omega arith) .1
+
+-- a word renamed names what it says, a frame, or a page, and nothing only where it named nothing; and keeps its mark
 pub name-renamed-frame : (old f : ℕ) → f < mostFrames → nameOf (renamed old (frameWord f)) ≡ frameWord f
-unfolding nameOf renamed
-name-renamed-frame old f h = refl
+name-renamed-frame old f h = name-marked (isMarked old) (frameWord f) (omega arith) (λ m. omega arith)
+
+pub mark-renamed-frame : (old f : ℕ) → f < mostFrames → isMarked (renamed old (frameWord f)) ≡ isMarked old
+mark-renamed-frame old f h = mark-marked (isMarked old) (frameWord f) (omega arith) (λ m. omega arith)
 
 pub name-renamed-number : (old p : ℕ) → p < mostPages → (p ≡ 0 → nameOf old ≡ 0) → nameOf (renamed old (numberWord p)) ≡ numberWord p
-unfolding nameOf renamed
-name-renamed-number old p h z = refl
+name-renamed-number old p h z = name-marked (isMarked old) p (omega arith) (λ m e. mark-names old m (z e))
+
+pub mark-renamed-number : (old p : ℕ) → p < mostPages → (p ≡ 0 → nameOf old ≡ 0) → isMarked (renamed old (numberWord p)) ≡ isMarked old
+mark-renamed-number old p h z = mark-marked (isMarked old) p (omega arith) (λ m e. mark-names old m (z e))
 
 -- it is a word
+pub marked-lt : (l : Bool) (n : ℕ) → n < frameWord mostFrames → marked l n < wordRadix
+unfolding marked
+marked-lt true n h = omega arith
+marked-lt false n h = omega arith
+
 pub renamed-lt : (old n : ℕ) → n < frameWord mostFrames → renamed old n < wordRadix
-unfolding renamed
-renamed-lt old n h = omega arith
-
--- a word renamed to its own name stays
-pub renamed-same : (w n : ℕ) → nameOf w ≡ n → w ≡ renamed w n
-unfolding nameOf renamed
-renamed-same w n e = e
-
--- a word says nothing besides its name
-pub renamed-own : (old w n : ℕ) → nameOf w ≡ n → w ≡ renamed old n
-unfolding nameOf renamed
-renamed-own old w n e = e
-
-pub word-ext : (w u : ℕ) → nameOf w ≡ nameOf u → w ≡ u
-unfolding nameOf
-word-ext w u e = e
+renamed-lt old n h = marked-lt (isMarked old) n h
 
 -- ---- laws of the four bytes
 
@@ -216,3 +342,50 @@ wordAt-inj b c x y hb hc e =
 pub wordAt-lt : (b : List ℕ) (a : ℕ) → ((i : ℕ) → getD b i 0 < byteRadix) → wordAt b a < wordRadix
 unfolding wordAt
 wordAt-lt b a h = omega (arith, h a, h (a + 1), h (a + 2), h (a + 3))
+
+-- ---- what loops go by that read many words at a time
+
+-- the values of half a word
+abbrev pub halfRadix : ℕ
+halfRadix = 65536
+
+-- a word has the low half of what it names
+pub name-half : (w n : ℕ) → nameOf w ≡ n → w % halfRadix ≡ n % halfRadix
+name-half w n e = elim (says w) [ plainly m a b ↦ ap (λ (x : ℕ). x % halfRadix) (sym a ∙ e) | markedly m a b z ↦ omega arith ]
+
+-- a word of 0 names nothing, and no other does
+pub nothing-named : (w : ℕ) → w ≡ 0 → nameOf w ≡ 0
+nothing-named w e = low-word w (omega arith) .0 ∙ e
+
+-- the word has a mark, and what it names is no frame
+unfoldable pub isMarkedNumber : ℕ → Bool
+isMarkedNumber w = isMarked w && isNumber w
+
+-- it lies between bit 30 alone and bit 31
+pub marked-number : (w : ℕ) → w < swizzleBit → isMarkedNumber w ≡ ltb lockBit w
+unfolding isMarkedNumber
+marked-number w h = elim (decLt lockBit w) [
+  | yes l ↦ rw (mark-above w l, eq-eqb (w / lockBit % 2) 1 (omega arith), yes-number w h, lt-ltb lockBit w l)
+  | no l ↦ rw (unmarked-low w (omega arith), le-ltb lockBit w (omega arith))
+]
+
+pub marked-no-number : (w : ℕ) → swizzleBit ≤ w → isMarkedNumber w ≡ false
+unfolding isMarkedNumber
+marked-no-number w h = rw (no-number w h) (last-off (isMarked w))
+
+-- what it tells
+pub marked-number-is : (w : ℕ) → isMarkedNumber w ≡ true → isMarked w ≡ true
+unfolding isMarkedNumber
+marked-number-is w t = and-parts (isMarked w) (isNumber w) t .0
+
+pub mark-swizzled : (w : ℕ) → isMarkedNumber w ≡ false → isMarked w ≡ true → Swizzled (nameOf w)
+unfolding isMarkedNumber
+mark-swizzled w t m = number-no (nameOf w) (number-as-word w ∙ sym (ap (λ (b : Bool). b && isNumber w) m) ∙ t)
+
+-- a word names a frame where it is the frame's, with a mark or without
+pub frame-named : (l : Bool) (w f : ℕ) → f < mostFrames → w ≡ marked l (frameWord f) → nameOf w ≡ frameWord f
+frame-named l w f h e = ap nameOf e ∙ name-marked l (frameWord f) (omega arith) (λ m. omega arith)
+
+pub named-frame : (w f : ℕ) → nameOf w ≡ frameWord f → w ≢ frameWord f → w ≡ marked true (frameWord f)
+unfolding marked
+named-frame w f e n = elim (says w) [ plainly m a b ↦ absurd (n (sym a ∙ e)) | markedly m a b z ↦ omega arith ]

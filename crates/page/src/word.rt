@@ -1,16 +1,24 @@
-// The word: four bytes, little-endian, what it names, and the two readings of that. Words and names are u32 until their range was tested.
+// The word: four bytes, little-endian, what it names and its mark, and the two readings of a name. Words and names are u32 until their range was tested.
 use crate::wide;
 ghost use mathlib.Core.Path.{_≡_};
-ghost use Prim.Native.Nat.{_+_, _-_, _≤_, _<_};
+ghost use Prim.Native.Nat.{_+_, _-_, _%_, _≤_, _<_};
 ghost use lib.ListN.{length};
-ghost use Rattle.page.specs.Word.{wordAt, putWord, nameOf, nameAt, renamed, isNumber, frameIn, frameWord};
+ghost use Rattle.page.specs.Word.{wordAt, putWord, isMarked, nameOf, nameAt, marked, renamed, isNumber, isMarkedNumber, halfRadix, frameIn, frameWord};
 ghost use Rattle.page.specs.Figures.{mostFrames};
 
 // Bit 31: set where the word names a frame.
 pub const SWIZZLE_BIT: u32 = 0x8000_0000;
 
+// Bit 30: set where the page that the word names is locked.
+const LOCK_BIT: u32 = 0x4000_0000;
+
 // The bytes of a word.
 pub const SIZE: usize = 4;
+
+// The bytes of half a word, and its values.
+pub const HALF_SIZE: usize = 2;
+
+pub const HALF_RADIX: u32 = 65536;
 
 // The name of nothing, and the word that names nothing.
 pub const NOTHING: u32 = 0;
@@ -27,6 +35,16 @@ pub fn word_at(b: &[u8], at: usize) -> u32
     b0 + 256 * b1 + 65536 * b2 + 16777216 * b3
 }
 
+// The low half of the word in the four bytes from `at` on, which is that of what the word names.
+pub fn half_at(b: &[u8], at: usize) -> u32
+    requires { ⌜ at + 2 ≤ length (now b) ⌝ }
+    ensures { λ r. ⌜ r ≡ wordAt (now (b .entry)) at % halfRadix ⌝ }
+{
+    let b0 = wide::digit(b[at]);
+    let b1 = wide::digit(b[at + 1]);
+    b0 + 256 * b1
+}
+
 // Puts a word into the four bytes from `at` on.
 pub fn put_word(b: &mut [u8], at: usize, w: u32)
     requires { ⌜ at + 4 ≤ length (now b) ⌝ }
@@ -38,10 +56,23 @@ pub fn put_word(b: &mut [u8], at: usize, w: u32)
     b[at + 3] = (w / 16777216 % 256) as u8;
 }
 
-// What a word names: the one place where a word's bits are read.
+// Has the word a mark. The most words have none, and are told by one comparison.
+pub fn is_marked(w: u32) -> bool
+    ensures { λ r. ⌜ r ≡ isMarked w ⌝ }
+{
+    if w <= LOCK_BIT {
+        return false;
+    }
+    w / LOCK_BIT % 2 == 1
+}
+
+// What a word names: the word without its mark.
 pub fn name_of(w: u32) -> u32
     ensures { λ r. ⌜ r ≡ nameOf w ⌝ }
 {
+    if is_marked(w) {
+        return w - LOCK_BIT;
+    }
     w
 }
 
@@ -53,12 +84,23 @@ pub fn name_at(b: &[u8], at: usize) -> u32
     name_of(word_at(b, at))
 }
 
-// The word with this name that goes into the place of the word `old`.
+// The word with this name, with a mark or without.
+pub fn marked(locked: bool, name: u32) -> u32
+    requires { ⌜ name < frameWord mostFrames ⌝ }
+    ensures { λ r. ⌜ r ≡ marked locked name ⌝ }
+{
+    if locked {
+        return LOCK_BIT + name;
+    }
+    name
+}
+
+// The word with this name that goes into the place of the word `old`: it keeps that one's mark.
 pub fn renamed(old: u32, name: u32) -> u32
     requires { ⌜ name < frameWord mostFrames ⌝ }
     ensures { λ r. ⌜ r ≡ renamed old name ⌝ }
 {
-    name
+    marked(is_marked(old), name)
 }
 
 // Does the name give a page, or nothing, and no frame.
@@ -66,6 +108,16 @@ pub fn is_number(name: u32) -> bool
     ensures { λ r. ⌜ r ≡ isNumber name ⌝ }
 {
     name < SWIZZLE_BIT
+}
+
+// Has the word a mark, and names no frame.
+pub fn is_marked_number(w: u32) -> bool
+    ensures { λ r. ⌜ r ≡ isMarkedNumber w ⌝ }
+{
+    if w < SWIZZLE_BIT {
+        return LOCK_BIT < w;
+    }
+    false
 }
 
 // The frame that a name gives, before its range was tested; 0 for another name.

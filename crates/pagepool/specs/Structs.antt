@@ -19,7 +19,7 @@ fixedOf (handle f p looks) x = fixedWith 0 f p looks x
 fixedOf (refused n) x = fixedWith n 0 0 0 x
 fixedOf done x = fixedWith 0 0 0 0 x
 fixedOf (payload b a n) x = fixedWith 0 0 0 0 x
-fixedOf (number p) x = fixedWith 0 0 0 0 x
+fixedOf (number p l) x = fixedWith 0 0 0 0 x
 fixedOf (frame f looks) x = fixedWith 0 0 0 0 x
 fixedOf (nowhere looks) x = fixedWith 0 0 0 0 x
 
@@ -32,19 +32,19 @@ pub record FixedOut : Type 0 where
 abbrev pub fixedOut : Out → FixedOut
 fixedOut o = record { fixed = fixedOf (o .answer) (o .left .pool); frames = o .left .frames; store = o .left .store }
 
--- ---- word
+-- ---- word, which gives the mark beside the number
 
-abbrev pub namedWith : ℕ → ℕ → Named
-namedWith n p = record { refusal = n; page = pageNumber p }
+abbrev pub noName : ℕ → Named
+noName n = record { refusal = n; locked = false; page = pageNumber 0 }
 
 abbrev pub namedOf : Answer → Named
-namedOf (number p) = namedWith 0 p
-namedOf (refused n) = namedWith n 0
-namedOf done = namedWith 0 0
-namedOf (handle f p looks) = namedWith 0 0
-namedOf (payload b a n) = namedWith 0 0
-namedOf (frame f looks) = namedWith 0 0
-namedOf (nowhere looks) = namedWith 0 0
+namedOf (number p l) = record { refusal = 0; locked = l; page = pageNumber p }
+namedOf (refused n) = noName n
+namedOf done = noName 0
+namedOf (handle f p looks) = noName 0
+namedOf (payload b a n) = noName 0
+namedOf (frame f looks) = noName 0
+namedOf (nowhere looks) = noName 0
 
 -- ---- find
 
@@ -58,4 +58,4 @@ foundOf (refused n) = noFrame n 0
 foundOf done = noFrame 0 0
 foundOf (handle f p looks) = noFrame 0 0
 foundOf (payload b a n) = noFrame 0 0
-foundOf (number p) = noFrame 0 0
+foundOf (number p l) = noFrame 0 0

@@ -20,10 +20,11 @@ pub struct Fixed {
     pub looks: u16,
 }
 
-// The answer of word: the page number in the slot, 0 for none.
+// The answer of word: the page number in the slot, 0 for none, and whether that page is locked.
 #[repr(C)]
 pub struct Named {
     pub refusal: u8,
+    pub locked: bool,
     pub page: PageNumber,
 }
 
@@ -69,9 +70,14 @@ pub fn from_word(answer: WordAnswer) -> Named
     ensures { λ r. ⌜ r ≡ namedOf (wordAnswer answer) ⌝ }
 {
     match answer {
-        WordAnswer::Names(page) => Named { refusal: 0, page },
+        WordAnswer::Names(page, locked) => Named {
+            refusal: 0,
+            locked,
+            page,
+        },
         WordAnswer::Refused(refusal) => Named {
             refusal,
+            locked: false,
             page: PageNumber(0),
         },
     }

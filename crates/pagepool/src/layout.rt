@@ -77,6 +77,7 @@ pub extern "C" fn pool_layout_fixed() -> Fixed {
 pub extern "C" fn pool_layout_named() -> Named {
     Named {
         refusal: 204,
+        locked: true,
         page: PageNumber(4003),
     }
 }

@@ -79,7 +79,7 @@ pub extern "C" fn pool_peek(pool: Pool, frames: &[u8], store: &[u8], page: PageN
     pool::peek_place(pool, frames, store, page)
 }
 
-// The page number in a slot of the handle's page.
+// The page number in a slot of the handle's page, and whether that page is locked.
 #[no_mangle]
 pub extern "C" fn pool_word(
     pool: Pool,
@@ -108,7 +108,7 @@ pub extern "C" fn pool_write(
     pool::write(pool, frames, store, handle, offset, bytes)
 }
 
-// Stores a page number in an empty slot of the handle's page.
+// Stores a page number in an empty slot of the handle's page, with the mark of a locked page or without.
 #[no_mangle]
 pub extern "C" fn pool_link(
     pool: Pool,
@@ -117,10 +117,11 @@ pub extern "C" fn pool_link(
     handle: Handle,
     slot: usize,
     page: PageNumber,
+    locked: bool,
 ) -> Done
-    ensures { λ r. ⌜ out (doneAnswer (r .refusal)) (state (r .pool) (now (frames .exit)) (now (store .entry))) ≡ linkCall (state pool (now (frames .entry)) (now (store .entry))) handle slot page ⌝ }
+    ensures { λ r. ⌜ out (doneAnswer (r .refusal)) (state (r .pool) (now (frames .exit)) (now (store .entry))) ≡ linkCall (state pool (now (frames .entry)) (now (store .entry))) handle slot page locked ⌝ }
 {
-    pool::link(pool, frames, store, handle, slot, page)
+    pool::link(pool, frames, store, handle, slot, page, locked)
 }
 
 // Clears a slot of the handle's page.

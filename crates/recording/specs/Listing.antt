@@ -1,5 +1,6 @@
 -- "Call listing": a record of 16 bytes, the call that it makes, and the four numbers of its line.
 use Prim.Native.Nat.{ℕ, _+_, _*_}
+use mathlib.Core.Bool.{false}
 use mathlib.Core.List.{List, [], _∷_}
 use lib.Dec.{eqb, leb}
 use lib.ListN.{getD}
@@ -49,14 +50,14 @@ dataIn b = bytesFrom b 7 (lengthIn b)
 
 -- ---- the call
 
--- "1 root, 2 fix, 3 unfix, 4 write, 5 link, 6 unlink, 7 evict, 8 settle, 9 find"
+-- "1 root, 2 fix, 3 unfix, 4 write, 5 link, 6 unlink, 7 evict, 8 settle, 9 find"; request A.8: "Link takes the mark, in the listing never."
 unfoldable pub callOf : List ℕ → Call
 callOf b =
     pick (eqb (callIn b) 1) root (
     pick (eqb (callIn b) 2) (fix (handleIn b) (slotIn b)) (
     pick (eqb (callIn b) 3) (unfix (handleIn b)) (
     pick (eqb (callIn b) 4) (write (handleIn b) (offsetIn b) (dataIn b)) (
-    pick (eqb (callIn b) 5) (link (parentIn b) (slotIn b) (pageInRecord b)) (
+    pick (eqb (callIn b) 5) (link (parentIn b) (slotIn b) (pageInRecord b) false) (
     pick (eqb (callIn b) 6) (unlink (handleIn b) (slotIn b)) (
     pick (eqb (callIn b) 7) (evict (pageInRecord b)) (
     pick (eqb (callIn b) 8) settle (
@@ -85,7 +86,7 @@ lineOf b (refused n) = lineNumbers (callIn b) n 0 0
 lineOf b done = lineNumbers (callIn b) 0 0 0
 lineOf b (handle f p looks) = lineNumbers (callIn b) 0 f p
 lineOf b (payload y a n) = lineNumbers (callIn b) 0 0 0
-lineOf b (number p) = lineNumbers (callIn b) 0 0 0
+lineOf b (number p l) = lineNumbers (callIn b) 0 0 0
 lineOf b (frame f looks) = lineNumbers (callIn b) 0 f (pageInRecord b .0)
 lineOf b (nowhere looks) = lineNumbers (callIn b) 0 0 0
 

@@ -1,7 +1,7 @@
 -- What a record lists: refused by rule 17, or by the contract of its call. Assumes nothing.
 use Prim.Native.Nat.{ℕ, _+_, _≤_}
 use mathlib.Core.Path.{_≡_, refl, sym, _∙_, ap}
-use mathlib.Core.Bool.{true, false}
+use mathlib.Core.Bool.{Bool, true, false}
 use mathlib.Core.List.{List, []}
 use native.Mathlib.Omega.{arith}
 use native.Mathlib.Nat.{le-antisymm}
@@ -10,12 +10,13 @@ use borrow.Author.Tests.{eqb-true, leb-true}
 use Rattle.page.specs.declared.PageNumber.{PageNumber}
 use Rattle.machine.specs.declared.Pool.{Pool}
 use Rattle.rules.specs.Tests.{pick, verdict, firstBroken}
-use Rattle.rules.specs.TestLaws.{case, on, off, and-true, verdict-no, verdict-yes, kept-then, broken-here, none-broken}
+use Rattle.rules.specs.TestLaws.{case, on, off, and-true, pick-either, verdict-no, verdict-yes, kept-then, broken-here, none-broken}
 use Rattle.machine.specs.Machine.{State, state}
 use Rattle.machine.specs.Answers.{Answer, refused, done, handle, payload, number, frame, nowhere, doneAnswer, Out, out}
 use Rattle.machine.specs.Calls.{decide, pageRules, findCall}
 use Rattle.machine.specs.Laws.FindWalk.{withoutLooks, findCallBefore, walks-no-further}
 use Rattle.machine.specs.History.{Call, root, fix, unfix, write, link, unlink, evict, settle, find, row}
+use Rattle.machine.specs.LockedPages.{withoutMark}
 use Rattle.recording.specs.declared.lines.Line.{Line}
 use Rattle.recording.specs.Listing.{callIn, pageInRecord, handleIn, parentIn, slotIn, offsetIn, lengthIn, dataIn, callOf, rule17, recordOut, lineOf, listed}
 use Rattle.recording.specs.Lines.{lineWith, lineFor, lined, listedOut}
@@ -88,7 +89,7 @@ module _ (b : List ℕ) where
   unfolding callOf pick
   is-write e = rw e
 
-  pub is-link : callIn b ≡ 5 → callOf b ≡ link (parentIn b) (slotIn b) (pageInRecord b)
+  pub is-link : callIn b ≡ 5 → callOf b ≡ link (parentIn b) (slotIn b) (pageInRecord b) false
   unfolding callOf pick
   is-link e = rw e
 
@@ -107,6 +108,15 @@ module _ (b : List ℕ) where
   pub is-find : callIn b ≡ 9 → callOf b ≡ find (pageInRecord b)
   unfolding callOf pick
   is-find e = rw e
+
+-- request A.8: "Link takes the mark, in the listing never."
+pub listed-unmarked : (b : List ℕ) → withoutMark (callOf b) ≡ true
+unfolding callOf
+listed-unmarked b =
+    either _ _ _ refl (either _ _ _ refl (either _ _ _ refl (either _ _ _ refl (either _ _ _ refl (either _ _ _ refl (either _ _ _ refl (either _ _ _ refl refl)))))))
+  where
+    either : (t : Bool) (c d : Call) → withoutMark c ≡ true → withoutMark d ≡ true → withoutMark (pick t c d) ≡ true
+    either = pick-either (λ (c : Call). withoutMark c ≡ true)
 
 -- a call from 1 to 9 that is none of 1 to 8 is 9
 abbrev pub NoneOf8 : ℕ → Type 0
@@ -135,7 +145,7 @@ line-without-looks b (refused n) = refl
 line-without-looks b done = refl
 line-without-looks b (handle f p looks) = refl
 line-without-looks b (payload y a n) = refl
-line-without-looks b (number p) = refl
+line-without-looks b (number p l) = refl
 line-without-looks b (frame f looks) = refl
 line-without-looks b (nowhere looks) = refl
 

@@ -3,6 +3,7 @@ use crate::fields;
 use crate::lines;
 use crate::lines::Line;
 use pool::Pool;
+ghost use mathlib.Core.Bool.{false};
 ghost use mathlib.Core.Path.{_≡_};
 ghost use Prim.Native.Nat.{_≤_};
 ghost use Rattle.machine.specs.Machine.{state};
@@ -48,14 +49,17 @@ pub fn write(pool: Pool, frames: &mut [u8], store: &[u8], entry: &[u8; 16]) -> L
     )
 }
 
-// Link, of the record's page at its slot of the parent's page.
+// Link, of the record's page at its slot of the parent's page, never with the mark of a locked page.
 pub fn link(pool: Pool, frames: &mut [u8], store: &[u8], entry: &[u8; 16]) -> Line
-    ensures { λ r. ⌜ lined r (now (frames .exit)) (now (store .entry)) ≡ listedOut (now (entry .entry)) (linkCall (state pool (now (frames .entry)) (now (store .entry))) (parentIn (now (entry .entry))) (slotIn (now (entry .entry))) (pageInRecord (now (entry .entry)))) ⌝ }
+    ensures { λ r. ⌜ lined r (now (frames .exit)) (now (store .entry)) ≡ listedOut (now (entry .entry)) (linkCall (state pool (now (frames .entry)) (now (store .entry))) (parentIn (now (entry .entry))) (slotIn (now (entry .entry))) (pageInRecord (now (entry .entry))) false) ⌝ }
 {
     let parent = fields::parent(entry);
     let slot = fields::slot(entry);
     let page = fields::page(entry);
-    lines::of_done(pool::link(pool, frames, store, parent, slot, page), entry)
+    lines::of_done(
+        pool::link(pool, frames, store, parent, slot, page, false),
+        entry,
+    )
 }
 
 // Unlink, by the record's handle and slot.

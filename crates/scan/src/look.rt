@@ -8,7 +8,7 @@ ghost use lib.ListN.{length};
 ghost use Rattle.page.specs.Figures.{pageSize};
 ghost use Rattle.machine.specs.Sweep.{childless as noSwizzledWord};
 
-// Is no word of the frame swizzled.
+// Is no word of the frame swizzled. Bit 31 of a word is that of what it names, so that marks are not looked for.
 pub fn childless(frames: &[u8], frame: FrameIndex) -> bool
     requires { ⌜ pageSize * frame .0 + pageSize ≤ length (now frames) ⌝ }
     ensures { λ r. ⌜ r ≡ noSwizzledWord (now (frames .entry)) (frame .0) ⌝ }
@@ -17,7 +17,7 @@ pub fn childless(frames: &[u8], frame: FrameIndex) -> bool
     let mut none = true;
     let mut k = 0;
     while k < PageNumber::SLOTS {
-        let w = word::name_at(frames, start + word::SIZE * k);
+        let w = word::word_at(frames, start + word::SIZE * k);
         if !word::is_number(w) {
             none = false;
         }

@@ -1,14 +1,16 @@
 -- Rows of numbers, `w k` being number k of the row w, as the 16 words of a page: which numbers are among them. Assumes nothing.
-use Prim.Native.Nat.{ℕ, _+_, _*_, _<_}
-use mathlib.Core.Path.{_≡_, sym, _∙_}
+use Prim.Native.Nat.{ℕ, _+_, _*_, _%_, _<_}
+use mathlib.Core.Path.{_≡_, sym, _∙_, ap}
 use mathlib.Core.Logic.{_≢_}
 use mathlib.Core.Bool.{Bool, true, false, not}
 use mathlib.Core.List.{List}
 use native.Mathlib.Numerals.{add-one}
 use native.Mathlib.Omega.{arith}
-use borrow.Author.Tests.{eq-eqb, ne-eqb, eqb-true, not-false}
+use borrow.Author.Tests.{eq-eqb, ne-eqb, eqb-true, eqb-false, not-false}
 use lib.Dec.{eqb}
-use Rattle.page.specs.Figures.{slotCount}
+use Rattle.page.specs.Figures.{slotCount, wordSize}
+use Rattle.page.specs.Word.{wordAt, halfRadix, name-half}
+use Rattle.page.specs.Page.{wordsFrom}
 use Rattle.rules.specs.Tests.{_or_, some}
 use Rattle.rules.specs.TestLaws.{clash, is-off, some-zero, some-suc, true-some, some-true, some-false}
 use Rattle.seen.specs.Fold.{or-same}
@@ -24,6 +26,13 @@ hasAny w m = some m (λ k. not (eqb (w k) 0))
 -- one of the numbers of a page is not 0
 unfoldable pub hasWord : (ℕ → ℕ) → Bool
 hasWord w = hasAny w slotCount
+
+-- one of the halves of the words from byte a on has the low half of x. Halves are read as low halves, from wherever they start.
+abbrev pub halfCount : ℕ
+halfCount = 32
+
+unfoldable pub hasHalf : List ℕ → ℕ → ℕ → Bool
+hasHalf b a x = some halfCount (λ k. eqb (wordAt b (a + 2 * k) % halfRadix) (x % halfRadix))
 
 pub some-keep : (n : ℕ) (t : ℕ → Bool) → t n ≡ false → some (n + 1) t ≡ some n t
 some-keep n t e = rw (add-one n, some-suc n t) (or-same (some n t) e)
@@ -66,3 +75,10 @@ no-word w = not-any w slotCount
 
 pub no-word-among : (w : ℕ → ℕ) → hasWord w ≡ false → (x : ℕ) → 0 < x → among w slotCount x ≡ false
 no-word-among w t x p = not-among w slotCount x (λ k l e. let z : w k ≡ 0 = no-word w t k l in omega arith)
+
+-- where none has, no word names x
+pub no-half : (b : List ℕ) (a x : ℕ) → hasHalf b a x ≡ false → among (wordsFrom b a) slotCount x ≡ false
+unfolding hasHalf
+no-half b a x t = not-among (wordsFrom b a) slotCount x (λ k l e.
+    let q : a + 2 * (2 * k) ≡ a + wordSize * k = omega arith in
+    eqb-false _ _ (some-false halfCount (λ j. eqb (wordAt b (a + 2 * j) % halfRadix) (x % halfRadix)) t (2 * k) (omega arith)) (ap (λ (i : ℕ). wordAt b i % halfRadix) q ∙ name-half _ x e))

@@ -1,7 +1,7 @@
 -- A value that a loop makes of numbers, one after the other. Assumes nothing.
 use Prim.Native.Nat.{ℕ, zero, suc, _+_}
 use mathlib.Core.Path.{_≡_, refl, sym, _∙_, ap}
-use mathlib.Core.Bool.{Bool, true, false}
+use mathlib.Core.Bool.{Bool, true, false, _&&_}
 use native.Mathlib.Numerals.{add-one}
 use Rattle.rules.specs.Tests.{_and_, _or_, every, some}
 use Rattle.rules.specs.TestLaws.{and-yes, and-no, and-off, or-left, or-right, or-skip}
@@ -55,3 +55,8 @@ flag-cleared a h e = e ∙ sym (ap (λ (x : Bool). a and x) h ∙ and-off a)
 pub flag-kept : (a : Bool) {b c : Bool} → b ≡ true → c ≡ a → c ≡ (a and b)
 flag-kept true {b} h e = e ∙ and-yes refl (sym h)
 flag-kept false {b} h e = e ∙ and-no b refl
+
+-- a flag and-ed with the test
+pub flag-and : (a b : Bool) → (a && b) ≡ (a and b)
+unfolding _and_
+flag-and a b = refl

@@ -212,6 +212,10 @@ module _ (w : ℕ → ℕ) (N m : ℕ) (now : Seen) where
     marks-zeros zero z = rw (add-zero m) marks-none
     marks-zeros (suc n) z = rw (add-suc m n, ← add-one (m + n)) (marks-more (m + n) now 0 (z n (omega arith)) (λ k. absurd (k refl)) now true (notes-zero now) true refl (marks-zeros n (λ j l. z j (omega arith))))
 
+-- and on from there
+pub marks-then : (w : ℕ → ℕ) (N m k n : ℕ) (now seen after : Seen) (r : Bool) → MarksOn m k w N now seen true → MarksOn k n w N seen after r → MarksOn m n w N now after r
+marks-then w N m k n now seen after r A B = record { onward = λ before M. B .onward before (A .onward before M) }
+
 -- words of 0 from slot k on are passed over
 pub marked-over : (b : List ℕ) (a k n N : ℕ) (before now : Seen) → N ≤ mostPages → hasAny (wordsFrom b (a + wordSize * k)) n ≡ false → Marked k (wordsFrom b a) N before now true → Marked (k + n) (wordsFrom b a) N before now true
 marked-over b a k n N before now few t = marks-zeros (wordsFrom b a) N k now few n (λ j l. ap (nameAt b) (omega arith) ∙ not-any (wordsFrom b (a + 4 * k)) n t j l) .onward before

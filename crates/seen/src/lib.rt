@@ -47,6 +47,34 @@ pub fn note(seen: &mut Seen, x: usize) -> bool
 }
 
 // Notes the numbers in the words from slot `first` to before slot `end`, of the page from byte `at` on; false where one isn't below `limit` or was noted before.
+fn mark_names(
+    buffer: &[u8],
+    at: usize,
+    first: usize,
+    end: usize,
+    limit: usize,
+    seen: &mut Seen,
+) -> bool
+    requires { ⌜ (limit ≤ mostPages) × (first ≤ end) × (at + wordSize * end ≤ length (now buffer)) ⌝ }
+    ensures { λ r. ⌜ MarksOn first end (wordsFrom (now (buffer .entry)) at) limit (now (seen .entry)) (now (seen .exit)) r ⌝ }
+{
+    let mut k = first;
+    while k < end {
+        let x = word::name_at(buffer, at + word::SIZE * k) as usize;
+        if x != 0 {
+            if limit <= x {
+                return false;
+            }
+            if !mark(seen, x) {
+                return false;
+            }
+        }
+        k += 1;
+    }
+    true
+}
+
+// The same, where most words have no mark: one that is below the limit as it stands is its own name, and from the first other on they go by names.
 fn mark_slots(
     buffer: &[u8],
     at: usize,
@@ -60,10 +88,10 @@ fn mark_slots(
 {
     let mut k = first;
     while k < end {
-        let w = word::name_at(buffer, at + word::SIZE * k) as usize;
+        let w = word::word_at(buffer, at + word::SIZE * k) as usize;
         if w != 0 {
             if limit <= w {
-                return false;
+                return mark_names(buffer, at, k, end, limit, seen);
             }
             if !mark(seen, w) {
                 return false;
@@ -82,7 +110,7 @@ pub fn mark_page(buffer: &[u8], at: usize, limit: usize, seen: &mut Seen) -> boo
     if !mark_slots(buffer, at, 0, FIRST, limit, seen) {
         return false;
     }
-    if word::name_at(buffer, at + word::SIZE * (FIRST - 1)) == word::NOTHING {
+    if word::word_at(buffer, at + word::SIZE * (FIRST - 1)) == word::NOTHING {
         if !words::has_any(buffer, at + word::SIZE * FIRST, PageNumber::SLOTS - FIRST) {
             return true;
         }
@@ -99,9 +127,7 @@ pub fn mark_numbers(numbers: &[u32; PageNumber::SLOTS], seen: &mut Seen) -> bool
     let mut k: usize = 0;
     while k < PageNumber::SLOTS {
         let x = numbers[k] as usize;
-        if !note(seen, x) {
-            fresh = false;
-        }
+        fresh = fresh & note(seen, x);
         k += 1;
     }
     fresh

@@ -8,23 +8,25 @@ use native.Mathlib.Omega.{arith}
 use borrow.Author.Tests.{lt-ltb}
 use lib.ListN.{getD, replicate}
 use Rattle.page.specs.Figures.{slotCount}
-use Rattle.page.specs.Word.{wordAt, nameOf, namesNothing}
+use Rattle.page.specs.Word.{wordAt, isMarked, nameOf, namesNothing, low-word}
 use Rattle.page.specs.Page.{slot, name, bytesFrom}
 use Rattle.page.specs.Octets.{Octets}
 use Rattle.rules.specs.Tests.{pick, _and_, _⇒_, firstBroken}
-use Rattle.rules.specs.TestLaws.{both, true-every, pick-either, pick-no, kept-then, none-broken}
+use Rattle.rules.specs.TestLaws.{both, true-every, pick-either, pick-no, verdict-yes, kept-then, none-broken}
 use Rattle.machine.specs.Machine.{State}
-use Rattle.machine.specs.Answers.{refused, done, Out}
+use Rattle.machine.specs.Answers.{refused, done, Out, out}
 use Rattle.machine.specs.Rules.{lengthsFit}
-use Rattle.machine.specs.Calls.{poolRules, openRules, openCall}
+use Rattle.machine.specs.Calls.{decide, poolRules, openRules, opened, openCall}
 use Rattle.machine.specs.Soundness.{wordsBelow, wordsOnce, sound}
 use Rattle.machine.specs.History.{Call, Point, row, start, next, run, AllBytes}
-use Rattle.machine.specs.Laws.RuleLaws.{answer-yes}
+use Rattle.machine.specs.LockedPages.{Unmarked}
 use Rattle.machine.specs.Laws.Outcomes.{answers-as}
 use Rattle.machine.specs.Theorem.Invariant.{Invariant}
 use Rattle.machine.specs.Theorem.Steps.{step-keeps}
 use Rattle.machine.specs.Theorem.Demand3Holds.{holds, invariant-along}
+use Rattle.machine.specs.Theorem.NeverLockedHolds.{unmarked-locks, step-leaves}
 use Rattle.recording.specs.Listing.{callOf, recordOut, lengthIn, dataIn}
+use Rattle.recording.specs.ListingLaws.{listed-unmarked}
 use Rattle.generator.specs.Generator.{seedRead}
 use Rattle.drawing.specs.Drawing.{drawnOut}
 use Rattle.drawing.specs.Ranges.{in-ranges}
@@ -63,10 +65,11 @@ next-now : (c : Call) (x : Point) → row c .anew ≡ false → next c x .now �
 unfolding next
 next-now c x e = ap (λ (y : Point). y .now) (sym (pick-no _ e refl))
 
--- a point that keeps demand 3's invariant and has this state
+-- a point that keeps demand 3's invariant, has no mark in its map, and has this state
 pub record AtPoint (s : State) : Type 0 where
   pub point : Point
   pub keeps : Invariant point
+  pub unmarked : Unmarked (point .map)
   pub here : point .now ≡ s
 
 kept-there : (s : State) → AtPoint s → firstBroken (poolRules s) ≡ 0
@@ -84,6 +87,7 @@ point-along (suc n) w a =
     point-along n (withNext w) (record {
       point = next (callOf b) (a .point);
       keeps = step-keeps (a .point) (a .keeps) (callOf b) (no-octets _ (p .bytes));
+      unmarked = step-leaves (a .point) (a .keeps) (a .unmarked) (callOf b) (listed-unmarked b);
       here = next-now (callOf b) (a .point) (p .goesOn) ∙ ap (λ (s : State). row (callOf b) .out s .left) (a .here) ∙ ap (λ (o : Out). o .left) (record-called (w .left) z b r);
     })
 
@@ -97,9 +101,15 @@ zero-byte (suc m) (suc i) = zero-byte m i
 zero-octets : (m : ℕ) → Octets (replicate m 0)
 zero-octets m i = rw (zero-byte m i) (omega arith)
 
+zero-word : (m p k : ℕ) → slot (replicate m 0) p k ≡ 0
+unfolding slot wordAt
+zero-word m p k = let a = zero-byte m in rw (a _, a _, a _, a _) refl
+
 zero-name : (m p k : ℕ) → name (replicate m 0) p k ≡ 0
-unfolding nameOf slot wordAt
-zero-name m p k = let a = zero-byte m in rw (a _, a _, a _, a _) refl
+zero-name m p k = ap nameOf (zero-word m p k) ∙ low-word 0 (omega arith) .0
+
+zeros-unmarked : (m : ℕ) → Unmarked (replicate m 0)
+zeros-unmarked m p k h = ap isMarked (zero-word m p k) ∙ low-word 0 (omega arith) .1
 
 unnamed : (m p k : ℕ) (a b : Bool) → ((not (namesNothing (name (replicate m 0) p k)) and a) ⇒ b) ≡ true
 unfolding _⇒_ _and_
@@ -111,27 +121,38 @@ zeros-sound m N l = both _ _
     (true-every N _ (λ p _. true-every slotCount _ (λ k _. rw (zero-name m p k) (lt-ltb 0 N l))))
     (true-every N _ (λ p _. true-every slotCount _ (λ k _. true-every N _ (λ q _. true-every slotCount _ (λ j _. unnamed m p k _ _)))))
 
-pub listing-opens : listingPool .answer ≡ done
-unfolding openCall lengthsFit _and_
-listing-opens = sym (answer-yes _ (openRules (replicate 1024 0) (replicate 4096 0)) _ (sym (kept-then 1 _ refl ∙ kept-then 16 [] (zeros-sound 4096 16 (omega arith)) ∙ none-broken)) refl refl)
+listing-kept : firstBroken (openRules (replicate 1024 0) (replicate 4096 0)) ≡ 0
+unfolding lengthsFit _and_
+listing-kept = kept-then 1 _ refl ∙ kept-then 16 [] (zeros-sound 4096 16 (omega arith)) ∙ none-broken
 
--- ---- the claim: the record that comes after n of any seed is drawn in its ranges, and meets no refusal but those of canMeet, nor 14
+listing-out : listingPool ≡ out done (opened (replicate 1024 0) (replicate 4096 0))
+unfolding openCall decide
+listing-out = sym (verdict-yes {n = 0} _ (sym listing-kept) refl refl)
+
+pub listing-opens : listingPool .answer ≡ done
+listing-opens = answers-as listing-out
+
+-- ---- the claim: the record that comes after n of any seed is drawn in its ranges, and meets no refusal but those of canMeet, nor 14, nor 26
 
 pub record Works (w : Worked) : Type 0 where
   pub drawn : DrawnThere (w .left) (w .generator)
   pub meets : MeetsThese (recordOut (w .left) (drawnOut (w .left) (w .generator) .entry) .answer)
   -- 14 is "only after outside alteration"
   pub unaltered : recordOut (w .left) (drawnOut (w .left) (w .generator) .entry) .answer ≢ refused 14
+  -- request A.8: no page is locked, since the listing's links take no mark
+  pub unlocked : recordOut (w .left) (drawnOut (w .left) (w .generator) .entry) .answer ≢ refused 26
 
 works : (w : Worked) → AtPoint (w .left) → Works w
 works w a =
     let z = kept-there (w .left) a in
     let b = drawnOut (w .left) (w .generator) .entry in
     let called = record-called (w .left) z b (in-ranges (w .left) (w .generator) z) in
+    let answered = ap (λ (s : State). row (callOf b) .out s .answer) (a .here) ∙ answers-as called in
     record {
       drawn = drawn-there (w .left) (w .generator) z;
       meets = drawn-meets (w .left) z (w .generator);
-      unaltered = λ e. holds (a .point) (a .keeps) .neverRefused (callOf b) 14 (ap (λ (s : State). row (callOf b) .out s .answer) (a .here) ∙ answers-as called ∙ e) .2 refl;
+      unaltered = λ e. holds (a .point) (a .keeps) .neverRefused (callOf b) 14 (answered ∙ e) .2 refl;
+      unlocked = λ e. unmarked-locks (a .point) (a .keeps) (a .unmarked) .never26 (callOf b) (answered ∙ e);
     }
 
 listing-point : AtPoint (listingPool .left)
@@ -139,6 +160,7 @@ unfolding AllBytes run
 listing-point = record {
   point = start (listingPool .left);
   keeps = invariant-along (replicate 1024 0) (replicate 4096 0) (zero-octets 1024) (zero-octets 4096) listing-opens [] tt;
+  unmarked = rw (ap (λ (o : Out). o .left .store) listing-out) (zeros-unmarked 4096);
   here = refl;
 }
 

@@ -1,7 +1,8 @@
 //! Changes of the frames and the store.
 use super::occupied;
 use crate::records::{
-    page_of_mut, put_word, State, MOST_FRAMES, PAGE_SIZE, PAYLOAD_SIZE, PAYLOAD_START, SLOTS, SWIZZLE_BIT,
+    page_of_mut, put_word, State, LOCK_BIT, MOST_FRAMES, PAGE_SIZE, PAYLOAD_SIZE, PAYLOAD_START, SLOTS,
+    SWIZZLE_BIT,
 };
 use random::Random;
 
@@ -25,15 +26,16 @@ pub fn bit(random: &mut Random, state: &mut State) {
     page_of_mut(bytes, page)[random.below(end)] ^= 1 << random.below(8);
 }
 
-/// A word that may fit nowhere: about N, about F, a frame, a resident page, or any.
+/// A word that may fit nowhere, at times marked: about N, about F, a frame, a resident page, or any.
 fn odd_word(random: &mut Random, state: &State) -> u32 {
     let (count, pages) = (u32::from(state.pool.count), u32::from(state.pool.pages));
     let record = random.pick(&state.pool.records);
     let frame = random.below(MOST_FRAMES) as u32;
-    match random.below(8) {
+    let mark = if random.percent(25) { LOCK_BIT } else { 0 };
+    mark ^ match random.below(8) {
         0 => 0,
-        1 => random.pick(&[1, pages.wrapping_sub(1), pages, pages + 1, SWIZZLE_BIT - 1]),
-        2 => SWIZZLE_BIT | random.pick(&[0, count.wrapping_sub(1), count, 64, 255, 1 << 30]),
+        1 => random.pick(&[1, pages.wrapping_sub(1), pages, pages + 1, LOCK_BIT - 1, SWIZZLE_BIT - 1]),
+        2 => SWIZZLE_BIT | random.pick(&[0, count.wrapping_sub(1), count, 64, 255, 1 << 29]),
         3 => SWIZZLE_BIT | (frame % count.max(1)),
         4 => SWIZZLE_BIT | frame << 8 | (frame % count.max(1)),
         5 => record.page.into(),

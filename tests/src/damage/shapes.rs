@@ -1,19 +1,21 @@
 //! Changes of records and words together, each broken in one respect alone.
 use super::occupied;
-use crate::records::{page_of_mut, put_word, FrameIndex, State, PAGE_SIZE, SLOTS, SWIZZLE_BIT};
+use crate::records::{
+    page_of_mut, put_word, unmarked, with_mark, FrameIndex, State, LOCK_BIT, PAGE_SIZE, SLOTS, SWIZZLE_BIT,
+};
 use random::Random;
 
-fn put_frame_word(state: &mut State, frame: FrameIndex, slot: usize, word: u32) {
+pub fn put_frame_word(state: &mut State, frame: FrameIndex, slot: usize, word: u32) {
     put_word(page_of_mut(&mut state.frames, frame.into()), slot, word);
 }
 
-/// Takes a frame out of its parent and hangs it below another, by record and word.
-fn hang(state: &mut State, frame: FrameIndex, parent: FrameIndex, slot: usize) {
+/// Takes a frame out of its parent and hangs it below another, by record and word, which is marked or not.
+fn hang(state: &mut State, frame: FrameIndex, parent: FrameIndex, slot: usize, locked: bool) {
     let old = *state.pool.record(frame);
     if usize::from(old.parent) < state.frame_count() && usize::from(old.slot) < SLOTS {
         put_frame_word(state, old.parent, old.slot.into(), 0);
     }
-    put_frame_word(state, parent, slot, SWIZZLE_BIT + u32::from(frame));
+    put_frame_word(state, parent, slot, with_mark(SWIZZLE_BIT + u32::from(frame), locked));
     let record = state.pool.record_mut(frame);
     (record.parent, record.slot) = (parent, slot as u8);
 }
@@ -24,7 +26,7 @@ fn child(random: &mut Random, state: &State) -> Option<FrameIndex> {
 }
 
 /// A slot of a frame with a word of 0.
-fn free_slot(random: &mut Random, state: &State, frame: FrameIndex) -> Option<usize> {
+pub fn free_slot(random: &mut Random, state: &State, frame: FrameIndex) -> Option<usize> {
     let words = state.words(frame).enumerate();
     random.choose(words.filter(|(_, word)| *word == 0).map(|(slot, _)| slot))
 }
@@ -32,7 +34,7 @@ fn free_slot(random: &mut Random, state: &State, frame: FrameIndex) -> Option<us
 /// A frame moved below another, with record and word in agreement.
 fn hang_somewhere(random: &mut Random, state: &mut State, frame: FrameIndex, parent: FrameIndex) {
     if let Some(slot) = free_slot(random, state, parent) {
-        hang(state, frame, parent, slot);
+        hang(state, frame, parent, slot, random.percent(30));
     }
 }
 
@@ -56,7 +58,7 @@ pub fn moved_child(random: &mut Random, state: &mut State) {
 pub fn slot_in_payload(random: &mut Random, state: &mut State) {
     if let (Some(frame), Some(parent)) = (child(random, state), occupied(random, state)) {
         let slot = random.pick(&[SLOTS, SLOTS + 1, 63]);
-        hang(state, frame, parent, slot);
+        hang(state, frame, parent, slot, random.percent(30));
     }
 }
 
@@ -66,7 +68,7 @@ pub fn below_empty(random: &mut Random, state: &mut State) {
     let empty = random.choose((0..state.frame_count() as u8).map(FrameIndex).filter(|frame| !used(frame)));
     if let (Some(frame), Some(parent)) = (child(random, state), empty) {
         let slot = random.below(SLOTS);
-        hang(state, frame, parent, slot);
+        hang(state, frame, parent, slot, random.percent(30));
     }
 }
 
@@ -75,21 +77,21 @@ pub fn first_word(random: &mut Random, state: &mut State) {
     if state.frame_count() > 0 {
         let any = random.below(state.frame_count()) as u32;
         let frame = random.pick(&[0, any, any, state.pool.count.into(), 63, 64]);
-        put_frame_word(state, FrameIndex(0), 0, SWIZZLE_BIT + frame);
+        put_frame_word(state, FrameIndex(0), 0, with_mark(SWIZZLE_BIT + frame, random.percent(40)));
     }
 }
 
-/// A word of the occupied frames that is a page number.
+/// A page number in a word of the occupied frames, without its mark.
 fn number(random: &mut Random, state: &State) -> Option<u32> {
     let words = state.occupied().flat_map(|(frame, _)| state.words(frame));
-    random.choose(words.filter(|word| *word != 0 && *word < SWIZZLE_BIT))
+    random.choose(words.filter(|word| *word != 0 && *word < SWIZZLE_BIT).map(unmarked))
 }
 
 /// A page number that stands in two words of occupied frames.
 pub fn number_twice(random: &mut Random, state: &mut State) {
     if let (Some(number), Some(frame)) = (number(random, state), occupied(random, state)) {
         if let Some(slot) = free_slot(random, state, frame) {
-            put_frame_word(state, frame, slot, number);
+            put_frame_word(state, frame, slot, with_mark(number, random.percent(30)));
         }
     }
 }
@@ -102,21 +104,22 @@ pub fn spoilt_load(random: &mut Random, state: &mut State) {
     let words = unloadable(random, state, page);
     if let Some(stored) = state.store.chunks_exact_mut(PAGE_SIZE).nth(page as usize) {
         for word in words {
-            put_word(stored, random.below(SLOTS), word);
+            put_word(stored, random.below(SLOTS), with_mark(word, random.percent(30)));
         }
     }
 }
 
-/// A swizzled word, a number not below N, the page's own, a resident page's, any, or any twice.
+/// A swizzled word, a number not below N, the page's own, a resident page's, any, bit 30 alone, or any twice.
 fn unloadable(random: &mut Random, state: &State, page: u32) -> Vec<u32> {
     let pages = state.pool.pages.max(1).into();
     let any = random.below(pages) as u32;
-    match random.below(6) {
+    match random.below(7) {
         0 => vec![SWIZZLE_BIT | random.below(64) as u32],
         1 => vec![(pages + random.below(3)) as u32],
         2 => vec![page],
         3 => occupied(random, state).map(|frame| state.pool.record(frame).page.into()).into_iter().collect(),
         4 => vec![any],
+        5 => vec![LOCK_BIT],
         _ => vec![any; 2],
     }
 }

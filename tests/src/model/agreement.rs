@@ -1,5 +1,5 @@
 //! Document 01, "When records and frames agree", sentence by sentence.
-use super::{frame_word, occupied, read, swizzled_to, Reading};
+use super::{frame_word, occupied, read, Reading};
 use crate::records::{FrameIndex, FrameRecord, PageNumber, Pool, MAX_USAGE, SLOTS};
 
 /// Records and frames agree. F and N are in their ranges, and the frames are F.
@@ -11,6 +11,7 @@ pub fn agree(pool: &Pool, frames: &[u8]) -> bool {
         && parents_name(pool, frames)
         && swizzled_point_back(pool, frames)
         && numbers_absent(pool, frames)
+        && no_mark_alone(pool, frames)
         && numbers_once(pool, frames)
         && all_reach_root(pool)
 }
@@ -53,7 +54,7 @@ fn parents_name(pool: &Pool, frames: &[u8]) -> bool {
     occupied(pool).filter(|frame| *frame != FrameIndex(0)).all(|frame| {
         let record = pool.record(frame);
         let word = frame_word(frames, record.parent, record.slot.into());
-        pool.record(record.parent).is_used() && word == swizzled_to(frame)
+        pool.record(record.parent).is_used() && read(word) == Reading::Frame(frame.into())
     })
 }
 
@@ -75,7 +76,7 @@ fn swizzled_point_back(pool: &Pool, frames: &[u8]) -> bool {
                 && record.parent == frame
                 && usize::from(record.slot) == slot
         }),
-        Reading::Nothing | Reading::Page(_) => true,
+        Reading::Nothing | Reading::MarkAlone | Reading::Page(_) => true,
     })
 }
 
@@ -87,6 +88,11 @@ fn numbers_absent(pool: &Pool, frames: &[u8]) -> bool {
     })
 }
 
+/// Request A.8: bit 30 "on a word of otherwise 0 .. in an occupied frame".
+fn no_mark_alone(pool: &Pool, frames: &[u8]) -> bool {
+    words(pool, frames).all(|(_, _, word)| word != Reading::MarkAlone)
+}
+
 /// "No number stands in two such words."
 fn numbers_once(pool: &Pool, frames: &[u8]) -> bool {
     all_distinct(&numbers(pool, frames))
@@ -96,7 +102,7 @@ fn numbers(pool: &Pool, frames: &[u8]) -> Vec<u32> {
     words(pool, frames)
         .filter_map(|(_, _, word)| match word {
             Reading::Page(number) => Some(number),
-            Reading::Nothing | Reading::Frame(_) => None,
+            Reading::Nothing | Reading::MarkAlone | Reading::Frame(_) => None,
         })
         .collect()
 }

@@ -2,7 +2,8 @@
 use super::{has_swizzled, occupied, swizzled_to, unswizzled};
 use crate::pool::Refusal;
 use crate::records::{
-    page_of, page_of_mut, put_word, word_in, FrameIndex, FrameRecord, PageNumber, State, MAX_USAGE, SLOTS,
+    mark_of, page_of, page_of_mut, put_word, word_in, FrameIndex, FrameRecord, PageNumber, State, MAX_USAGE,
+    SLOTS,
 };
 
 /// "The image of a resident page is its bytes with each swizzled word replaced by the number of the page
@@ -30,18 +31,24 @@ pub fn evictable(state: &State, frame: FrameIndex) -> bool {
     frame != FrameIndex(0) && state.pool.record(frame).pins == 0 && !has_swizzled(state, frame)
 }
 
+/// Puts another name into a word. Request A.8: "Loading, eviction, settling, splitting .. carry" its mark.
+fn rename(page: &mut [u8], slot: usize, name: u32) {
+    let mark = mark_of(word_in(page, slot));
+    put_word(page, slot, mark + name);
+}
+
 pub fn evict(state: &mut State, frame: FrameIndex) {
     write_out(state, frame);
     let record = *state.pool.record(frame);
     let parent = page_of_mut(&mut state.frames, record.parent.into());
-    put_word(parent, record.slot.into(), record.page.into());
+    rename(parent, record.slot.into(), record.page.into());
     *state.pool.record_mut(frame) = FrameRecord::EMPTY;
 }
 
 /// Loads a page into an empty frame, for a slot of its parent's frame.
 pub fn load(state: &mut State, page: PageNumber, frame: FrameIndex, parent: FrameIndex, slot: usize) {
     page_of_mut(&mut state.frames, frame.into()).copy_from_slice(page_of(&state.store, page.into()));
-    put_word(page_of_mut(&mut state.frames, parent.into()), slot, swizzled_to(frame));
+    rename(page_of_mut(&mut state.frames, parent.into()), slot, swizzled_to(frame));
     *state.pool.record_mut(frame) =
         FrameRecord { used: 1, dirty: 0, usage: 1, slot: slot as u8, parent, pins: 1, page };
 }

@@ -1,10 +1,10 @@
 //! Document 01, "Numbered denials", with document 02's: what each rule tests. A rule broken is its number.
 use super::agreement::{agree, all_distinct};
-use super::{frame_of, occupied, read, unswizzled, Reading};
+use super::{frame_of, is_locked, occupied, read, unswizzled, Reading};
 use crate::pool::Refusal;
 use crate::records::{
-    page_of, word_in, FrameIndex, Handle, PageNumber, Pool, State, LEAST_FRAMES, MOST_FRAMES, MOST_PAGES,
-    PAGE_SIZE, PAYLOAD_SIZE, SLOTS,
+    page_of, unmarked, word_in, FrameIndex, Handle, PageNumber, Pool, State, LEAST_FRAMES, MOST_FRAMES,
+    MOST_PAGES, PAGE_SIZE, PAYLOAD_SIZE, SLOTS,
 };
 
 pub fn rule(number: Refusal, kept: bool) -> Result<(), Refusal> {
@@ -52,9 +52,20 @@ pub fn range(offset: usize, length: usize) -> Result<(), Refusal> {
     rule(5, offset <= PAYLOAD_SIZE && length <= PAYLOAD_SIZE - offset)
 }
 
+/// 26: "the handle's page is locked, after 5 and before 6".
+pub fn unlocked(state: &State, handle: Handle) -> Result<(), Refusal> {
+    rule(26, !is_locked(state, handle.frame))
+}
+
 /// 6: "The page number isn't below N."
 pub fn page(pool: &Pool, page: PageNumber) -> Result<(), Refusal> {
     rule(6, page.0 < pool.pages)
+}
+
+/// The same in link: ".. or is 0 in link."
+pub fn linked_page(pool: &Pool, page: PageNumber) -> Result<(), Refusal> {
+    rule(6, page != PageNumber(0))?;
+    self::page(pool, page)
 }
 
 /// 9: "Link's page is already named by a word of any page, resident pages taken by their images and the
@@ -67,26 +78,26 @@ pub fn unnamed(state: &State, page: PageNumber) -> Result<(), Refusal> {
     rule(9, !named)
 }
 
-/// A page names another with one of its words.
+/// A page names another with one of its words, marked or not.
 fn names(page: &[u8], number: u32) -> bool {
-    (0..SLOTS).any(|slot| word_in(page, slot) == number)
+    (0..SLOTS).any(|slot| unmarked(word_in(page, slot)) == number)
 }
 
 /// The image of the page in a frame names a page.
 pub fn image_names(state: &State, frame: FrameIndex, number: u32) -> bool {
     let page = page_of(&state.frames, frame.into());
-    (0..SLOTS).any(|slot| unswizzled(&state.pool, word_in(page, slot)) == number)
+    (0..SLOTS).any(|slot| unmarked(unswizzled(&state.pool, word_in(page, slot))) == number)
 }
 
 /// 14: "The stored page to be loaded has a word with bit 31 set, not below N, repeated within it, or
-/// naming a page that a resident page already names."
+/// naming a page that a resident page already names." Request A.8: bit 30 "on a word of otherwise 0".
 pub fn loadable(state: &State, page: PageNumber) -> Result<(), Refusal> {
     let stored = page_of(&state.store, page.into());
     let mut numbers = Vec::new();
     for slot in 0..SLOTS {
         match read(word_in(stored, slot)) {
             Reading::Nothing => {}
-            Reading::Frame(_) => return Err(14),
+            Reading::MarkAlone | Reading::Frame(_) => return Err(14),
             Reading::Page(number) => numbers.push(number),
         }
     }
@@ -96,13 +107,18 @@ pub fn loadable(state: &State, page: PageNumber) -> Result<(), Refusal> {
     rule(14, !numbers.iter().any(named))
 }
 
-/// 16: "every word is 0 or a page number from 1 to N − 1 and no number stands in two words."
+/// 16: "every word is 0 or a page number from 1 to N − 1 and no number stands in two words." Request A.8: "Opening accepts bit 30
+/// on a word naming a page and denies it on a word of otherwise 0".
 pub fn sound(store: &[u8]) -> Result<(), Refusal> {
     let pages = store.len() / PAGE_SIZE;
-    let numbers: Vec<u32> = (0..pages)
-        .flat_map(|page| (0..SLOTS).map(move |slot| word_in(page_of(store, page), slot)))
-        .filter(|word| *word != 0)
-        .collect();
+    let mut numbers = Vec::new();
+    for (page, slot) in (0..pages).flat_map(|page| (0..SLOTS).map(move |slot| (page, slot))) {
+        match read(word_in(page_of(store, page), slot)) {
+            Reading::Nothing => {}
+            Reading::MarkAlone | Reading::Frame(_) => return Err(16),
+            Reading::Page(number) => numbers.push(number),
+        }
+    }
     rule(16, numbers.iter().all(|number| (*number as usize) < pages))?;
     rule(16, all_distinct(&numbers))
 }

@@ -3,7 +3,7 @@ use super::rules::{self, image_names, rule};
 use super::{frame_of, frame_word, occupied, unswizzled};
 use crate::ensure;
 use crate::pool::Refusal;
-use crate::records::{page_of, word_in, Handle, PageNumber, State, SLOTS, SWIZZLE_BIT};
+use crate::records::{page_of, unmarked, word_in, Handle, PageNumber, State, SLOTS, SWIZZLE_BIT};
 use std::collections::BTreeSet;
 
 /// What names the page of a link into a taken slot.
@@ -51,20 +51,20 @@ pub fn compare(
     Ok(namer)
 }
 
-/// Link's rules in document 01's order.
+/// Link's rules in document 01's order, with request A.8's 26 where it stands.
 fn in_former_order(state: &State, handle: Handle, slot: usize, page: PageNumber) -> Result<(), Refusal> {
     rules::state(state)?;
     rules::handle(&state.pool, handle)?;
     rules::slot(slot)?;
-    rule(6, page != PageNumber(0))?;
-    rules::page(&state.pool, page)?;
+    rules::unlocked(state, handle)?;
+    rules::linked_page(&state.pool, page)?;
     rule(8, frame_word(&state.frames, handle.frame, slot) == 0)?;
     rules::unnamed(state, page)
 }
 
 fn namer(state: &State, handle: Handle, slot: usize, page: PageNumber) -> Namer {
     let (word, number) = (frame_word(&state.frames, handle.frame, slot), u32::from(page));
-    if unswizzled(&state.pool, word) == number {
+    if unmarked(unswizzled(&state.pool, word)) == number {
         if word >= SWIZZLE_BIT {
             Namer::SwizzledThere
         } else {
@@ -83,21 +83,23 @@ fn namer(state: &State, handle: Handle, slot: usize, page: PageNumber) -> Namer 
 
 /// The root or a page below it names a page.
 fn named_in_reach(state: &State, number: u32) -> bool {
-    reached(state).into_iter().any(|page| words_of(state, PageNumber(page)).any(|word| word == number))
+    let names_it = |page| words_of(state, PageNumber(page)).any(|word| unmarked(word) == number);
+    reached(state).into_iter().any(names_it)
 }
 
 /// The root and the pages below it.
-fn reached(state: &State) -> BTreeSet<u16> {
+pub fn reached(state: &State) -> BTreeSet<u16> {
     let (mut reached, mut next) = (BTreeSet::from([0]), vec![0]);
     while let Some(page) = next.pop() {
-        let named = words_of(state, PageNumber(page)).filter(|word| *word < state.pool.pages.into());
-        next.extend(named.map(|word| word as u16).filter(|page| reached.insert(*page)));
+        let named = words_of(state, PageNumber(page)).map(unmarked);
+        let pages = named.filter(|page| *page < state.pool.pages.into());
+        next.extend(pages.map(|page| page as u16).filter(|page| reached.insert(*page)));
     }
     reached
 }
 
 /// The words of a page: those of its image if it is resident, otherwise those in the store.
-fn words_of(state: &State, page: PageNumber) -> impl Iterator<Item = u32> + '_ {
+pub fn words_of(state: &State, page: PageNumber) -> impl Iterator<Item = u32> + '_ {
     let frame = frame_of(&state.pool, page);
     (0..SLOTS).map(move |slot| match frame {
         Some(frame) => unswizzled(&state.pool, frame_word(&state.frames, frame, slot)),

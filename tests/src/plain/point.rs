@@ -5,7 +5,8 @@ use crate::calls::{Answer, Call};
 use crate::ensure;
 use crate::pool::Machine;
 use crate::records::{
-    page_of, put_word, word_in, FrameRecord, Handle, PageNumber, State, SLOTS, SWIZZLE_BIT,
+    page_of, put_word, with_mark, word_in, FrameRecord, Handle, PageNumber, State, LOCK_BIT, SLOTS,
+    SWIZZLE_BIT,
 };
 
 impl Plain {
@@ -18,6 +19,7 @@ impl Plain {
         self.check_tree(&resident)?;
         self.check_frames(state, &resident)?;
         self.check_store(state)?;
+        self.check_locked(state)?;
         self.check_settle(machine, state)?;
         self.check_peeks(machine, state)?;
         self.check_handles(machine, state, &resident)
@@ -78,24 +80,28 @@ impl Plain {
         Ok(())
     }
 
-    /// A page's bytes in the map, with the words that name resident pages swizzled.
+    /// A page's bytes in the map, with the words that name resident pages swizzled, which keep their marks.
     fn swizzled(&self, resident: &Residency, page: PageNumber) -> Vec<u8> {
         let mut bytes = self.page(page).to_vec();
         for slot in 0..SLOTS {
-            let child = Some(self.named(page, slot)).filter(|child| *child != PageNumber(0));
-            if let Some(frame) = child.and_then(|child| resident.frame(child)) {
-                put_word(&mut bytes, slot, SWIZZLE_BIT + u32::from(frame));
+            let child = Some(self.word(page, slot)).filter(|child| child.page != PageNumber(0));
+            let found = child.and_then(|child| Some((resident.frame(child.page)?, child.locked)));
+            if let Some((frame, locked)) = found {
+                put_word(&mut bytes, slot, with_mark(SWIZZLE_BIT + u32::from(frame), locked));
             }
         }
         bytes
     }
 
-    /// "No word in the store has bit 31 set."
+    /// "No word in the store has bit 31 set." Request A.8: nor is one bit 30 alone.
     fn check_store(&self, state: &State) -> Check {
         for page in 0..self.pages() {
             for slot in 0..SLOTS {
                 let word = word_in(page_of(&state.store, page), slot);
-                ensure!(word < SWIZZLE_BIT, "{word:#x} in slot {slot} of stored page {page}");
+                ensure!(
+                    word < SWIZZLE_BIT && word != LOCK_BIT,
+                    "{word:#x} in slot {slot} of stored page {page}"
+                );
             }
         }
         Ok(())
@@ -128,7 +134,7 @@ impl Plain {
             self.check_payload(state, page, &place)?;
             for slot in 0..SLOTS {
                 let word = machine.word(state, handle, slot);
-                ensure!(word == Ok(self.named(page, slot)), "word {slot} of {handle:?}: {word:?}");
+                ensure!(word == Ok(self.word(page, slot)), "word {slot} of {handle:?}: {word:?}");
             }
         }
         Ok(())

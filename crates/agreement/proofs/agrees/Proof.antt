@@ -1,4 +1,4 @@
--- `agrees` meets its contract: the frames before f are settled, then the records from F on, then the parents. Assumes nothing.
+-- `agrees` meets its contract: the frames before f are settled, then the records from F on, then the numbers with marks, then the parents. Assumes nothing.
 use borrow.Author.Needs.{needs}
 use borrow.Author.Tests.{not-true, not-false}
 use Prim.Native.Nat.{_≤_, _-_}
@@ -9,8 +9,8 @@ use Rattle.machine.specs.Machine.{recordAt}
 use Rattle.agreement.specs.Fit.{NoField, Before}
 use Rattle.agreement.specs.Deciding.{decided, fails}
 use Rattle.agreement.specs.FitLaws.{page-below, gathers}
-use Rattle.agreement.specs.PassLaws.{before-first, before-few, stands-twice, before-more, frames-even, settle, RestTo, rest-none, rest-more}
-use Rattle.agreement.specs.Same.{end-hand, end-rest, end-frames, table-below, table-root}
+use Rattle.agreement.specs.PassLaws.{before-first, before-few, stands-twice, before-more, marks-twice, frames-even, settle, RestTo, rest-none, rest-more}
+use Rattle.agreement.specs.Same.{end-hand, end-rest, end-frames, frames-least, table-below, table-root}
 use Rattle.agreement.specs.Hands.{end-all}
 use Rattle.agreement.proofs.agrees.Statement.{statement}
 use Rattle.agreement.proofs.agrees.Tie as tie
@@ -67,8 +67,8 @@ mul-above c = search needs
 array-copy-out-above : tie.Need-array-copy-out-above Inv-loop μ-loop Inv-loop2 μ-loop2
 array-copy-out-above c = search needs
 
-cast-t30 : tie.Need-cast-t30 Inv-loop μ-loop Inv-loop2 μ-loop2
-cast-t30 c = search needs
+cast-t33 : tie.Need-cast-t33 Inv-loop μ-loop Inv-loop2 μ-loop2
+cast-t33 c = search needs
 
 is-fitting-requires : tie.Need-is-fitting-requires Inv-loop μ-loop Inv-loop2 μ-loop2
 is-fitting-requires c κs =
@@ -119,7 +119,7 @@ returns-3 c =
     let at-count = at-frames .before .before .before .before in
     let at-entry = at-count .before .before .before in
     end-frames (at-entry .args .pool) _ (at-entry .pre .0) _ (at-count .from-u16 .ensures) _ _
-    (stands-twice _ _ _ _ _ _ _ _ _ _ (at-frames .loop .inv .1) (past-frames .loop-test .taken) _ _ (at-note .note .result .fresh) (at-note .note .ensures) (not-true _ (c .if3 .taken)))
+    (stands-twice _ _ _ _ _ _ _ _ _ _ (at-frames .loop .inv .1) (past-frames .loop-test .taken) _ _ (at-note .note .result .fresh) (at-note .note .ensures) (at-entry .pre .0 .pages) (not-true _ (c .if3 .taken)))
 
 add-over : tie.Need-add-over Inv-loop μ-loop Inv-loop2 μ-loop2
 add-over c =
@@ -256,25 +256,61 @@ returns-6 c =
     let at-entry = at-count .before .before .before in
     end-rest (at-entry .args .pool) _ (at-entry .pre .0) _ (at-count .from-u16 .ensures) _ _ (λ r. c .if6 .taken (at-rest .loop2 .inv .2 .nothing (λ g a b. r g a (omega arith)) .last))
 
-add-if7 : tie.Need-add-if7 Inv-loop μ-loop Inv-loop2 μ-loop2
-add-if7 c =
+add-frames-named : tie.Need-add-frames-named Inv-loop μ-loop Inv-loop2 μ-loop2
+add-frames-named c =
     let past-frames = c .before .before .before .before .before in
     let at-frames = past-frames .before in
     omega (arith, before-few _ _ _ _ _ _ _ _ _ _ (at-frames .loop .inv .1) .1, at-frames .loop .inv .1 .most)
 
--- a word that isn't below N is no frame's own
+note-requires-2 : tie.Need-note-requires-2 Inv-loop μ-loop Inv-loop2 μ-loop2
+note-requires-2 c κs =
+    let past-last = c .before .before in
+    let at-rest = past-last .before .before .before .before in
+    let at-frames = at-rest .before .before in
+    let at-count = at-frames .before .before .before .before in
+    let S = at-count .before .before .before .pre .0 in
+    (S .pages, at-frames .loop .inv .0, omega (arith, S .size, at-count .from-u16 .ensures))
+
+-- a number with a mark stands twice
 returns-7 : tie.Need-returns-7 Inv-loop μ-loop Inv-loop2 μ-loop2
 returns-7 c =
-    let at-rest = c .before .before .before .before .before in
+    let at-marks = c .before .before in
+    let past-last = at-marks .before .before .before in
+    let at-rest = past-last .before .before .before .before in
     let past-frames = at-rest .before in
     let at-frames = past-frames .before in
     let at-count = at-frames .before .before .before .before in
     let at-entry = at-count .before .before .before in
-    end-frames (at-entry .args .pool) _ (at-entry .pre .0) _ (at-count .from-u16 .ensures) _ _ (λ k. c .if7 .taken (frames-even _ _ _ _ _ _ _ _ _ _ (at-frames .loop .inv .1) (past-frames .loop-test .left) k))
+    end-frames (at-entry .args .pool) _ (at-entry .pre .0) _ (at-count .from-u16 .ensures) _ _
+    (marks-twice _ _ _ _ _ _ _ _ _ _ (at-frames .loop .inv .1) (past-frames .loop-test .left) (at-entry .pre .0 .pages) _ _ (at-marks .note2 .result .fresh) (at-marks .note2 .ensures) (not-true _ (c .if7 .taken)))
+
+add-if8 : tie.Need-add-if8 Inv-loop μ-loop Inv-loop2 μ-loop2
+add-if8 c =
+    let at-marks = c .before .before .before in
+    let past-last = at-marks .before .before .before in
+    let at-rest = past-last .before .before .before .before in
+    let at-frames = at-rest .before .before in
+    omega (arith, before-few _ _ _ _ _ _ _ _ _ _ (at-frames .loop .inv .1) .0, at-frames .loop .inv .1 .most, at-marks .note2 .ensures .few)
+
+-- a word that isn't below N is no frame's own
+returns-8 : tie.Need-returns-8 Inv-loop μ-loop Inv-loop2 μ-loop2
+returns-8 c =
+    let past-marks = c .before .before in
+    let at-marks = past-marks .before .before in
+    let past-last = at-marks .before .before .before in
+    let at-rest = past-last .before .before .before .before in
+    let past-frames = at-rest .before in
+    let at-frames = past-frames .before in
+    let at-count = at-frames .before .before .before .before in
+    let at-entry = at-count .before .before .before in
+    end-frames (at-entry .args .pool) _ (at-entry .pre .0) _ (at-count .from-u16 .ensures) _ _
+    (λ k. c .if8 .taken (frames-even _ _ _ _ _ _ _ _ _ _ (at-frames .loop .inv .1) (past-frames .loop-test .left) (at-entry .pre .0 .pages) _ _ (at-marks .note2 .result .fresh) (at-marks .note2 .ensures) (not-false _ (past-marks .if7 .left)) k))
 
 lead-to-root-requires : tie.Need-lead-to-root-requires Inv-loop μ-loop Inv-loop2 μ-loop2
 lead-to-root-requires c κs =
-    let past-last = c .before in
+    let past-marks = c .before .before in
+    let at-marks = past-marks .before .before in
+    let past-last = at-marks .before .before .before in
     let past-parent = past-last .before in
     let past-first = past-parent .before in
     let past-rest = past-first .before in
@@ -283,17 +319,21 @@ lead-to-root-requires c κs =
     let at-frames = past-frames .before in
     let at-count = at-frames .before .before .before .before in
     let at-entry = at-count .before .before .before in
-    let z = settle _ _ _ _ _ _ _ _ _ _ (at-frames .loop .inv .1) (past-frames .loop-test .left) (c .if7 .left) _ _ (past-rest .loop2-test .left) (at-rest .loop2 .inv .2) (record { first = past-first .if4 .left; parent = past-parent .if5 .left; last = past-last .if6 .left }) in (
+    let l = frames-least (at-entry .args .pool) _ (at-entry .pre .0) _ (at-count .from-u16 .ensures) (λ g m. at-frames .loop .inv .1 .fits g (omega (arith, past-frames .loop-test .left))) in
+    let z = settle _ _ _ _ _ _ _ _ _ _ (at-frames .loop .inv .1) (past-frames .loop-test .left) (at-entry .pre .0 .pages) _ _ (at-marks .note2 .result .fresh) (at-marks .note2 .ensures) l (not-false _ (past-marks .if7 .left)) (c .if8 .left)
+    _ _ (past-rest .loop2-test .left) (at-rest .loop2 .inv .2) (record { first = past-first .if4 .left; parent = past-parent .if5 .left; last = past-last .if6 .left }) in (
       at-frames .loop .inv .0,
       table-below (at-entry .args .pool) _ (at-entry .pre .0) _ (at-count .from-u16 .ensures) _ _ _ z,
       table-root (at-entry .args .pool) _ (at-entry .pre .0) _ (at-count .from-u16 .ensures) _ _ _ z,
     )
 
 -- each frame fits, so that its parents decide
-returns-8 : tie.Need-returns-8 Inv-loop μ-loop Inv-loop2 μ-loop2
-returns-8 c =
-    let past-over = c .before in
-    let past-last = past-over .before in
+returns-9 : tie.Need-returns-9 Inv-loop μ-loop Inv-loop2 μ-loop2
+returns-9 c =
+    let past-even = c .before in
+    let past-marks = past-even .before .before in
+    let at-marks = past-marks .before .before in
+    let past-last = at-marks .before .before .before in
     let past-parent = past-last .before in
     let past-first = past-parent .before in
     let past-rest = past-first .before in
@@ -304,7 +344,9 @@ returns-8 c =
     let at-hand = past-hand .before in
     let at-count = at-hand .before .before in
     let at-entry = at-count .before .before .before in
-    let z = settle _ _ _ _ _ _ _ _ _ _ (at-frames .loop .inv .1) (past-frames .loop-test .left) (past-over .if7 .left) _ _ (past-rest .loop2-test .left) (at-rest .loop2 .inv .2) (record { first = past-first .if4 .left; parent = past-parent .if5 .left; last = past-last .if6 .left }) in
+    let l = frames-least (at-entry .args .pool) _ (at-entry .pre .0) _ (at-count .from-u16 .ensures) (λ g m. at-frames .loop .inv .1 .fits g (omega (arith, past-frames .loop-test .left))) in
+    let z = settle _ _ _ _ _ _ _ _ _ _ (at-frames .loop .inv .1) (past-frames .loop-test .left) (at-entry .pre .0 .pages) _ _ (at-marks .note2 .result .fresh) (at-marks .note2 .ensures) l (not-false _ (past-marks .if7 .left)) (past-even .if8 .left)
+    _ _ (past-rest .loop2-test .left) (at-rest .loop2 .inv .2) (record { first = past-first .if4 .left; parent = past-parent .if5 .left; last = past-last .if6 .left }) in
     end-all (at-entry .args .pool) _ (at-entry .pre .0) _ (at-count .from-u16 .ensures) _ _ _ z _ (at-hand .from-u8 .ensures) (past-hand .if1 .left) (c .lead-to-root .result) (c .lead-to-root .ensures)
 
 pub agrees-spec : {M : Type 1} → statement M
@@ -325,7 +367,7 @@ agrees-spec =
     from-u8-requires-2
     mul-above
     array-copy-out-above
-    cast-t30
+    cast-t33
     is-fitting-requires
     returns-2
     array-write-parents
@@ -362,7 +404,10 @@ agrees-spec =
     returns-4
     returns-5
     returns-6
-    add-if7
+    add-frames-named
+    note-requires-2
     returns-7
+    add-if8
+    returns-8
     lead-to-root-requires
-    returns-8)
+    returns-9)

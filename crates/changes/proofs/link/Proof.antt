@@ -1,9 +1,10 @@
 -- `changes::link` meets its contract. Assumes nothing.
-use mathlib.Core.Path.{refl, ap}
+use mathlib.Core.Path.{refl, ap, _∙_}
 use native.Mathlib.Omega.{arith}
+use Rattle.page.specs.Word.{marked}
 use Rattle.machine.specs.Machine.{State, state, recordAt}
 use Rattle.machine.specs.Calls.{linkCall}
-use Rattle.machine.specs.Laws.RuleLaws.{SlotKept, done-no}
+use Rattle.machine.specs.Laws.RuleLaws.{EditKept, done-no}
 use Rattle.changes.specs.Changed.{linkable, link-done}
 use borrow.Author.Needs.{needs}
 use Rattle.changes.proofs.link.Statement.{statement}
@@ -17,7 +18,7 @@ abbrev start : tie.Else1 → tie.Start
 start c = let at-record-place = c .before .before .before .before .before .before in at-record-place .before .before .before
 
 -- past the refusals
-kept : (c : tie.Else1) → SlotKept (given (start c)) (start c .args .handle) (start c .args .slot)
+kept : (c : tie.Else1) → EditKept (given (start c)) (start c .args .handle) (start c .args .slot)
 kept c = let a = start c .args in linkable (given (start c)) (a .handle) (a .slot) (a .page) (c .before .link-refusal .ensures) (c .if1 .left)
 
 record-place-requires : tie.Need-record-place-requires
@@ -46,14 +47,17 @@ returns c = done-no _ _ _ (c .before .link-refusal .ensures) (c .if1 .taken)
 word-requires : tie.Need-word-requires
 word-requires c κs = search needs
 
+marked-requires : tie.Need-marked-requires
+marked-requires c κs = search needs
+
 put-in-slot-requires : tie.Need-put-in-slot-requires
-put-in-slot-requires c κs = let k = kept (c .before .before) in (omega arith, omega arith)
+put-in-slot-requires c κs = let k = kept (c .before .before .before) in (omega arith, omega arith)
 
 dirtied-requires : tie.Need-dirtied-requires
 dirtied-requires c κs = search needs
 
-mul-t15 : tie.Need-mul-t15
-mul-t15 c = search needs
+mul-t17 : tie.Need-mul-t17
+mul-t17 c = search needs
 
 element-set-from-next : tie.Need-element-set-from-next
 element-set-from-next c = search needs
@@ -65,13 +69,14 @@ same-length-2 c = search needs
 returns-2 : tie.Need-returns-2
 returns-2 c =
     let at-put-in-slot = c .before .before .before in
-    let at-word = at-put-in-slot .before in
-    let past-refusal = at-word .before .before in
+    let at-mark = at-put-in-slot .before .before in
+    let past-refusal = at-mark .before .before in
     let at-link-refusal = past-refusal .before in
     let at-record-place = at-link-refusal .before .before .before .before .before in
     let at-entry = at-record-place .before .before .before in
     let a = at-entry .args in
-    link-done (given at-entry) (a .handle) (a .slot) (a .page) (at-link-refusal .link-refusal .ensures) (past-refusal .if1 .left) (at-record-place .record-place .ensures) (c .dirtied .ensures) (at-put-in-slot .put-in-slot .ensures) (at-word .word .ensures)
+    link-done (given at-entry) (a .handle) (a .slot) (a .page) (a .locked) (at-link-refusal .link-refusal .ensures) (past-refusal .if1 .left) (at-record-place .record-place .ensures) (c .dirtied .ensures) (at-put-in-slot .put-in-slot .ensures)
+    (at-mark .marked .ensures ∙ ap (marked (a .locked)) (at-mark .before .word .ensures))
 
 pub link-spec : {M : Type 1} → statement M
 link-spec =
@@ -84,9 +89,10 @@ link-spec =
     same-length
     returns
     word-requires
+    marked-requires
     put-in-slot-requires
     dirtied-requires
-    mul-t15
+    mul-t17
     element-set-from-next
     same-length-2
     returns-2)

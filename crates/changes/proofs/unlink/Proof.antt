@@ -3,7 +3,7 @@ use mathlib.Core.Path.{refl, ap}
 use native.Mathlib.Omega.{arith}
 use Rattle.machine.specs.Machine.{State, state, recordAt}
 use Rattle.machine.specs.Calls.{unlinkCall}
-use Rattle.machine.specs.Laws.RuleLaws.{SlotKept, done-no}
+use Rattle.machine.specs.Laws.RuleLaws.{EditKept, done-no}
 use Rattle.changes.specs.Changed.{unlinkable, unlink-done}
 use borrow.Author.Needs.{needs}
 use Rattle.changes.proofs.unlink.Statement.{statement}
@@ -17,7 +17,7 @@ abbrev start : tie.Else1 → tie.Start
 start c = let at-record-place = c .before .before .before .before .before .before in at-record-place .before .before .before
 
 -- past the refusals
-kept : (c : tie.Else1) → SlotKept (given (start c)) (start c .args .handle) (start c .args .slot)
+kept : (c : tie.Else1) → EditKept (given (start c)) (start c .args .handle) (start c .args .slot)
 kept c = let a = start c .args in unlinkable (given (start c)) (a .handle) (a .slot) (c .before .unlink-refusal .ensures) (c .if1 .left)
 
 record-place-requires : tie.Need-record-place-requires

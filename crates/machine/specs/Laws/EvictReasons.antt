@@ -8,23 +8,21 @@ use native.Mathlib.Omega.{arith}
 use borrow.Author.Tests.{ltb-true}
 use lib.Dec.{ltb}
 use Rattle.page.specs.declared.PageNumber.{PageNumber}
-use Rattle.page.specs.Word.{isNumber, frameIn}
-use Rattle.machine.specs.declared.Handle.{Handle}
 use Rattle.machine.specs.declared.Standing.{Standing}
 use Rattle.rules.specs.Tests.{_and_, Rule, firstBroken}
 use Rattle.machine.specs.Machine.{State, recordAt, pageIn, found}
 use Rattle.machine.specs.Sweep.{standing, evictable, isOpen}
 use Rattle.machine.specs.Moves.{evicted}
 use Rattle.machine.specs.Answers.{refused, done, Out, out}
-use Rattle.machine.specs.Rules.{wordOf, rule11, rule13, rule14, rule15}
-use Rattle.machine.specs.Calls.{decide, pageRules, openCall, rootCall, fixEntryRules, fixRules, fixCall, unfixCall, showCall, peekCall, wordCall, writeCall, linkCall, unlinkCall, stayRules, evictRules, evictCall, settleCall, findCall}
+use Rattle.machine.specs.Rules.{rule11}
+use Rattle.machine.specs.Calls.{decide, pageRules, openCall, rootCall, unfixCall, showCall, peekCall, wordCall, writeCall, linkCall, unlinkCall, stayRules, evictRules, evictCall, settleCall, findCall}
 use Rattle.machine.specs.History.{Call, reopen, root, fix, unfix, show, peek, word, write, link, unlink, evict, settle, find, row}
-use Rattle.rules.specs.TestLaws.{pick-either, first-kept, kept-then, broken-here, none-broken, numbered, parts-kept}
+use Rattle.rules.specs.TestLaws.{first-kept, kept-then, broken-here, none-broken, numbered, parts-kept}
 use Rattle.machine.specs.Laws.FoundLaws.{found-holds, found-is}
 use Rattle.machine.specs.Laws.Ready.{Kept}
 use Rattle.machine.specs.Laws.RuleLaws.{page-kept}
 use Rattle.machine.specs.Laws.Standings.{HasSwizzled, numbers-alone, rootStands, pinnedStands, parentStands, openStands, stands, stayNumber, stays-first}
-use Rattle.machine.specs.Laws.Outcomes.{lacks, kept-part, first, second, parts, one-refusal, refused-by, never-by, same-by, answers-as, leaves-as, place-accepted, found-accepted, fix-accepted}
+use Rattle.machine.specs.Laws.Outcomes.{lacks, kept-part, first, second, parts, one-refusal, refused-by, never-by, same-by, answers-as, leaves-as, place-accepted, found-accepted, fix-lacks}
 
 -- ---- document 01's rule and evict by it: definitions for these laws alone, which no call cites
 
@@ -289,24 +287,17 @@ module _ (s : State) (q : PageNumber) where
 
 -- ---- no call
 
-fix-never : (s : State) (h : Handle) (k : ℕ) → fixCall s h k .answer ≢ refused 12
-unfolding fixCall lacks _and_
-fix-never s h k =
-    let w = wordOf s h k in
-    never-by s (fixRules s h k) _ (fix-accepted s h k)
-    12 (omega arith) (pick-either (λ (rs : List Rule). lacks 12 (fixEntryRules s h k ++ rs) ≡ true) (isNumber w) (rule14 s w ∷ rule15 s ∷ []) (rule13 s (frameIn w) ∷ []) refl refl)
-
 pub never-twelve : NeverTwelve
 unfolding openCall rootCall unfixCall showCall peekCall wordCall writeCall linkCall unlinkCall settleCall findCall lacks _and_
 never-twelve reopen s = never-by _ _ _ refl 12 (omega arith) refl
 never-twelve root s = never-by _ _ _ refl 12 (omega arith) refl
-never-twelve (fix h k) s = fix-never s h k
+never-twelve (fix h k) s = fix-lacks s h k 12 (omega arith) refl refl
 never-twelve (unfix h) s = never-by _ _ _ refl 12 (omega arith) refl
 never-twelve (show h) s = never-by _ _ _ refl 12 (omega arith) refl
 never-twelve (peek q) s = never-by _ _ _ (place-accepted s (q .0)) 12 (omega arith) refl
 never-twelve (word h k) s = never-by _ _ _ refl 12 (omega arith) refl
 never-twelve (write h offset d) s = never-by _ _ _ refl 12 (omega arith) refl
-never-twelve (link h k q) s = never-by _ _ _ refl 12 (omega arith) refl
+never-twelve (link h k q l) s = never-by _ _ _ refl 12 (omega arith) refl
 never-twelve (unlink h k) s = never-by _ _ _ refl 12 (omega arith) refl
 never-twelve (evict q) s = evict-never s q
 never-twelve settle s = never-by _ _ _ refl 12 (omega arith) refl

@@ -26,7 +26,7 @@ withoutLooks (refused n) = refused n
 withoutLooks done = done
 withoutLooks (handle f p looks) = handle f p looks
 withoutLooks (payload b a n) = payload b a n
-withoutLooks (number p) = number p
+withoutLooks (number p l) = number p l
 withoutLooks (frame f looks) = frame f 0
 withoutLooks (nowhere looks) = nowhere 0
 
@@ -57,7 +57,7 @@ looksIn (refused n) = 0
 looksIn done = 0
 looksIn (handle f p looks) = 0
 looksIn (payload b a n) = 0
-looksIn (number p) = 0
+looksIn (number p l) = 0
 looksIn (frame f looks) = looks
 looksIn (nowhere looks) = looks
 

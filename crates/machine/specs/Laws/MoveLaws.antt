@@ -7,16 +7,16 @@ use mathlib.Core.List.{List}
 use native.Mathlib.Omega.{arith}
 use native.Mathlib.Decide.{decLt, ℕ-discrete}
 use lib.ListN.{length, set}
-use lib.Seq.{ext-getD, getD-set-other}
+use lib.Seq.{getD-set-other}
 use Rattle.page.specs.Figures.{pageSize, slotCount, payloadStart, mostFrames, wordRadix}
 use Rattle.page.specs.Word.{isNumber, frameIn, frameWord, putWord-before, putWord-after, Number, number-yes}
-use Rattle.page.specs.Page.{slot, name, byte, pageOf, putSlot, putPage, putSlot-length, slot-putSlot-same, slot-putSlot-slot, byte-putSlot, pageOf-length, putPage-length, byte-first, byte-pageOf, slot-pageOf, pageOf-putPage}
+use Rattle.page.specs.Page.{slot, name, byte, pageOf, putSlot, putPage, putSlot-length, slot-putSlot-same, slot-putSlot-slot, byte-putSlot, pageOf-length, putPage-length, slot-pageOf, pageOf-putPage, pageOf-ext}
 use Rattle.page.specs.Octets.{Octets, octets-putSlot, octets-pageOf, slot-lt, buffer-ext}
 use Rattle.machine.specs.declared.FrameRecord.{FrameRecord}
 use Rattle.rules.specs.Tests.{pick}
 use Rattle.rules.specs.TestLaws.{every-true, pick-yes, pick-either}
 use Rattle.machine.specs.Machine.{State, blank, cleaned, isDirty, recordAt, pageIn}
-use Rattle.machine.specs.Moves.{plain, imaged, imageTo, imageOf, writtenOutBy, writtenOut, writtenOutTo, cleanedTo, settled, evicted, loaded}
+use Rattle.machine.specs.Moves.{plain, imaged, imageTo, imageOf, writtenOutBy, writtenOut, writtenOutTo, cleanedTo, evicted, loaded}
 use Rattle.machine.specs.Sweep.{childless}
 use Rattle.machine.specs.Laws.Ready.{Sized, Ready}
 use Rattle.machine.specs.Laws.PlainLaws.{imaged-low}
@@ -156,13 +156,8 @@ byte-putSlot-other b p k w q i hk ne hi = elim (decLt q p) [
   | no h ↦ putWord-after b (256 * p + 4 * k) w (256 * q + i) (omega arith)
 ]
 
-pageOf-putSlot-other : (b : List ℕ) (p k w q n : ℕ) → length b ≡ pageSize * n → q < n → k < slotCount → q ≢ p → pageOf (putSlot b p k w) q ≡ pageOf b q
-pageOf-putSlot-other b p k w q n l hq hk ne =
-    let l1 : length (pageOf (putSlot b p k w) q) ≡ pageSize = pageOf-length (putSlot b p k w) q n (putSlot-length b p k w ∙ l) hq in
-    let l2 : length (pageOf b q) ≡ pageSize = pageOf-length b q n l hq in
-    ext-getD 0 (pageOf (putSlot b p k w) q) (pageOf b q) (l1 ∙ sym l2) (λ i hi.
-    let h : i < pageSize = omega arith in
-    sym (byte-first (pageOf (putSlot b p k w) q) i) ∙ byte-pageOf (putSlot b p k w) q i h ∙ byte-putSlot-other b p k w q i hk ne h ∙ sym (byte-pageOf b q i h) ∙ byte-first (pageOf b q) i)
+pub pageOf-putSlot-other : (b : List ℕ) (p k w q n : ℕ) → length b ≡ pageSize * n → q < n → k < slotCount → q ≢ p → pageOf (putSlot b p k w) q ≡ pageOf b q
+pageOf-putSlot-other b p k w q n l hq hk ne = pageOf-ext (putSlot b p k w) b q q n n (putSlot-length b p k w ∙ l) hq l hq (λ i h. byte-putSlot-other b p k w q i hk ne h)
 
 -- an eviction writes a dirty page's image to the store
 pub evicted-stored : (s : State) (f : ℕ) → Ready s → f < s .pool .count → isDirty (recordAt (s .pool .records) f) ≡ true

@@ -1,7 +1,7 @@
 -- The two cases of a call: no rule is broken and it does as it says, or it is refused and leaves all as it was. And what it answers by its list of rules. Assumes nothing.
 use Prim.Native.Nat.{ℕ}
 use mathlib.Core.Path.{_≡_, refl, sym, _∙_, ap}
-use mathlib.Core.Logic.{_≢_}
+use mathlib.Core.Logic.{_≢_, _↔_}
 use mathlib.Core.Bool.{Bool, true, false, not}
 use mathlib.Core.List.{List, [], _∷_, _++_}
 use native.Mathlib.Omega.{arith}
@@ -11,11 +11,11 @@ use lib.Dec.{eqb}
 use Rattle.page.specs.Word.{isNumber, frameIn}
 use Rattle.machine.specs.declared.Handle.{Handle}
 use Rattle.rules.specs.Tests.{_and_, pick, Rule, firstBroken, verdict}
-use Rattle.rules.specs.TestLaws.{clash, and-true, pick-either, verdict-yes, verdict-no, numbered, broken-then}
+use Rattle.rules.specs.TestLaws.{clash, is-off, and-true, pick-either, verdict-yes, verdict-no, numbered, broken-then, kept-then, broken-here}
 use Rattle.machine.specs.Machine.{State}
 use Rattle.machine.specs.Answers.{Answer, refused, frame, nowhere, Out, out}
-use Rattle.machine.specs.Rules.{wordOf}
-use Rattle.machine.specs.Calls.{decide, missOut, pinnedOut, payloadPlace, foundAnswer}
+use Rattle.machine.specs.Rules.{wordOf, rule13, rule14, rule15}
+use Rattle.machine.specs.Calls.{decide, missOut, pinnedOut, fixEntryRules, fixRules, fixCall, payloadPlace, foundAnswer}
 use Rattle.machine.specs.History.{accepted}
 use Rattle.machine.specs.Laws.RuleLaws.{decide-no}
 
@@ -93,6 +93,10 @@ pub granted-of : (s : State) (Facts : Type 0) (a o : Out) → Cases s Facts a o 
 granted-of s Facts a o (granted k q) e = (k, q)
 granted-of s Facts a o (denied n u q) e = absurd (clash (sym e ∙ ap (λ (x : Out). accepted (x .answer)) q))
 
+pub refused-of : (s : State) (Facts : Type 0) (a o : Out) → Cases s Facts a o → (Facts → ⊥) → accepted (o .answer) ≡ false
+refused-of s Facts a o (granted k q) n = absurd (n k)
+refused-of s Facts a o (denied m u q) n = ap (λ (x : Out). accepted (x .answer)) q
+
 -- an accepted answer is no refusal, and a refusal has one number
 pub no-refusal : (a o : Out) (n : ℕ) → o ≡ a → accepted (a .answer) ≡ true → o .answer ≡ refused n → ⊥
 no-refusal a o n q t e = clash (sym t ∙ ap (λ (x : Out). accepted (x .answer)) (sym q) ∙ ap accepted e)
@@ -140,6 +144,17 @@ module _ (s : State) (rules : List Rule) (a : Out) where
   unfolding decide
   same-by others e = ap (λ (n : ℕ). verdict n (λ m. out (refused m) s) a) e
 
+-- of the rules xs, one with the number n, and ys, n is answered exactly where xs are kept and that one is broken: no other has the number
+pub refuses-exactly : (s : State) (xs ys : List Rule) (n : ℕ) (t : Bool) (a : Out) → accepted (a .answer) ≡ true → n ≢ 0 → numbered xs ≡ true → lacks n xs ≡ true → lacks n ys ≡ true
+    → (decide s (xs ++ ((n, t) ∷ ys)) a .answer ≡ refused n) ↔ ((firstBroken xs ≡ 0) × (t ≡ false))
+refuses-exactly s xs ys n t a k z u lx ly = (
+  λ e. let b = broken-by s (xs ++ ((n, t) ∷ ys)) a k n e in elim (parts xs ((n, t) ∷ ys) u) [
+    | first m q ↦ absurd (lacking n xs lx z (sym q ∙ b))
+    | second m q ↦ (m, is-off t (λ on. lacking n ys ly z (sym (kept-then n ys on) ∙ sym q ∙ b)))
+  ],
+  λ p. answers-as (refused-by s (xs ++ ((n, t) ∷ ys)) a n z (kept-part xs ((n, t) ∷ ys) u (p .0) ∙ broken-here n ys (p .1))),
+)
+
 -- ---- find's answers: a refusal, a frame and 'absent' are apart; a frame has one index and one count, 'absent' one count
 
 pub refused-no-frame : {n f looks : ℕ} → refused n ≡ frame f looks → ⊥
@@ -171,3 +186,12 @@ module _ (s : State) where
 
   pub fix-accepted : (h : Handle) (k : ℕ) → let w = wordOf s h k in accepted (pick (isNumber w) (missOut s (h .frame .0) k w) (pinnedOut s (frameIn w)) .answer) ≡ true
   fix-accepted h k = let w = wordOf s h k in pick-either (λ (o : Out). accepted (o .answer) ≡ true) (isNumber w) _ _ (miss-accepted (h .frame .0) k w) refl
+
+  -- fix doesn't answer a number that its rules lack, whether the page is resident or not
+  pub fix-lacks : (h : Handle) (k n : ℕ) → n ≢ 0 → lacks n (fixEntryRules s h k ++ (rule14 s (wordOf s h k) ∷ rule15 s ∷ [])) ≡ true → lacks n (fixEntryRules s h k ++ (rule13 s (frameIn (wordOf s h k)) ∷ [])) ≡ true
+      → fixCall s h k .answer ≢ refused n
+  unfolding fixCall
+  fix-lacks h k n z a b =
+      let w = wordOf s h k in
+      never-by s (fixRules s h k) _ (fix-accepted h k) n z
+      (pick-either (λ (rs : List Rule). lacks n (fixEntryRules s h k ++ rs) ≡ true) (isNumber w) (rule14 s w ∷ rule15 s ∷ []) (rule13 s (frameIn w) ∷ []) a b)

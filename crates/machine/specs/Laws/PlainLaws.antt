@@ -3,7 +3,7 @@ use mathlib.Core.Path.{_≡_, sym, ap}
 use Prim.Native.Nat.{ℕ, _<_}
 use native.Mathlib.Omega.{arith}
 use Rattle.page.specs.Figures.{mostPages, wordRadix}
-use Rattle.page.specs.Word.{nameOf, Number, Swizzled, frameIn, frameWord, yes-number, no-number, name-renamed-number, renamed-same, renamed-lt}
+use Rattle.page.specs.Word.{isMarked, nameOf, Number, Swizzled, frameIn, frameWord, yes-number, no-number, name-renamed-number, mark-renamed-number, renamed-same, renamed-lt}
 use Rattle.rules.specs.Tests.{pick}
 use Rattle.machine.specs.Moves.{plain, imaged}
 
@@ -22,6 +22,10 @@ plain-swizzled page w h = rw (no-number w h)
 -- a word of an image names the page, where that is one, and nothing only where it named nothing
 pub name-imaged : (page : ℕ → ℕ) (w : ℕ) → plain page (nameOf w) < mostPages → (plain page (nameOf w) ≡ 0 → nameOf w ≡ 0) → nameOf (imaged page w) ≡ plain page (nameOf w)
 name-imaged page w h z = name-renamed-number w (plain page (nameOf w)) h z
+
+-- and keeps its mark
+pub mark-imaged : (page : ℕ → ℕ) (w : ℕ) → plain page (nameOf w) < mostPages → (plain page (nameOf w) ≡ 0 → nameOf w ≡ 0) → isMarked (imaged page w) ≡ isMarked w
+mark-imaged page w h z = mark-renamed-number w (plain page (nameOf w)) h z
 
 pub imaged-lt : (page : ℕ → ℕ) (w : ℕ) → plain page (nameOf w) < mostPages → imaged page w < wordRadix
 imaged-lt page w h = renamed-lt w (plain page (nameOf w)) (omega arith)

@@ -1,9 +1,9 @@
 -- What calls share. No broken rule, as a record of facts; rules that code tests in parts; and what a call answers and leaves, by the refusal's number. Assumes nothing.
 use Prim.Native.Nat.{ℕ, _<_}
 use mathlib.Core.Path.{_≡_, refl, sym, _∙_, ap}
-use mathlib.Core.Bool.{true}
+use mathlib.Core.Bool.{true, false, not}
 use mathlib.Core.List.{List, [], _∷_, _++_}
-use borrow.Author.Tests.{eqb-true, ltb-true}
+use borrow.Author.Tests.{eqb-true, ltb-true, not-true}
 use lib.Dec.{eqb, ltb}
 use Rattle.page.specs.declared.PageNumber.{PageNumber}
 use Rattle.page.specs.Figures.{slotCount}
@@ -14,8 +14,8 @@ use Rattle.rules.specs.TestLaws.{and-true, first-kept, pick-either, verdict-no,
 use Rattle.machine.specs.Machine.{State, isUsed, recordAt, pageIn, occupied}
 use Rattle.machine.specs.Laws.AgreementFacts.{make-occupied}
 use Rattle.machine.specs.Answers.{Answer, refused, done, Out, out, doneAnswer}
-use Rattle.machine.specs.Rules.{handleFits, rule3, rule4, rule6}
-use Rattle.machine.specs.Calls.{decide, poolRules, handleRules, wordRules, pageRules, showCall, peekCall, wordCall, findCall}
+use Rattle.machine.specs.Rules.{handleFits, locked, rule3, rule4, rule6, rule26}
+use Rattle.machine.specs.Calls.{decide, poolRules, handleRules, wordRules, editRules, pageRules, showCall, peekCall, wordCall, findCall}
 use Rattle.machine.specs.Laws.Ready.{Kept, rules-kept}
 
 -- ---- no rule is broken
@@ -48,6 +48,13 @@ pub record SlotKept (s : State) (h : Handle) (k : ℕ) : Type 0 where
   pub held : HandleHeld (s .pool) h
   pub slot : k < slotCount
 
+-- rule 26 too: the page isn't locked
+pub record EditKept (s : State) (h : Handle) (k : ℕ) : Type 0 where
+  pub kept : Kept s
+  pub held : HandleHeld (s .pool) h
+  pub slot : k < slotCount
+  pub free : locked s (h .frame .0) ≡ false
+
 pub record PageKept (s : State) (q : PageNumber) : Type 0 where
   pub kept : Kept s
   pub below : q .0 < s .pool .pages
@@ -64,6 +71,10 @@ slot-numbered : (s : State) (h : Handle) (k : ℕ) → numbered (wordRules s h k
 unfolding numbered _and_
 slot-numbered s h k = refl
 
+edit-numbered : (s : State) (h : Handle) (k : ℕ) → numbered (editRules s h k) ≡ true
+unfolding numbered _and_
+edit-numbered s h k = refl
+
 page-numbered : (s : State) (q : PageNumber) → numbered (pageRules s q) ≡ true
 unfolding numbered _and_
 page-numbered s q = refl
@@ -79,6 +90,15 @@ slot-kept s h k e =
     let b = handle-kept s h (a .0) in
     record { kept = b .kept; held = b .held; slot = ltb-true k slotCount (first-kept 3 (ltb k slotCount) [] (a .1) .0) }
 
+pub not-locked : (s : State) (h : Handle) (rest : List Rule) → firstBroken (rule26 s h ∷ rest) ≡ 0 → (locked s (h .frame .0) ≡ false) × (firstBroken rest ≡ 0)
+not-locked s h rest e = let a = first-kept 25 (not (locked s (h .frame .0))) rest e in (not-true _ (a .0), a .1)
+
+pub edit-kept : (s : State) (h : Handle) (k : ℕ) → firstBroken (editRules s h k) ≡ 0 → EditKept s h k
+edit-kept s h k e =
+    let a = parts-kept (wordRules s h k) (rule26 s h ∷ []) (slot-numbered s h k) e in
+    let b = slot-kept s h k (a .0) in
+    record { kept = b .kept; held = b .held; slot = b .slot; free = not-locked s h [] (a .1) .0 }
+
 pub page-kept : (s : State) (q : PageNumber) → firstBroken (pageRules s q) ≡ 0 → PageKept s q
 page-kept s q e =
     let a = parts-kept (poolRules s) (rule6 s (q .0) ∷ []) (pool-numbered s) e in
@@ -93,7 +113,7 @@ stops xs ys t e h = verdict-no (λ k. k) (firstBroken ys) e h ∙ broken-then xs
 passes : (xs ys : List Rule) {n m : ℕ} → numbered xs ≡ true → n ≡ firstBroken xs → n ≡ 0 → m ≡ firstBroken ys → m ≡ firstBroken (xs ++ ys)
 passes xs ys t e h i = verdict-yes (λ k. k) e h i ∙ broken-then xs ys t
 
--- the rules ys after those of the pool; of a handle; of a handle and a slot; of a page number: where the first part refuses, where it passes, and where neither is broken
+-- the rules ys after those of the pool; of a handle; of a handle and a slot; of a change there; of a page number: where the first part refuses, where it passes, and where neither is broken
 module _ (s : State) (ys : List Rule) {n : ℕ} where
   pub pool-stops : n ≡ firstBroken (poolRules s) → (n ≡ 0 → ⊥) → n ≡ firstBroken (poolRules s ++ ys)
   pool-stops = stops (poolRules s) ys (pool-numbered s)
@@ -120,6 +140,16 @@ module _ (s : State) (h : Handle) (k : ℕ) (ys : List Rule) {n : ℕ} where
 
 pub slot-parts : (s : State) (h : Handle) (k : ℕ) (ys : List Rule) → firstBroken (wordRules s h k ++ ys) ≡ 0 → SlotKept s h k × (firstBroken ys ≡ 0)
 slot-parts s h k ys e = let a = parts-kept (wordRules s h k) ys (slot-numbered s h k) e in (slot-kept s h k (a .0), a .1)
+
+module _ (s : State) (h : Handle) (k : ℕ) (ys : List Rule) {n : ℕ} where
+  pub edit-stops : n ≡ firstBroken (editRules s h k) → (n ≡ 0 → ⊥) → n ≡ firstBroken (editRules s h k ++ ys)
+  edit-stops = stops (editRules s h k) ys (edit-numbered s h k)
+
+  pub edit-passes : {m : ℕ} → n ≡ firstBroken (editRules s h k) → n ≡ 0 → m ≡ firstBroken ys → m ≡ firstBroken (editRules s h k ++ ys)
+  edit-passes = passes (editRules s h k) ys (edit-numbered s h k)
+
+pub edit-parts : (s : State) (h : Handle) (k : ℕ) (ys : List Rule) → firstBroken (editRules s h k ++ ys) ≡ 0 → EditKept s h k × (firstBroken ys ≡ 0)
+edit-parts s h k ys e = let a = parts-kept (editRules s h k) ys (edit-numbered s h k) e in (edit-kept s h k (a .0), a .1)
 
 module _ (s : State) (q : PageNumber) (ys : List Rule) {n : ℕ} where
   pub page-stops : n ≡ firstBroken (pageRules s q) → (n ≡ 0 → ⊥) → n ≡ firstBroken (pageRules s q ++ ys)

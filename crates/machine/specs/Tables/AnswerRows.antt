@@ -1,6 +1,6 @@
 -- Answers in code, and what show, peek, word and find give.
 use mathlib.Core.Path.{_≡_, refl}
-use mathlib.Core.Bool.{true}
+use mathlib.Core.Bool.{true, false}
 use mathlib.Core.List.{List, [], _∷_}
 use lib.ListN.{replicate}
 use Rattle.machine.specs.declared.FixAnswer.the-variants.{Fixed, Refused}
@@ -31,7 +31,8 @@ answerTable =
     -- "Where an answer is an enum, a definition gives this paper's number and values for each of its cases."
     answers (fixAnswer (Fixed (handleOf 3 4) 16)) (handle 3 4 16)
     ∷ answers (fixAnswer (Refused 15)) (refused 15)
-    ∷ answers (wordAnswer (Names (pageNumber 7))) (number 7)
+    ∷ answers (wordAnswer (Names (pageNumber 7) false)) (number 7 false)
+    ∷ answers (wordAnswer (Names (pageNumber 7) true)) (number 7 true)
     ∷ answers (wordAnswer (RefusedWord 4)) (refused 4)
     ∷ answers (findAnswer (At (frameIndex 3) 9)) (frame 3 9)
     ∷ answers (findAnswer (Absent 8)) (nowhere 8)
@@ -49,9 +50,9 @@ answerTable =
     ∷ hands (handed (showCall two (handleOf 1 2) .answer)) (5, 1000) [] 3
     ∷ hands (handed (peekCall two (pageNumber 3) .answer)) (5, 1000) [] 6
     -- "Word gives the page number in a slot, swizzled or not." "Find, by page number, gives the frame or 'absent'." They change nothing.
-    ∷ leaves (wordCall two (handleOf 0 0) 0) (number 1) two
-    ∷ leaves (wordCall two (handleOf 0 0) 1) (number 2) two
-    ∷ leaves (wordCall two (handleOf 0 0) 2) (number 0) two
+    ∷ leaves (wordCall two (handleOf 0 0) 0) (number 1 false) two
+    ∷ leaves (wordCall two (handleOf 0 0) 1) (number 2 false) two
+    ∷ leaves (wordCall two (handleOf 0 0) 2) (number 0 false) two
     -- Request A.2: "Its answer gains the frames looked at: that frame's index plus 1, or F if absent." In the last frame and absent, both are F.
     ∷ leaves (findCall two (pageNumber 0)) (frame 0 1) two
     ∷ leaves (findCall two (pageNumber 1)) (frame 1 2) two

@@ -50,13 +50,13 @@ table =
     is (reading (wordAt (3 ∷ 0 ∷ 0 ∷ 0x80 ∷ []) 0)) (1 ∷ 3 ∷ [])
     ∷ is (reading (wordAt (7 ∷ 0 ∷ 0 ∷ 0 ∷ []) 0)) (0 ∷ 7 ∷ [])
     -- "Word 0x80000001, frame 1 holding page 7: the image's word is 0x00000007."
-    ∷ is (slot (sevenInOne .frames) 0 6 ∷ slot (imageOf (sevenInOne .pool .records) (sevenInOne .frames) 0) 0 6 ∷ numbers (wordCall sevenInOne rootHandle 6 .answer)) (0x80000001 ∷ 7 ∷ 0 ∷ 7 ∷ [])
+    ∷ is (slot (sevenInOne .frames) 0 6 ∷ slot (imageOf (sevenInOne .pool .records) (sevenInOne .frames) 0) 0 6 ∷ numbers (wordCall sevenInOne rootHandle 6 .answer)) (0x80000001 ∷ 7 ∷ 0 ∷ 7 ∷ 0 ∷ [])
     -- "Write at 192, length 0: accepted. At 191, length 1: accepted. At 192, length 1: 5."
     ∷ is (numbers (writeCall (small 1) rootHandle 192 [] .answer)) (0 ∷ [])
     ∷ is (numbers (writeCall (small 1) rootHandle 191 (0 ∷ []) .answer)) (0 ∷ [])
     ∷ is (numbers (writeCall (small 1) rootHandle 192 (0 ∷ []) .answer)) (5 ∷ [])
     -- "Slot 15 passes, 16 gives 4."
-    ∷ is (numbers (wordCall (small 1) rootHandle 15 .answer) ++ numbers (wordCall (small 1) rootHandle 16 .answer)) (0 ∷ 0 ∷ 4 ∷ [])
+    ∷ is (numbers (wordCall (small 1) rootHandle 15 .answer) ++ numbers (wordCall (small 1) rootHandle 16 .answer)) (0 ∷ 0 ∷ 0 ∷ 4 ∷ [])
     -- "Pins 65,534 can rise, 65,535 give 13."
     ∷ is (numbers (rootCall (small 65534) .answer) ++ numbers (rootCall (small 65535) .answer)) (0 ∷ 0 ∷ 0 ∷ 0 ∷ 13 ∷ [])
     -- "F 4, full, hand 0, frames 1 to 3 open to eviction with heats 1, 0, 2: frame 2 goes after 3 looks; hand 3." "The same from hand 3: frame 2 after 4 looks; hand 3."

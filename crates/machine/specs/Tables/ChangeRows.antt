@@ -1,6 +1,6 @@
 -- Write, link and unlink: records and bytes.
 use mathlib.Core.Path.{_≡_, refl}
-use mathlib.Core.Bool.{true}
+use mathlib.Core.Bool.{true, false}
 use mathlib.Core.List.{List, [], _∷_, _++_}
 use Prim.Native.Nat.{ℕ}
 use lib.ListN.{replicate}
@@ -22,7 +22,7 @@ changeTable =
     ∷ leaves (writeCall (withOne (resident 1 2 1) (page [] 11)) (handleOf 1 1) 0 (7 ∷ [])) done (withOne (changed 1 2 1) (replicate 64 0 ++ (7 ∷ []) ++ replicate 191 11))
     ∷ leaves (writeCall (withOne (resident 1 2 1) (page [] 11)) (handleOf 1 1) 5 (7 ∷ 8 ∷ [])) done (withOne (changed 1 2 1) (replicate 64 0 ++ replicate 5 11 ++ (7 ∷ 8 ∷ []) ++ replicate 185 11))
     -- "Link stores an unswizzled page number in an empty slot; unlink clears one. Both set dirty."
-    ∷ leaves (linkCall (withOne (resident 1 1 3) (page [] 11)) (handleOf 1 1) 2 (pageNumber 2)) done (withOne (changed 1 1 3) (page (nothing ∷ nothing ∷ names 2 ∷ []) 11))
+    ∷ leaves (linkCall (withOne (resident 1 1 3) (page [] 11)) (handleOf 1 1) 2 (pageNumber 2) false) done (withOne (changed 1 1 3) (page (nothing ∷ nothing ∷ names 2 ∷ []) 11))
     ∷ leaves (unlinkCall (withOne (resident 1 1 3) (page (nothing ∷ nothing ∷ names 2 ∷ []) 11)) (handleOf 1 1) 2) done (withOne (changed 1 1 3) (page [] 11))
     ∷ []
 

@@ -1,6 +1,6 @@
--- "Numbered denials, in checking order", but that link tests 9 before 8 (request A.9): where one input breaks two rules of a call, the first is answered, and nothing changes. 20 to 22 of evict stand in EvictRows.
+-- "Numbered denials, in checking order", but that link tests 9 before 8 (request A.9): where one input breaks two rules of a call, the first is answered, and nothing changes. 20 to 22 of evict stand in EvictRows, 26 in LockRows (request A.8).
 use mathlib.Core.Path.{_≡_, refl}
-use mathlib.Core.Bool.{true}
+use mathlib.Core.Bool.{true, false}
 use mathlib.Core.List.{List, [], _∷_, _++_}
 use Prim.Native.Nat.{ℕ}
 use lib.ListN.{drop, replicate}
@@ -53,7 +53,7 @@ ordered =
     ∷ refuses (λ s. peekCall s (pageNumber 0)) short 1
     ∷ refuses (λ s. wordCall s (handleOf 0 0) 0) short 1
     ∷ refuses (λ s. writeCall s (handleOf 0 0) 0 []) short 1
-    ∷ refuses (λ s. linkCall s (handleOf 0 0) 2 (pageNumber 1)) short 1
+    ∷ refuses (λ s. linkCall s (handleOf 0 0) 2 (pageNumber 1) false) short 1
     ∷ refuses (λ s. unlinkCall s (handleOf 0 0) 1) short 1
     ∷ refuses (λ s. evictCall s (pageNumber 1)) short 1
     ∷ refuses settleCall short 1
@@ -66,7 +66,7 @@ ordered =
     ∷ refuses (λ s. showCall s (handleOf 2 0)) astray 2
     ∷ refuses (λ s. wordCall s (handleOf 2 0) 0) astray 2
     ∷ refuses (λ s. writeCall s (handleOf 2 0) 0 []) astray 2
-    ∷ refuses (λ s. linkCall s (handleOf 2 0) 2 (pageNumber 1)) astray 2
+    ∷ refuses (λ s. linkCall s (handleOf 2 0) 2 (pageNumber 1) false) astray 2
     ∷ refuses (λ s. unlinkCall s (handleOf 2 0) 1) astray 2
     -- 2 and 6; evict: 2 and 20
     ∷ refuses (λ s. peekCall s (pageNumber 3)) astray 2
@@ -80,7 +80,7 @@ ordered-after =
     -- 3 and 4
     refuses (λ s. fixCall s (handleOf 1 2) 16) sane 3
     ∷ refuses (λ s. wordCall s (handleOf 1 2) 16) sane 3
-    ∷ refuses (λ s. linkCall s (handleOf 1 2) 16 (pageNumber 1)) sane 3
+    ∷ refuses (λ s. linkCall s (handleOf 1 2) 16 (pageNumber 1) false) sane 3
     ∷ refuses (λ s. unlinkCall s (handleOf 1 2) 16) sane 3
     -- write: 3 and 5
     ∷ refuses (λ s. writeCall s (handleOf 1 2) 193 []) sane 3
@@ -93,17 +93,17 @@ ordered-after =
     ∷ refuses (λ s. fixCall s (handleOf 0 0) 2) stale 7
     ∷ refuses (λ s. fixCall s (handleOf 0 0) 1) stale 14
     -- link: 4 and 6; 6 and 9: a stored page names page N, and the word of an empty slot is 0; 6 and 8
-    ∷ refuses (λ s. linkCall s (handleOf 0 0) 16 (pageNumber 3)) sane 4
-    ∷ refuses (λ s. linkCall s (handleOf 0 0) 2 (pageNumber 5)) unreached 6
-    ∷ refuses (λ s. linkCall s (handleOf 0 0) 2 (pageNumber 0)) sane 6
-    ∷ refuses (λ s. linkCall s (handleOf 0 0) 0 (pageNumber 3)) sane 6
-    ∷ refuses (λ s. linkCall s (handleOf 0 0) 0 (pageNumber 0)) sane 6
+    ∷ refuses (λ s. linkCall s (handleOf 0 0) 16 (pageNumber 3) false) sane 4
+    ∷ refuses (λ s. linkCall s (handleOf 0 0) 2 (pageNumber 5) false) unreached 6
+    ∷ refuses (λ s. linkCall s (handleOf 0 0) 2 (pageNumber 0) false) sane 6
+    ∷ refuses (λ s. linkCall s (handleOf 0 0) 0 (pageNumber 3) false) sane 6
+    ∷ refuses (λ s. linkCall s (handleOf 0 0) 0 (pageNumber 0) false) sane 6
     -- 9 and 8 (request A.9: "Test 9 before 8."): the page is named in another slot, in that very slot, as a number and swizzled, and by a page out of reach; one that isn't named is 8
-    ∷ refuses (λ s. linkCall s (handleOf 0 0) 0 (pageNumber 2)) sane 9
-    ∷ refuses (λ s. linkCall s (handleOf 0 0) 1 (pageNumber 2)) sane 9
-    ∷ refuses (λ s. linkCall s (handleOf 0 0) 0 (pageNumber 1)) sane 9
-    ∷ refuses (λ s. linkCall s (handleOf 0 0) 0 (pageNumber 4)) unreached 9
-    ∷ refuses (λ s. linkCall s (handleOf 0 0) 0 (pageNumber 3)) unreached 8
+    ∷ refuses (λ s. linkCall s (handleOf 0 0) 0 (pageNumber 2) false) sane 9
+    ∷ refuses (λ s. linkCall s (handleOf 0 0) 1 (pageNumber 2) false) sane 9
+    ∷ refuses (λ s. linkCall s (handleOf 0 0) 0 (pageNumber 1) false) sane 9
+    ∷ refuses (λ s. linkCall s (handleOf 0 0) 0 (pageNumber 4) false) unreached 9
+    ∷ refuses (λ s. linkCall s (handleOf 0 0) 0 (pageNumber 3) false) unreached 8
     -- evict: 6 and 11
     ∷ refuses (λ s. evictCall s (pageNumber 3)) sane 6
     ∷ []

@@ -4,7 +4,7 @@ use mathlib.Core.List.{List, [], _∷_, _++_, map, foldr}
 use Prim.Native.Nat.{ℕ, _-_, _*_}
 use lib.Dec.{eqb}
 use lib.ListN.{length, replicate}
-use Rattle.page.specs.Word.{wordAt, putWord, nameOf, renamed, givesPage}
+use Rattle.page.specs.Word.{wordAt, putWord, isMarked, nameOf, marked, givesPage}
 use Rattle.page.specs.Page.{slot, putSlot, pageOf, putPage, putPayload, bytesFrom}
 use Rattle.machine.specs.declared.FrameRecord.{FrameRecord}
 use Rattle.machine.specs.declared.Handle.{Handle}
@@ -17,7 +17,7 @@ use Rattle.machine.specs.Moves.{plain, imageTo, writtenOutBy, writtenOut
 use Rattle.machine.specs.Sweep.{after, emptyFrom, childless, standing, lookLeaves, lookTakes, sweepFrom}
 use Rattle.machine.specs.Naming.{currentWord, named, namedByResident, repeated, wordLoadable, loadable}
 use Rattle.machine.specs.Answers.{Answer, refused, done, handle, payload, inFrames, inStore, number, frame, nowhere, doneAnswer, cut, Shown, Out}
-use Rattle.machine.specs.Rules.{lengthsFit, handleFits, rangeFits}
+use Rattle.machine.specs.Rules.{lengthsFit, handleFits, rangeFits, locked}
 use Rattle.machine.specs.Calls.{decide, openCall, rootCall, fixCall, missOut, unfixCall, showCall, payloadPlace, peekCall, wordCall, writeCall, linkCall, unlinkCall, evictCall, settleCall, foundAnswer, findCall}
 
 abbrev pub joined : List (List ℕ) → List ℕ
@@ -44,12 +44,18 @@ resident p pins usage = child 0 (p - 1) p pins usage
 abbrev pub changed : ℕ → ℕ → ℕ → FrameRecord
 changed p pins usage = made 1 1 usage (p - 1) 0 pins p
 
--- a word: a page number below 256, a frame index with bit 31, or nothing
+-- a word: a page number below 256, a frame index with bit 31, or nothing; the two with a mark
 abbrev pub names : ℕ → List ℕ
 names p = p ∷ 0 ∷ 0 ∷ 0 ∷ []
 
 abbrev pub swizzledTo : ℕ → List ℕ
 swizzledTo f = f ∷ 0 ∷ 0 ∷ 0x80 ∷ []
+
+abbrev pub locksPage : ℕ → List ℕ
+locksPage p = p ∷ 0 ∷ 0 ∷ 0x40 ∷ []
+
+abbrev pub locksFrame : ℕ → List ℕ
+locksFrame f = f ∷ 0 ∷ 0 ∷ 0xC0 ∷ []
 
 abbrev pub nothing : List ℕ
 nothing = names 0
@@ -69,13 +75,17 @@ handleOf f p = record { frame = frameIndex f; page = pageNumber p }
 
 -- ---- as numbers
 
+abbrev pub flag : Bool → ℕ
+flag false = 0
+flag true = 1
+
 -- an answer by document 01's numbers: 0 or the refusal, then the values
 abbrev pub numbers : Answer → List ℕ
 numbers (refused n) = n ∷ []
 numbers done = 0 ∷ []
 numbers (handle f p looks) = 0 ∷ f ∷ p ∷ looks ∷ []
 numbers (payload b a n) = 0 ∷ a ∷ n ∷ []
-numbers (number p) = 0 ∷ p ∷ []
+numbers (number p l) = 0 ∷ p ∷ flag l ∷ []
 numbers (frame f looks) = 0 ∷ f ∷ looks ∷ []
 numbers (nowhere looks) = 0 ∷ looks ∷ []
 
@@ -86,16 +96,12 @@ which done = 1
 which (handle f p looks) = 2
 which (payload inFrames a n) = 3
 which (payload inStore a n) = 4
-which (number p) = 5
+which (number p l) = 5
 which (frame f looks) = 6
 which (nowhere looks) = 7
 
 abbrev fields : FrameRecord → List ℕ
 fields r = r .used ∷ r .dirty ∷ r .usage ∷ r .slot ∷ r .parent .0 ∷ r .pins ∷ r .page .0 ∷ []
-
-abbrev flag : Bool → ℕ
-flag false = 0
-flag true = 1
 
 -- a place's fields: the refusal, whether it is in the store, start and size
 abbrev pub placed : Place → List ℕ
@@ -142,6 +148,6 @@ sameNumbers (x ∷ xs) (y ∷ ys) = eqb x y && sameNumbers xs ys
 
 -- every row gives what document 01 says. To unfold it unfolds the definitions that the rows are computed by.
 unfoldable pub allHold : List Case → Bool
-unfolding sameNumbers openCall rootCall fixCall missOut unfixCall showCall payloadPlace peekCall wordCall writeCall linkCall unlinkCall evictCall settleCall foundAnswer findCall decide verdict firstBroken pick _and_ _or_ _⇒_ every some lengthsFit handleFits rangeFits agree rootInPlace pagesApart handInRange allInRange fieldsInRange emptyBlank isBlank parentsName pointsBack swizzledPointBack absent numbersAbsent givesPage numbersOnce reachesRoot allReachRoot sound wordsBelow wordsOnce zeroPool openedPool occupied foundFrom nameOf renamed slot wordAt putSlot putWord pageOf putPage putPayload bytesFrom plain imageTo writtenOutBy writtenOutTo cleanedTo settled evicted loaded after emptyFrom childless standing lookLeaves lookTakes sweepFrom currentWord named namedByResident repeated wordLoadable loadable doneAnswer cut
+unfolding sameNumbers openCall rootCall fixCall missOut unfixCall showCall payloadPlace peekCall wordCall writeCall linkCall unlinkCall evictCall settleCall foundAnswer findCall decide verdict firstBroken pick _and_ _or_ _⇒_ every some lengthsFit handleFits rangeFits locked agree rootInPlace pagesApart handInRange allInRange fieldsInRange emptyBlank isBlank parentsName pointsBack swizzledPointBack absent numbersAbsent givesPage numbersOnce reachesRoot allReachRoot sound wordsBelow wordsOnce zeroPool openedPool occupied foundFrom isMarked nameOf marked slot wordAt putSlot putWord pageOf putPage putPayload bytesFrom plain imageTo writtenOutBy writtenOutTo cleanedTo settled evicted loaded after emptyFrom childless standing lookLeaves lookTakes sweepFrom currentWord named namedByResident repeated wordLoadable loadable doneAnswer cut
 allHold [] = true
 allHold (c ∷ cs) = sameNumbers (c .gives) (c .says) && allHold cs

@@ -1,6 +1,6 @@
 -- "Numbered denials": for rules that a call can break in several ways, each way.
 use mathlib.Core.Path.{_≡_, refl}
-use mathlib.Core.Bool.{true}
+use mathlib.Core.Bool.{true, false}
 use mathlib.Core.List.{List, [], _∷_}
 use Prim.Native.Nat.{ℕ}
 use lib.ListN.{replicate}
@@ -44,13 +44,13 @@ ruleTable =
 pub naming : List Case
 naming =
     -- 8. "Link meets a word that isn't 0." With 9 before it (request A.9), for a page that isn't named.
-    refuses (λ s. linkCall s (handleOf 0 0) 0 (pageNumber 3)) (three 1 [] [] []) 8
-    ∷ refuses (λ s. linkCall s (handleOf 0 0) 1 (pageNumber 3)) (three 1 [] (names 3 ∷ []) []) 8
+    refuses (λ s. linkCall s (handleOf 0 0) 0 (pageNumber 3) false) (three 1 [] [] []) 8
+    ∷ refuses (λ s. linkCall s (handleOf 0 0) 1 (pageNumber 3) false) (three 1 [] (names 3 ∷ []) []) 8
     -- 9. "Link's page is already named by a word of any page, resident pages taken by their images and the others from the store."
-    ∷ refuses (λ s. linkCall s (handleOf 1 1) 0 (pageNumber 1)) (three 1 [] [] []) 9
-    ∷ refuses (λ s. linkCall s (handleOf 1 1) 0 (pageNumber 2)) (three 1 [] [] []) 9
-    ∷ refuses (λ s. linkCall s (handleOf 1 1) 0 (pageNumber 3)) (three 1 [] [] (names 3 ∷ [])) 9
-    ∷ leaves (linkCall (three 1 [] (names 3 ∷ []) []) (handleOf 0 0) 2 (pageNumber 3)) done
+    ∷ refuses (λ s. linkCall s (handleOf 1 1) 0 (pageNumber 1) false) (three 1 [] [] []) 9
+    ∷ refuses (λ s. linkCall s (handleOf 1 1) 0 (pageNumber 2) false) (three 1 [] [] []) 9
+    ∷ refuses (λ s. linkCall s (handleOf 1 1) 0 (pageNumber 3) false) (three 1 [] [] (names 3 ∷ [])) 9
+    ∷ leaves (linkCall (three 1 [] (names 3 ∷ []) []) (handleOf 0 0) 2 (pageNumber 3) false) done
     (machine 0 ((changed 0 1 0, page (swizzledTo 1 ∷ names 2 ∷ names 3 ∷ []) 10) ∷ (resident 1 1 0, page [] 11) ∷ (empty, page [] 12) ∷ [])
     (page (names 3 ∷ []) 20 ∷ page [] 21 ∷ page [] 22 ∷ page [] 23 ∷ page [] 24 ∷ []))
     -- 14. "The stored page to be loaded has a word with bit 31 set, not below N, repeated within it, or naming a page that a resident page already names."

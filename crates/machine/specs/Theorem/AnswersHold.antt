@@ -1,14 +1,14 @@
 -- What demand 3 says of the answers of show, peek and word, from the invariant. Assumes nothing.
 use Prim.Native.Nat.{ℕ, _+_, _*_, _<_, _≤_}
 use mathlib.Core.Path.{_≡_, refl, sym, _∙_, ap}
-use mathlib.Core.Bool.{true}
+use mathlib.Core.Bool.{Bool, true}
 use mathlib.Core.List.{List}
 use native.Mathlib.Omega.{arith}
 use borrow.Author.Tests.{lt-ltb, le-ltb}
 use lib.ListN.{length, take, drop, getD, length-take, length-drop}
 use lib.Seq.{getD-take, getD-drop, ext-getD}
 use Rattle.page.specs.Figures.{pageSize, payloadStart, payloadSize}
-use Rattle.page.specs.Page.{name, byte, bytesFrom, payloadAt, payloadOf}
+use Rattle.page.specs.Page.{name, lock, byte, bytesFrom, payloadAt, payloadOf}
 use Rattle.machine.specs.declared.Handle.{Handle}
 use Rattle.rules.specs.Tests.{pick}
 use Rattle.machine.specs.Machine.{pageNumber, found}
@@ -23,7 +23,7 @@ use Rattle.machine.specs.Theorem.Holders.{Holder, place, held, unheld, f
 use Rattle.machine.specs.Theorem.CallCases.{handle-case, word-case, peek-case}
 use Rattle.machine.specs.Theorem.FixCases.{pins, fills, sweeps, refuses, fix-case}
 use Rattle.machine.specs.Theorem.Residence.{resident-of, holder, not-resident}
-use Rattle.machine.specs.Theorem.Reads.{held-word, held-byte, unheld-byte}
+use Rattle.machine.specs.Theorem.Reads.{held-word, held-mark, held-byte, unheld-byte}
 
 -- two pages with equal payload bytes have one payload
 payload-same : (b c : List ℕ) (f p n m : ℕ) → length b ≡ pageSize * n → f < n → length c ≡ pageSize * m → p < m
@@ -37,6 +37,10 @@ payload-same b c f p n m lb hf lc hp e =
     getD-take 192 (drop (256 * f + 64) b) i 0 hi2 ∙ getD-drop (256 * f + 64) b i 0 ∙ ap (λ (j : ℕ). getD b j 0) (omega arith)
     ∙ e (64 + i) (omega arith) (omega arith)
     ∙ sym (getD-take 192 (drop (256 * p + 64) c) i 0 hi2 ∙ getD-drop (256 * p + 64) c i 0 ∙ ap (λ (j : ℕ). getD c j 0) (omega arith)))
+
+-- one name and one mark are one answer of word
+one-word : {p q : ℕ} {l m : Bool} → p ≡ q → l ≡ m → number p l ≡ number q m
+one-word a b = rw (a, b)
 
 abbrev answerOf : Out → Answer
 answerOf o = o .answer
@@ -91,10 +95,11 @@ module _ (x : Point) (I : Invariant x) where
       rw (r .1) (place-gives p fs st (r .0))
 
   -- ---- words
-  pub word-gives : (h : Handle) (k : ℕ) → accepted (wordCall (x .now) h k .answer) ≡ true → wordCall (x .now) h k .answer ≡ number (name (x .map) (h .page .0) k)
+  pub word-gives : (h : Handle) (k : ℕ) → accepted (wordCall (x .now) h k .answer) ≡ true → wordCall (x .now) h k .answer ≡ number (name (x .map) (h .page .0) k) (lock (x .map) (h .page .0) k)
   word-gives h k t =
       let r = granted-of _ _ _ _ (word-case x I h k) t in
-      ap answerOf (r .1) ∙ ap number (held-word x I (h .page .0) (h .frame .0) k (record { at = r .0 .handle .at; page = r .0 .handle .page }) (r .0 .inPage))
+      let o : Holder (view (x .now)) (h .page .0) (h .frame .0) = record { at = r .0 .handle .at; page = r .0 .handle .page } in
+      ap answerOf (r .1) ∙ one-word (held-word x I (h .page .0) (h .frame .0) k o (r .0 .inPage)) (held-mark x I (h .page .0) (h .frame .0) k o (r .0 .inPage))
 
   -- ---- refusals
   pub fix-usual : (h : Handle) (k n : ℕ) → fixCall (x .now) h k .answer ≡ refused n → Usual n

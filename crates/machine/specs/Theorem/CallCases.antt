@@ -2,7 +2,7 @@
 use Prim.Native.Nat.{ℕ, _+_, _-_, _/_, _<_, _≤_}
 use mathlib.Core.Path.{_≡_, refl}
 use mathlib.Core.Logic.{_≢_}
-use mathlib.Core.Bool.{true, not}
+use mathlib.Core.Bool.{Bool, true, false, not}
 use mathlib.Core.List.{List, [], _∷_}
 use native.Mathlib.Omega.{arith}
 use borrow.Author.Tests.{eqb-true, eqb-false, ltb-true, leb-true, not-true}
@@ -10,7 +10,7 @@ use lib.Dec.{eqb, ltb, leb}
 use lib.ListN.{length}
 use Rattle.page.specs.declared.PageNumber.{PageNumber}
 use Rattle.page.specs.Figures.{pageSize, slotCount, payloadSize, maxPins}
-use Rattle.page.specs.Word.{numberWord, Number, number-yes}
+use Rattle.page.specs.Word.{marked, numberWord, Number, number-yes}
 use Rattle.page.specs.Page.{name}
 use Rattle.machine.specs.declared.Handle.{Handle}
 use Rattle.rules.specs.Tests.{_and_, Rule, firstBroken}
@@ -19,12 +19,13 @@ use Rattle.machine.specs.Machine.{State, state, zeroPool, pageIn, found,
 use Rattle.machine.specs.Moves.{plain, settled, evicted}
 use Rattle.machine.specs.Naming.{named}
 use Rattle.machine.specs.Soundness.{sound}
-use Rattle.machine.specs.Rules.{handleFits, rangeFits, wordOf, rule1, rule2, rule3, rule4, rule5, rule6, rule6-link, rule7, rule8, rule9, rule10, rule11, rule13, rule16}
+use Rattle.machine.specs.Rules.{handleFits, rangeFits, wordOf, markOf, locked, rule1, rule2, rule3, rule4, rule5, rule6, rule6-link, rule7, rule8, rule9, rule10, rule11, rule13, rule16, rule26}
 use Rattle.machine.specs.Answers.{done, number, Out, out}
 use Rattle.machine.specs.Calls.{decide, changeRecord, openRules, opened, openCall, pinnedOut, rootCall, unfixCall, payloadPlace, peekCall, wordCall, written, writeCall, relinked, linkCall, unlinkCall, stayRules, evictCall, settleCall, foundAnswer, findCall}
 use Rattle.machine.specs.Theorem.View.{view}
 use Rattle.machine.specs.History.{Point}
 use Rattle.machine.specs.Theorem.Invariant.{Invariant}
+use Rattle.machine.specs.Laws.RuleLaws.{not-locked}
 use Rattle.machine.specs.Laws.Outcomes.{Outcome, outcome, usual, Cases, cases, lacks}
 use Rattle.machine.specs.Theorem.Holders.{Holder, holder-found}
 use Rattle.machine.specs.Theorem.TestReads.{Handled, handled, Open, open-kept}
@@ -43,19 +44,24 @@ pub record AtName (s : State) (h : Handle) (k : ℕ) : Type 0 where
   pub inPage : k < slotCount
   pub filled : wordOf s h k ≢ 0
 
+-- a page that isn't locked
 pub record MayWrite (s : State) (h : Handle) (offset n : ℕ) : Type 0 where
   pub handle : Handled s h
+  pub free : locked s (h .frame .0) ≡ false
   pub fits : offset + n ≤ payloadSize
 
 pub record MayLink (x : Point) (h : Handle) (k q : ℕ) : Type 0 where
   pub handle : Handled (x .now) h
+  pub free : locked (x .now) (h .frame .0) ≡ false
   pub inPage : k < slotCount
   pub vacant : wordOf (x .now) h k ≡ 0
+  pub some : q ≢ 0
   pub below : q < x .now .pool .pages
   pub fresh : (p j : ℕ) → p < x .now .pool .pages → j < slotCount → name (x .map) p j ≢ q
 
 pub record MayUnlink (s : State) (h : Handle) (k : ℕ) : Type 0 where
   pub handle : Handled s h
+  pub free : locked s (h .frame .0) ≡ false
   pub inPage : k < slotCount
   pub number : Number (wordOf s h k)
 
@@ -80,6 +86,12 @@ module _ (s : State) where
       let a = handle-rules h (rule4 k ∷ rs) e in
       let b = first-kept 3 (ltb k slotCount) rs (a .1) in
       (record { handle = a .0; inPage = ltb-true k slotCount (b .0) }, b .1)
+
+  edit-rules : (h : Handle) (k : ℕ) (rs : List Rule) → firstBroken (rule3 s h ∷ rule4 k ∷ rule26 s h ∷ rs) ≡ 0 → AtSlot s h k × (locked s (h .frame .0) ≡ false) × (firstBroken rs ≡ 0)
+  edit-rules h k rs e =
+      let a = slot-rules h k (rule26 s h ∷ rs) e in
+      let b = not-locked s h rs (a .1) in
+      (a .0, b .0, b .1)
 
   pub name-rules : (h : Handle) (k : ℕ) (rs : List Rule) → firstBroken (rule3 s h ∷ rule4 k ∷ rule7 (wordOf s h k) ∷ rs) ≡ 0 → AtName s h k × (firstBroken rs ≡ 0)
   name-rules h k rs e =
@@ -110,15 +122,16 @@ module _ (x : Point) (I : Invariant x) where
   unfolding unfixCall
   unfix-case h = handle-case h _
 
-  pub word-case : (h : Handle) (k : ℕ) → Cases (x .now) (AtSlot (x .now) h k) (out (number (plain (pageIn (x .now .pool .records)) (wordOf (x .now) h k))) (x .now)) (wordCall (x .now) h k)
+  pub word-case : (h : Handle) (k : ℕ) → Cases (x .now) (AtSlot (x .now) h k) (out (number (plain (pageIn (x .now .pool .records)) (wordOf (x .now) h k)) (markOf (x .now) h k)) (x .now)) (wordCall (x .now) h k)
   unfolding wordCall usual lacks _and_
   word-case h k = by-rules (rule3 (x .now) h ∷ rule4 k ∷ []) _ _ refl (λ e. slot-rules (x .now) h k [] e .0)
 
   pub write-case : (h : Handle) (offset : ℕ) (d : List ℕ) → Cases (x .now) (MayWrite (x .now) h offset (length d)) (out done (written (x .now) (h .frame .0) offset d)) (writeCall (x .now) h offset d)
   unfolding writeCall usual lacks _and_
-  write-case h offset d = by-rules (rule3 (x .now) h ∷ rule5 offset (length d) ∷ []) _ _ refl (λ e.
-      let a = handle-rules (x .now) h (rule5 offset (length d) ∷ []) e in
-      record { handle = a .0; fits = range-fits offset (length d) (first-kept 4 _ [] (a .1) .0) })
+  write-case h offset d = by-rules (rule3 (x .now) h ∷ rule5 offset (length d) ∷ rule26 (x .now) h ∷ []) _ _ refl (λ e.
+      let a = handle-rules (x .now) h (rule5 offset (length d) ∷ rule26 (x .now) h ∷ []) e in
+      let b = first-kept 4 (rangeFits offset (length d)) (rule26 (x .now) h ∷ []) (a .1) in
+      record { handle = a .0; free = not-locked (x .now) h [] (b .1) .0; fits = range-fits offset (length d) (b .0) })
 
   -- ---- peek, find
   page-case : (p : ℕ) (a : Out) → Cases (x .now) (p < x .now .pool .pages) a (decide (x .now) (rule1 (x .now) ∷ rule2 (x .now) ∷ rule6 (x .now) p ∷ []) a)
@@ -134,26 +147,30 @@ module _ (x : Point) (I : Invariant x) where
   find-case q = page-case (q .0) _
 
   -- ---- link, unlink, evict, settle
-  pub link-case : (h : Handle) (k : ℕ) (q : PageNumber) → Cases (x .now) (MayLink x h k (q .0)) (out done (relinked (x .now) (h .frame .0) k (numberWord (q .0)))) (linkCall (x .now) h k q)
+  pub link-case : (h : Handle) (k : ℕ) (q : PageNumber) (l : Bool) → Cases (x .now) (MayLink x h k (q .0)) (out done (relinked (x .now) (h .frame .0) k (marked l (numberWord (q .0))))) (linkCall (x .now) h k q l)
   unfolding linkCall usual lacks _and_
-  link-case h k q = by-rules (rule3 (x .now) h ∷ rule4 k ∷ rule6-link (x .now) (q .0) ∷ rule9 (x .now) (q .0) ∷ rule8 (wordOf (x .now) h k) ∷ []) _ _ refl (λ e.
-      let a = slot-rules (x .now) h k (rule6-link (x .now) (q .0) ∷ rule9 (x .now) (q .0) ∷ rule8 (wordOf (x .now) h k) ∷ []) e in
-      let b = first-kept 5 _ (rule9 (x .now) (q .0) ∷ rule8 (wordOf (x .now) h k) ∷ []) (a .1) in
+  link-case h k q l = by-rules (rule3 (x .now) h ∷ rule4 k ∷ rule26 (x .now) h ∷ rule6-link (x .now) (q .0) ∷ rule9 (x .now) (q .0) ∷ rule8 (wordOf (x .now) h k) ∷ []) _ _ refl (λ e.
+      let a = edit-rules (x .now) h k (rule6-link (x .now) (q .0) ∷ rule9 (x .now) (q .0) ∷ rule8 (wordOf (x .now) h k) ∷ []) e in
+      let b = first-kept 5 _ (rule9 (x .now) (q .0) ∷ rule8 (wordOf (x .now) h k) ∷ []) (a .2) in
+      let n = and-true (ltb 0 (q .0)) (ltb (q .0) (x .now .pool .pages)) (b .0) in
       let c = first-kept 8 (not (named (x .now) (q .0))) (rule8 (wordOf (x .now) h k) ∷ []) (b .1) in
       let d = first-kept 7 (eqb (wordOf (x .now) h k) 0) [] (c .1) in
       record {
         handle = a .0 .handle;
+        free = a .1;
         inPage = a .0 .inPage;
         vacant = eqb-true _ 0 (d .0);
-        below = ltb-true _ _ (and-true (ltb 0 (q .0)) (ltb (q .0) (x .now .pool .pages)) (b .0) .1);
+        some = λ z. omega (arith, ltb-true 0 (q .0) (n .0));
+        below = ltb-true _ _ (n .1);
         fresh = unnamed x I (q .0) (c .0);
       })
 
   pub unlink-case : (h : Handle) (k : ℕ) → Cases (x .now) (MayUnlink (x .now) h k) (out done (relinked (x .now) (h .frame .0) k 0)) (unlinkCall (x .now) h k)
   unfolding unlinkCall usual lacks _and_
-  unlink-case h k = by-rules (rule3 (x .now) h ∷ rule4 k ∷ rule7 (wordOf (x .now) h k) ∷ rule10 (wordOf (x .now) h k) ∷ []) _ _ refl (λ e.
-      let a = name-rules (x .now) h k (rule10 (wordOf (x .now) h k) ∷ []) e in
-      record { handle = a .0 .handle; inPage = a .0 .inPage; number = number-yes _ (first-kept 9 _ [] (a .1) .0) })
+  unlink-case h k = by-rules (rule3 (x .now) h ∷ rule4 k ∷ rule26 (x .now) h ∷ rule7 (wordOf (x .now) h k) ∷ rule10 (wordOf (x .now) h k) ∷ []) _ _ refl (λ e.
+      let a = edit-rules (x .now) h k (rule7 (wordOf (x .now) h k) ∷ rule10 (wordOf (x .now) h k) ∷ []) e in
+      let b = first-kept 6 _ (rule10 (wordOf (x .now) h k) ∷ []) (a .2) in
+      record { handle = a .0 .handle; free = a .1; inPage = a .0 .inPage; number = number-yes _ (first-kept 9 _ [] (b .1) .0) })
 
   pub evict-case : (q : PageNumber) → Cases (x .now) (MayEvict (x .now) (q .0)) (out done (evicted (x .now) (found (x .now .pool) (q .0)))) (evictCall (x .now) q)
   unfolding evictCall usual lacks _and_

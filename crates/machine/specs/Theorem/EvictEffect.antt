@@ -28,10 +28,14 @@ pub record Evicted (v w : View) (e : ℕ) : Type 0 where
   pub wordAtParent : w .word (v .up e) (v .upSlot e) ≡ v .page e
   pub wordPage : (g k : ℕ) → g < v .F → k < slotCount → g ≢ e → g ≢ v .up e → w .word g k ≡ v .word g k
   pub wordSlot : (g k : ℕ) → g < v .F → k < slotCount → g ≢ e → k ≢ v .upSlot e → w .word g k ≡ v .word g k
+  -- its mark stays, as all marks do
+  pub mark : (g k : ℕ) → g < v .F → k < slotCount → w .mark g k ≡ v .mark g k
   pub bytes : (g i : ℕ) → g < v .F → payloadStart ≤ i → i < pageSize → w .bytes g i ≡ v .bytes g i
   pub dirtyWord : (k : ℕ) → v .dirty e ≡ true → k < slotCount → w .storeWord (v .page e) k ≡ plain (v .page) (v .word e k)
+  pub dirtyMark : (k : ℕ) → v .dirty e ≡ true → k < slotCount → w .storeMark (v .page e) k ≡ v .mark e k
   pub dirtyBytes : (i : ℕ) → v .dirty e ≡ true → payloadStart ≤ i → i < pageSize → w .storeBytes (v .page e) i ≡ v .bytes e i
   pub storeWord : (p k : ℕ) → p < v .N → k < slotCount → (p ≡ v .page e → v .dirty e ≡ false) → w .storeWord p k ≡ v .storeWord p k
+  pub storeMark : (p k : ℕ) → p < v .N → k < slotCount → (p ≡ v .page e → v .dirty e ≡ false) → w .storeMark p k ≡ v .storeMark p k
   pub storeBytes : (p i : ℕ) → p < v .N → i < pageSize → (p ≡ v .page e → v .dirty e ≡ false) → w .storeBytes p i ≡ v .storeBytes p i
 
 module _ (v w : View) (e : ℕ) (E : Evicted v w e) where
@@ -187,6 +191,12 @@ module _ (v w : View) (e : ℕ) (S : Shape v) (E : Evicted v w e) (oe : Occupied
       | off d ↦ E .storeWord (v .page e) k (S .pageLt e oe) hk (λ q. d) ∙ C .cleanWord e k oe d hk
     ]
 
+    outMark : (k : ℕ) → k < slotCount → w .storeMark (v .page e) k ≡ m .mapMark (v .page e) k
+    outMark k hk = elim (case (v .dirty e)) [
+      | on d ↦ E .dirtyMark k d hk ∙ C .frameMark e k oe hk
+      | off d ↦ E .storeMark (v .page e) k (S .pageLt e oe) hk (λ q. d) ∙ C .cleanMark e k oe d hk
+    ]
+
     outByte : (i : ℕ) → payloadStart ≤ i → i < pageSize → w .storeBytes (v .page e) i ≡ m .mapBytes (v .page e) i
     outByte i h l = elim (case (v .dirty e)) [
       | on d ↦ E .dirtyBytes i d h l ∙ C .frameByte e i oe h l
@@ -201,6 +211,9 @@ module _ (v w : View) (e : ℕ) (S : Shape v) (E : Evicted v w e) (oe : Occupied
     otherWord : (p k : ℕ) → p < v .N → k < slotCount → p ≢ v .page e → w .storeWord p k ≡ v .storeWord p k
     otherWord p k hp hk n = E .storeWord p k hp hk (λ q. absurd (n q))
 
+    otherMark : (p k : ℕ) → p < v .N → k < slotCount → p ≢ v .page e → w .storeMark p k ≡ v .storeMark p k
+    otherMark p k hp hk n = E .storeMark p k hp hk (λ q. absurd (n q))
+
     otherByte : (p i : ℕ) → p < v .N → i < pageSize → p ≢ v .page e → w .storeBytes p i ≡ v .storeBytes p i
     otherByte p i hp l n = E .storeBytes p i hp l (λ q. absurd (n q))
 
@@ -210,10 +223,15 @@ module _ (v w : View) (e : ℕ) (S : Shape v) (E : Evicted v w e) (oe : Occupied
     pub evict-content : Content w m
     evict-content = record {
       frameWord = λ f k o hk. plainSame f k (was f o) (other f o) hk ∙ rw (E .page f (other f o)) (C .frameWord f k (was f o) hk);
+      frameMark = λ f k o hk. rw (E .mark f k (was f o .lt) hk, E .page f (other f o)) (C .frameMark f k (was f o) hk);
       frameByte = λ f i o h l. rw (E .bytes f i (was f o .lt) h l, E .page f (other f o)) (C .frameByte f i (was f o) h l);
       absentWord = λ p k hp a hk. elim (ℕ-discrete p (v .page e)) [
         | yes z ↦ rw z (outWord k hk)
         | no z ↦ otherWord p k (rw (E .sameN) at hp) hk z ∙ C .absentWord p k (rw (E .sameN) at hp) (evicted-absentWas v w e E p a z) hk
+      ];
+      absentMark = λ p k hp a hk. elim (ℕ-discrete p (v .page e)) [
+        | yes z ↦ rw z (outMark k hk)
+        | no z ↦ otherMark p k (rw (E .sameN) at hp) hk z ∙ C .absentMark p k (rw (E .sameN) at hp) (evicted-absentWas v w e E p a z) hk
       ];
       absentByte = λ p i hp a h l. elim (ℕ-discrete p (v .page e)) [
         | yes z ↦ rw z (outByte i h l)
@@ -221,10 +239,13 @@ module _ (v w : View) (e : ℕ) (S : Shape v) (E : Evicted v w e) (oe : Occupied
       ];
       cleanWord = λ f k o d hk. rw (E .page f (other f o))
           (otherWord (v .page f) k (S .pageLt f (was f o)) hk (otherPage f o) ∙ C .cleanWord f k (was f o) (sym (E .dirty f (other f o)) ∙ d) hk);
+      cleanMark = λ f k o d hk. rw (E .page f (other f o))
+          (otherMark (v .page f) k (S .pageLt f (was f o)) hk (otherPage f o) ∙ C .cleanMark f k (was f o) (sym (E .dirty f (other f o)) ∙ d) hk);
       cleanByte = λ f i o d h l. rw (E .page f (other f o))
           (otherByte (v .page f) i (S .pageLt f (was f o)) l (otherPage f o) ∙ C .cleanByte f i (was f o) (sym (E .dirty f (other f o)) ∙ d) h l);
       storePlain = λ p k hp hk. elim (ℕ-discrete p (v .page e)) [
         | yes z ↦ rw z (outPlain k hk)
         | no z ↦ rw (otherWord p k (rw (E .sameN) at hp) hk z) (C .storePlain p k (rw (E .sameN) at hp) hk)
       ];
+      dirtyFree = λ f o d p k hp hk q. C .dirtyFree f (was f o) (sym (E .dirty f (other f o)) ∙ d) p k (rw (E .sameN) at hp) hk (q ∙ E .page f (other f o));
     }

@@ -7,14 +7,14 @@ use native.Mathlib.Omega.{arith}
 use native.Mathlib.Nat.{le-refl}
 use lib.ListN.{length}
 use Rattle.page.specs.Figures.{pageSize, slotCount, payloadStart, mostPages, wordRadix}
-use Rattle.page.specs.Word.{nameOf, reading, low, high}
-use Rattle.page.specs.Page.{slot, name, byte, pageOf, putPage, pageOf-length, byte-putPage-same, byte-putPage-other, slot-putPage-same, slot-putPage-other, byte-pageOf, slot-pageOf, byte-first}
+use Rattle.page.specs.Word.{isMarked, nameOf, reading, low, high}
+use Rattle.page.specs.Page.{slot, name, lock, byte, pageOf, putPage, pageOf-length, byte-putPage-same, byte-putPage-other, slot-putPage-same, slot-putPage-other, byte-pageOf, slot-pageOf, byte-first}
 use Rattle.page.specs.Octets.{Octets, octets-pageOf, octets-putPage}
 use Rattle.machine.specs.declared.FrameRecord.{FrameRecord}
 use Rattle.machine.specs.Machine.{isDirty}
 use Rattle.rules.specs.TestLaws.{clash, pick-yes, pick-no, pick-either, case, on, off}
 use Rattle.machine.specs.Moves.{plain, imaged, imageTo, writtenOutBy}
-use Rattle.machine.specs.Laws.PlainLaws.{plain-low, plain-high, name-imaged, imaged-lt}
+use Rattle.machine.specs.Laws.PlainLaws.{plain-low, plain-high, name-imaged, mark-imaged, imaged-lt}
 use Rattle.machine.specs.Theorem.View.{View, Occupied, Child, Shape, first-root, first-page}
 use Rattle.machine.specs.Laws.MoveLaws.{image-length, octets-image, image-byte, image-slot}
 
@@ -42,10 +42,10 @@ module _ (page : ℕ → ℕ) (r : FrameRecord) (fs st : List ℕ) (f : ℕ) whe
     imageLength = image-length page (pageOf fs f) slotCount ∙ pageLength
 
     -- a page that is another, or clean, stays
-    pub out-wordStays : (p k : ℕ) → k < slotCount → (p ≡ r .page .0 → isDirty r ≡ false) → name (writtenOutBy page r fs st f) p k ≡ name st p k
-    out-wordStays p k hk h = elim (case (isDirty r)) [
-      | on d ↦ ap (λ (b : List ℕ). name b p k) (out-dirty d) ∙ ap nameOf (slot-putPage-other st (r .page .0) _ N p k ls imageLength hp (λ q. clash (sym d ∙ h (sym q))) hk)
-      | off d ↦ ap (λ (b : List ℕ). name b p k) (out-clean d)
+    pub out-slotStays : (p k : ℕ) → k < slotCount → (p ≡ r .page .0 → isDirty r ≡ false) → slot (writtenOutBy page r fs st f) p k ≡ slot st p k
+    out-slotStays p k hk h = elim (case (isDirty r)) [
+      | on d ↦ ap (λ (b : List ℕ). slot b p k) (out-dirty d) ∙ slot-putPage-other st (r .page .0) _ N p k ls imageLength hp (λ q. clash (sym d ∙ h (sym q))) hk
+      | off d ↦ ap (λ (b : List ℕ). slot b p k) (out-clean d)
     ]
 
     pub out-byteStays : (p i : ℕ) → i < pageSize → (p ≡ r .page .0 → isDirty r ≡ false) → byte (writtenOutBy page r fs st f) p i ≡ byte st p i
@@ -66,6 +66,9 @@ module _ (page : ℕ → ℕ) (r : FrameRecord) (fs st : List ℕ) (f : ℕ) whe
 
       pub out-word : (k : ℕ) → k < slotCount → (plain page (name fs f k) ≡ 0 → name fs f k ≡ 0) → name (writtenOutBy page r fs st f) (r .page .0) k ≡ plain page (name fs f k)
       out-word k hk some = ap nameOf (out-image k hk) ∙ name-imaged page (slot fs f k) (small k hk) some
+
+      pub out-mark : (k : ℕ) → k < slotCount → (plain page (name fs f k) ≡ 0 → name fs f k ≡ 0) → lock (writtenOutBy page r fs st f) (r .page .0) k ≡ lock fs f k
+      out-mark k hk some = ap isMarked (out-image k hk) ∙ mark-imaged page (slot fs f k) (small k hk) some
 
       pub out-byte : (i : ℕ) → payloadStart ≤ i → i < pageSize → byte (writtenOutBy page r fs st f) (r .page .0) i ≡ byte fs f i
       out-byte i h l =

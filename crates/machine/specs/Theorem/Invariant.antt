@@ -6,7 +6,7 @@ use mathlib.Core.List.{List}
 use Prim.Native.Nat.{ℕ, _+_, _*_, _<_, _≤_}
 use lib.ListN.{length}
 use Rattle.page.specs.Figures.{pageSize, recordCount, maxUsage, maxPins}
-use Rattle.page.specs.Page.{name, byte}
+use Rattle.page.specs.Page.{name, lock, byte}
 use Rattle.page.specs.Octets.{Octets}
 use Rattle.machine.specs.declared.FrameRecord.{FrameRecord}
 use Rattle.machine.specs.declared.Pool.{Pool}
@@ -37,7 +37,7 @@ pub record Pins (v : View) (b : Balance) : Type 0 where
   pub place : (f : ℕ) → Occupied v f → v .pins f ≢ 0 → b .frame (v .page f) ≡ f
 
 abbrev pub mapOf : List ℕ → Map
-mapOf m = record { mapWord = λ p k. name m p k; mapBytes = λ p i. byte m p i }
+mapOf m = record { mapWord = λ p k. name m p k; mapMark = λ p k. lock m p k; mapBytes = λ p i. byte m p i }
 
 pub record Invariant (x : Point) : Type 0 where
   pub sized : Sized (x .now)

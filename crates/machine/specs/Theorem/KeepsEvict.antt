@@ -6,7 +6,7 @@ use Prim.Native.Nat.{ℕ, _≤_, _<_}
 use native.Mathlib.Omega.{arith}
 use lib.ListN.{length, length-set}
 use Rattle.page.specs.Figures.{slotCount, mostPages}
-use Rattle.page.specs.Word.{Number, name-renamed-number, nameOf, numberWord, renamed-lt}
+use Rattle.page.specs.Word.{Number, isMarked, name-renamed-number, mark-renamed-number, nameOf, numberWord, renamed-lt}
 use Rattle.page.specs.Page.{putSlot-length, slot-putSlot-same, slot-putSlot-page, byte-putSlot}
 use Rattle.page.specs.Octets.{Octets, octets-putSlot}
 use Rattle.machine.specs.declared.FrameRecord.{FrameRecord}
@@ -19,8 +19,8 @@ use Rattle.machine.specs.Theorem.StateFit.{Fit, fit-of}
 use Rattle.machine.specs.Theorem.EvictEffect.{Evicted, evict-shape, evict-content}
 use Rattle.machine.specs.Theorem.PinsEffect.{pins-evicted}
 use Rattle.machine.specs.Laws.MoveLaws.{writtenOutBy-length}
-use Rattle.machine.specs.Theorem.ImageOut.{out-octets, out-wordStays, out-byteStays, out-word, out-byte, plain-lt, plain-some}
-use Rattle.machine.specs.Theorem.SlotChange.{slot-putSlot-other}
+use Rattle.machine.specs.Theorem.ImageOut.{out-octets, out-slotStays, out-byteStays, out-word, out-mark, out-byte, plain-lt, plain-some}
+use Rattle.machine.specs.Theorem.SlotChange.{slot-putSlot-other, mark-putSlot}
 use Rattle.machine.specs.Theorem.RecordChange.{change-here, change-other, neat-blank, neat-change, lengths-kept}
 
 module _ (s : State) (I : Fit s) (f : ℕ) (of : Occupied (view s) f) (nz : 1 ≤ f) where
@@ -66,10 +66,13 @@ module _ (s : State) (I : Fit s) (f : ℕ) (of : Occupied (view s) f) (nz : 1 �
     wordAtParent = ap nameOf (slot-putSlot-same (s .frames) _ _ _ _ (I .sized .frames) (P .occupied .lt) (P .inPage) (renamed-lt _ (numberWord (v .page f)) (omega (arith, pSmall)))) ∙ name-renamed-number _ (v .page f) pSmall (λ z. absurd (pSome z));
     wordPage = λ g k hg hk m n. ap nameOf (slot-putSlot-page (s .frames) _ _ _ g k (P .inPage) hk (λ q. n (sym q)));
     wordSlot = λ g k hg hk m n. ap nameOf (slot-putSlot-other (s .frames) _ _ _ g k (P .inPage) hk n);
+    mark = λ g k hg hk. mark-putSlot (s .frames) _ _ _ _ (I .sized .frames) (P .occupied .lt) (P .inPage) (renamed-lt _ (numberWord (v .page f)) (omega (arith, pSmall))) (mark-renamed-number _ (v .page f) pSmall (λ z. absurd (pSome z))) g k hk;
     bytes = λ g i hg h l. byte-putSlot (s .frames) _ _ _ g i (P .inPage) h l;
     dirtyWord = λ k d hk. out-word (v .page) (recordAt rs f) (s .frames) (s .store) f _ _ (I .sized .frames) (of .lt) (I .sized .store) pN d small k hk (plain-some v (I .shape) f k of hk);
+    dirtyMark = λ k d hk. out-mark (v .page) (recordAt rs f) (s .frames) (s .store) f _ _ (I .sized .frames) (of .lt) (I .sized .store) pN d small k hk (plain-some v (I .shape) f k of hk);
     dirtyBytes = λ i d h l. out-byte (v .page) (recordAt rs f) (s .frames) (s .store) f _ _ (I .sized .frames) (of .lt) (I .sized .store) pN d small i h l;
-    storeWord = λ p k hp hk h. out-wordStays (v .page) (recordAt rs f) (s .frames) (s .store) f _ _ (I .sized .frames) (of .lt) (I .sized .store) pN p k hk h;
+    storeWord = λ p k hp hk h. ap nameOf (out-slotStays (v .page) (recordAt rs f) (s .frames) (s .store) f _ _ (I .sized .frames) (of .lt) (I .sized .store) pN p k hk h);
+    storeMark = λ p k hp hk h. ap isMarked (out-slotStays (v .page) (recordAt rs f) (s .frames) (s .store) f _ _ (I .sized .frames) (of .lt) (I .sized .store) pN p k hk h);
     storeBytes = λ p i hp l h. out-byteStays (v .page) (recordAt rs f) (s .frames) (s .store) f _ _ (I .sized .frames) (of .lt) (I .sized .store) pN p i l h;
   }
 

@@ -6,9 +6,9 @@ use mathlib.Core.List.{List}
 use Prim.Native.Nat.{ℕ, _<_}
 use native.Mathlib.Omega.{arith}
 use lib.ListN.{length, length-set}
-use Rattle.page.specs.Figures.{pageSize, slotCount}
-use Rattle.page.specs.Word.{Number, frameWord, name-renamed-frame, nameOf, renamed-lt}
-use Rattle.page.specs.Page.{slot, name, pageOf, putPage, putSlot-length, slot-putSlot-same, slot-putSlot-page, byte-putSlot, pageOf-length, putPage-length, slot-putPage-same, slot-putPage-other, byte-putPage-same, byte-putPage-other, slot-pageOf, byte-pageOf, byte-first}
+use Rattle.page.specs.Figures.{pageSize, slotCount, mostFrames}
+use Rattle.page.specs.Word.{Number, frameWord, isMarked, renamed, name-renamed-frame, mark-renamed-frame, nameOf, renamed-lt}
+use Rattle.page.specs.Page.{slot, lock, pageOf, putPage, putSlot-length, slot-putSlot-same, slot-putSlot-page, byte-putSlot, pageOf-length, putPage-length, slot-putPage-same, slot-putPage-other, byte-putPage-same, byte-putPage-other, slot-pageOf, byte-pageOf, byte-first}
 use Rattle.page.specs.Octets.{octets-putSlot, octets-pageOf, octets-putPage}
 use Rattle.machine.specs.declared.FrameRecord.{FrameRecord}
 use Rattle.rules.specs.TestLaws.{clash}
@@ -19,7 +19,7 @@ use Rattle.machine.specs.Theorem.View.{View, view, Occupied, Absent, fir
 use Rattle.machine.specs.Theorem.Invariant.{Invariant, mapOf}
 use Rattle.machine.specs.Theorem.LoadEffect.{Loaded, MayComeIn, absent-fits, empty-other, load-shape, load-content}
 use Rattle.machine.specs.Theorem.PinsEffect.{pins-loaded}
-use Rattle.machine.specs.Theorem.SlotChange.{slot-putSlot-other}
+use Rattle.machine.specs.Theorem.SlotChange.{slot-putSlot-other, mark-putSlot}
 use Rattle.machine.specs.Theorem.RecordChange.{change-here, change-other, neat-change, record-lt, lengths-kept}
 
 module _ (x : Point) (I : Invariant x) where
@@ -70,9 +70,21 @@ module _ (x : Point) (I : Invariant x) where
     unfolding between
     betweenLength = putPage-length (s .frames) e page _ (I .sized .frames) pageLength eF
 
-    betweenWord : (g j : ℕ) → g ≢ e → j < slotCount → name between g j ≡ v .word g j
+    betweenSlot : (g j : ℕ) → g ≢ e → j < slotCount → slot between g j ≡ slot (s .frames) g j
     unfolding between
-    betweenWord g j n hj = ap nameOf (slot-putPage-other (s .frames) e page _ g j (I .sized .frames) pageLength eF (λ z. n (sym z)) hj)
+    betweenSlot g j n hj = slot-putPage-other (s .frames) e page _ g j (I .sized .frames) pageLength eF (λ z. n (sym z)) hj
+
+    -- the word in frame e is the store's
+    slotE : (j : ℕ) → j < slotCount → slot (loaded s f k e q .frames) e j ≡ slot (s .store) q j
+    unfolding loaded between page
+    slotE j hj = slot-putSlot-page between f k _ e j hk hj (other f of) ∙ slot-putPage-same (s .frames) e page _ j (I .sized .frames) pageLength eF hj ∙ slot-pageOf (s .store) q j hj
+
+    eSmall : e < mostFrames
+    eSmall = omega (arith, I .shape .most)
+
+    -- the parent's word keeps its mark
+    sameMark : isMarked (renamed (slot (s .frames) f k) (frameWord e)) ≡ lock between f k
+    sameMark = mark-renamed-frame (slot (s .frames) f k) e eSmall ∙ sym (ap isMarked (betweenSlot f k (other f of) hk))
 
     -- what is done to the view
     load-effect : Loaded v (view (loaded s f k e q)) f k e q
@@ -94,13 +106,16 @@ module _ (x : Point) (I : Invariant x) where
       upSlot = λ g n. ap (λ t. t .slot) (change-other rs e r g n);
       dirty = λ g n. ap isDirty (change-other rs e r g n);
       pins = λ g n. ap (λ t. t .pins) (change-other rs e r g n);
-      wordE = λ j hj. ap nameOf (slot-putSlot-page between f k _ e j hk hj (other f of) ∙ slot-putPage-same (s .frames) e page _ j (I .sized .frames) pageLength eF hj ∙ slot-pageOf (s .store) q j hj);
+      wordE = λ j hj. ap nameOf (slotE j hj);
+      markE = λ j hj. ap isMarked (slotE j hj);
       bytesE = λ i h l. byte-putSlot between f k _ e i hk h l ∙ byte-putPage-same (s .frames) e page _ i (I .sized .frames) pageLength eF l ∙ sym (byte-first page i) ∙ byte-pageOf (s .store) q i l;
-      wordAtParent = ap nameOf (slot-putSlot-same between f k _ _ (betweenLength ∙ I .sized .frames) (of .lt) hk (renamed-lt _ (frameWord e) (omega (arith, I .shape .most)))) ∙ name-renamed-frame (slot (s .frames) f k) e (omega (arith, I .shape .most));
-      wordPage = λ g j hg hj n m. ap nameOf (slot-putSlot-page between f k _ g j hk hj (λ z. m (sym z))) ∙ betweenWord g j n hj;
-      wordSlot = λ g j hg hj n m. ap nameOf (slot-putSlot-other between f k _ g j hk hj m) ∙ betweenWord g j n hj;
+      wordAtParent = ap nameOf (slot-putSlot-same between f k _ _ (betweenLength ∙ I .sized .frames) (of .lt) hk (renamed-lt _ (frameWord e) (omega (arith, eSmall)))) ∙ name-renamed-frame (slot (s .frames) f k) e eSmall;
+      wordPage = λ g j hg hj n m. ap nameOf (slot-putSlot-page between f k _ g j hk hj (λ z. m (sym z)) ∙ betweenSlot g j n hj);
+      wordSlot = λ g j hg hj n m. ap nameOf (slot-putSlot-other between f k _ g j hk hj m ∙ betweenSlot g j n hj);
+      mark = λ g j hg hj n. mark-putSlot between f k _ _ (betweenLength ∙ I .sized .frames) (of .lt) hk (renamed-lt _ (frameWord e) (omega (arith, eSmall))) sameMark g j hj ∙ ap isMarked (betweenSlot g j n hj);
       bytes = λ g i hg h l n. byte-putSlot between f k _ g i hk h l ∙ byte-putPage-other (s .frames) e page _ g i (I .sized .frames) pageLength eF (λ z. n (sym z)) l;
       storeWord = λ p j hp hj. refl;
+      storeMark = λ p j hp hj. refl;
       storeBytes = λ p i hp l. refl;
     }
 

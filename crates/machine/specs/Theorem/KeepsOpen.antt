@@ -1,7 +1,7 @@
 -- An accepted open over a sound store: the invariant's start.
 use mathlib.Core.Path.{_≡_, refl, sym, ap, _∙_}
 use mathlib.Core.Logic.{_≢_}
-use mathlib.Core.Bool.{true, not}
+use mathlib.Core.Bool.{true, false, not}
 use mathlib.Core.List.{List}
 use Prim.Native.Nat.{ℕ, zero, suc, _/_, _≤_, _<_}
 use native.Mathlib.Omega.{arith}
@@ -11,11 +11,11 @@ use lib.Dec.{eqb}
 use lib.ListN.{length, replicate, length-set, length-replicate}
 use borrow.Author.Tests.{ltb-true, eqb-true, eq-eqb, ne-eqb}
 use Rattle.page.specs.Figures.{pageSize, slotCount, recordCount}
-use Rattle.page.specs.Word.{nameOf}
-use Rattle.page.specs.Page.{name, byte, pageOf, putPage, pageOf-length, putPage-length, slot-putPage-same, byte-putPage-same, slot-pageOf, byte-pageOf, byte-first}
+use Rattle.page.specs.Word.{isMarked, nameOf}
+use Rattle.page.specs.Page.{slot, name, lock, byte, pageOf, putPage, pageOf-length, putPage-length, slot-putPage-same, byte-putPage-same, slot-pageOf, byte-pageOf, byte-first}
 use Rattle.page.specs.Octets.{Octets, octets-putPage, octets-pageOf}
 use Rattle.rules.specs.TestLaws.{clash, and-true, both, use⇒, every-true}
-use Rattle.machine.specs.Machine.{State, blank, rootRecord, isUsed, recordAt, openedPool}
+use Rattle.machine.specs.Machine.{State, blank, rootRecord, isUsed, isDirty, recordAt, openedPool}
 use Rattle.machine.specs.Soundness.{wordsBelow, wordsOnce, sound}
 use Rattle.machine.specs.Rules.{lengthsFit}
 use Rattle.machine.specs.Calls.{opened}
@@ -102,12 +102,21 @@ module _ (fs st : List ℕ) (F N : ℕ) (of : Octets fs) (os : Octets st) (Z : L
   page-zero : (g : ℕ) → Occupied v g → v .page g ≡ 0
   page-zero g o = rw (only g o) (ap (λ r. r .page .0) (root-record F N))
 
+  clean-zero : (g : ℕ) → Occupied v g → v .dirty g ≡ false
+  clean-zero g o = rw (only g o) (ap isDirty (root-record F N))
+
   pins-zero : (g : ℕ) → Occupied v g → v .pins g ≡ 0
   pins-zero g o = rw (only g o) (ap (λ r. r .pins) (root-record F N))
 
   -- and has page 0's words and bytes
+  slot-zero : (k : ℕ) → k < slotCount → slot (putPage fs 0 (pageOf st 0)) 0 k ≡ slot st 0 k
+  slot-zero k hk = slot-putPage-same fs 0 (pageOf st 0) F k (Z .frames) pageLength (omega (arith, Z .least)) hk ∙ slot-pageOf st 0 k hk
+
   word-zero : (g k : ℕ) → Occupied v g → k < slotCount → v .word g k ≡ name st 0 k
-  word-zero g k o hk = rw (only g o) (ap nameOf (slot-putPage-same fs 0 (pageOf st 0) F k (Z .frames) pageLength (omega (arith, Z .least)) hk ∙ slot-pageOf st 0 k hk))
+  word-zero g k o hk = rw (only g o) (ap nameOf (slot-zero k hk))
+
+  mark-zero : (g k : ℕ) → Occupied v g → k < slotCount → v .mark g k ≡ lock st 0 k
+  mark-zero g k o hk = rw (only g o) (ap isMarked (slot-zero k hk))
 
   byte-zero : (g i : ℕ) → Occupied v g → i < pageSize → v .bytes g i ≡ byte st 0 i
   byte-zero g i o hi =
@@ -141,12 +150,16 @@ module _ (fs st : List ℕ) (F N : ℕ) (of : Octets fs) (os : Octets st) (Z : L
   content : Content v (mapOf st)
   content = record {
     frameWord = λ f k o hk. plain-low (v .page) _ (omega (arith, word-lt f k o hk, Z .pages)) ∙ word-zero f k o hk ∙ ap (λ (p : ℕ). name st p k) (sym (page-zero f o));
+    frameMark = λ f k o hk. mark-zero f k o hk ∙ ap (λ (p : ℕ). lock st p k) (sym (page-zero f o));
     frameByte = λ f i o h l. byte-zero f i o l ∙ ap (λ (p : ℕ). byte st p i) (sym (page-zero f o));
     absentWord = λ p k hp a hk. refl;
+    absentMark = λ p k hp a hk. refl;
     absentByte = λ p i hp a h l. refl;
     cleanWord = λ f k o d hk. refl;
+    cleanMark = λ f k o d hk. refl;
     cleanByte = λ f i o d h l. refl;
     storePlain = λ p k hp hk. omega (arith, M .below p k (rw (opened-pages F N) at hp) hk, Z .pages);
+    dirtyFree = λ f o d. absurd (clash (sym d ∙ clean-zero f o));
   }
 
   opened-keeps : Invariant (start s)

@@ -66,13 +66,13 @@ module _ (x : Point) (I : Invariant x) where
     mapOctets = I .mapOctets;
     shape = kept-shape _ _ kept (I .shape);
     content = kept-content _ _ kept (I .shape) _ _ (I .content) (quiet-rewritten _ _ (mapOf (x .map))
-        (record { bytes = λ g i. refl; dirty = dirty; storeWord = λ p k. refl; storeBytes = λ p i. refl }));
+        (record { bytes = λ g i. refl; dirty = dirty; storeWord = λ p k. refl; storeMark = λ p k. refl; storeBytes = λ p i. refl }));
     sound = rw (K .sameN) (I .sound);
     pins = B;
   }
     where
       kept : KeptView v (view (withPool s q))
-      kept = record { steady = K; word = λ g k hg hk. refl }
+      kept = record { steady = K; word = λ g k hg hk. refl; mark = λ g k hg hk. refl }
 
   -- ---- pins
 

@@ -8,8 +8,8 @@ use native.Mathlib.Nat.{le-refl}
 use native.Mathlib.Decide.{ℕ-discrete, decLt}
 use lib.ListN.{length, length-set}
 use Rattle.page.specs.Figures.{pageSize, slotCount, payloadStart, mostPages}
-use Rattle.page.specs.Word.{word-ext}
-use Rattle.page.specs.Page.{name, byte}
+use Rattle.page.specs.Word.{isMarked, nameOf, word-ext}
+use Rattle.page.specs.Page.{slot, name, lock, byte}
 use Rattle.page.specs.Octets.{Octets, buffer-ext}
 use Rattle.machine.specs.declared.FrameRecord.{FrameRecord}
 use Rattle.machine.specs.declared.Pool.{Pool}
@@ -24,8 +24,8 @@ use Rattle.machine.specs.Theorem.KeepEffect.{KeptView, kept-shape, stead
 use Rattle.machine.specs.Theorem.PinsEffect.{pins-kept}
 use Rattle.machine.specs.Laws.MoveLaws.{writtenOutTo-length}
 use Rattle.machine.specs.Laws.FoundLaws.{found-holds, found-none}
-use Rattle.machine.specs.Theorem.ImageOut.{out-octets, out-wordStays, out-byteStays, out-word, out-byte, plain-lt, plain-some}
-use Rattle.machine.specs.Theorem.RecordChange.{change-same, neat-change, lengths-kept}
+use Rattle.machine.specs.Theorem.ImageOut.{out-octets, out-slotStays, out-byteStays, out-word, out-mark, out-byte, plain-lt, plain-some}
+use Rattle.machine.specs.Theorem.RecordChange.{change-here, change-other, change-same, neat-change, lengths-kept}
 
 -- ---- the records marked clean
 
@@ -40,6 +40,15 @@ cleaned-same : {A : Type 0} (part : FrameRecord → A) → ((r : FrameRecord) �
 unfolding cleanedTo
 cleaned-same part e rs zero h g = refl
 cleaned-same part e rs (suc n) h g = change-same (cleanedTo rs n) n _ part (rw (cleaned-length rs n) h) (e _) g ∙ cleaned-same part e rs n (omega arith) g
+
+-- of the first n no record is dirty
+cleaned-clean : (rs : List FrameRecord) (n : ℕ) → n ≤ length rs → (g : ℕ) → g < n → isDirty (recordAt (cleanedTo rs n) g) ≡ false
+unfolding cleanedTo
+cleaned-clean rs zero h g l = absurd (omega arith)
+cleaned-clean rs (suc n) h g l = elim (ℕ-discrete g n) [
+  | yes e ↦ rw e (ap isDirty (change-here (cleanedTo rs n) n _ (rw (cleaned-length rs n) h)))
+  | no e ↦ ap isDirty (change-other (cleanedTo rs n) n _ g e) ∙ cleaned-clean rs n (omega arith) g (omega arith)
+]
 
 neat-cleaned : (f : ℕ) (r : FrameRecord) → NeatRecord f r → NeatRecord f (cleaned r)
 neat-cleaned f r n = record { used = n .used; dirty = omega arith; usage = n .usage; pins = n .pins; empty = λ e. ap (λ t. cleaned t) (n .empty e); rootParent = n .rootParent; rootSlot = n .rootSlot }
@@ -66,6 +75,7 @@ module _ (x : Point) (I : Invariant x) where
   -- page p in the store b is the map's
   record Right (b : List ℕ) (p : ℕ) : Type 0 where
     word : (k : ℕ) → k < slotCount → name b p k ≡ name (x .map) p k
+    mark : (k : ℕ) → k < slotCount → lock b p k ≡ lock (x .map) p k
     bytes : (i : ℕ) → payloadStart ≤ i → i < pageSize → byte b p i ≡ byte (x .map) p i
 
   -- an empty frame's record has page 0, and is clean
@@ -81,13 +91,18 @@ module _ (x : Point) (I : Invariant x) where
   module _ (b : List ℕ) (lb : length b ≡ pageSize * v .N) (n : ℕ) (hn : n < v .F) where
     outStays : (p : ℕ) → (p ≡ v .page n → v .dirty n ≡ false) → Right b p → Right (writtenOut rs (s .frames) b n) p
     outStays p h R = record {
-      word = λ k hk. out-wordStays (v .page) (recordAt rs n) (s .frames) b n _ _ (I .sized .frames) hn lb (pageLt n hn) p k hk h ∙ R .word k hk;
+      word = λ k hk. ap nameOf (stays k hk) ∙ R .word k hk;
+      mark = λ k hk. ap isMarked (stays k hk) ∙ R .mark k hk;
       bytes = λ i lo hi. out-byteStays (v .page) (recordAt rs n) (s .frames) b n _ _ (I .sized .frames) hn lb (pageLt n hn) p i hi h ∙ R .bytes i lo hi;
     }
+      where
+        stays : (k : ℕ) → k < slotCount → slot (writtenOut rs (s .frames) b n) p k ≡ slot b p k
+        stays k hk = out-slotStays (v .page) (recordAt rs n) (s .frames) b n _ _ (I .sized .frames) hn lb (pageLt n hn) p k hk h
 
     outDirty : v .dirty n ≡ true → Right (writtenOut rs (s .frames) b n) (v .page n)
     outDirty d = record {
       word = λ k hk. out-word (v .page) (recordAt rs n) (s .frames) b n _ _ (I .sized .frames) hn lb (pageLt n hn) d small k hk (plain-some v (I .shape) n k o hk) ∙ I .content .frameWord n k o hk;
+      mark = λ k hk. out-mark (v .page) (recordAt rs n) (s .frames) b n _ _ (I .sized .frames) hn lb (pageLt n hn) d small k hk (plain-some v (I .shape) n k o hk) ∙ I .content .frameMark n k o hk;
       bytes = λ i lo hi. out-byte (v .page) (recordAt rs n) (s .frames) b n _ _ (I .sized .frames) hn lb (pageLt n hn) d small i lo hi ∙ I .content .frameByte n i o lo hi;
     }
       where
@@ -128,7 +143,7 @@ module _ (x : Point) (I : Invariant x) where
   toDone zero h g l o = absurd (omega arith)
   toDone (suc n) h g l o = elim (ℕ-discrete g n) [
     | yes z ↦ rw z (outHere (to n) (toLength n (omega arith)) n h (λ d. toKeeps n (omega arith) (v .page n)
-        (let c : Occupied v n = rw z at o in record { word = λ k hk. I .content .cleanWord n k c d hk; bytes = λ i lo hi. I .content .cleanByte n i c d lo hi })))
+        (let c : Occupied v n = rw z at o in record { word = λ k hk. I .content .cleanWord n k c d hk; mark = λ k hk. I .content .cleanMark n k c d hk; bytes = λ i lo hi. I .content .cleanByte n i c d lo hi })))
     | no z ↦ outKeeps (to n) (toLength n (omega arith)) n h (v .page g) (toDone n (omega arith) g (omega arith) o)
   ]
 
@@ -139,13 +154,13 @@ module _ (x : Point) (I : Invariant x) where
         rw (h .1) at (toDone (v .F) (le-refl _) (found (s .pool) p) l (record { lt = l; on = occupied-used (s .pool) _ (h .0) }))
     | no l ↦
         let a : Absent v p = λ f o e. found-none (s .pool) p (omega arith) f (make-occupied (s .pool) f (o .lt) (o .on)) e in
-        toKeeps (v .F) (le-refl _) p (record { word = λ k hk. I .content .absentWord p k hp a hk; bytes = λ i lo hi. I .content .absentByte p i hp a lo hi })
+        toKeeps (v .F) (le-refl _) p (record { word = λ k hk. I .content .absentWord p k hp a hk; mark = λ k hk. I .content .absentMark p k hp a hk; bytes = λ i lo hi. I .content .absentByte p i hp a lo hi })
   ]
 
   pub settle-store : settled s .store ≡ x .map
   unfolding settled
   settle-store = buffer-ext _ _ (v .N) (toOctets (v .F)) (I .mapOctets) (toLength (v .F) (le-refl _)) (I .mapLength)
-      (λ p k hp hk. word-ext _ _ (toRight p hp .word k hk)) (λ p i hp lo hi. toRight p hp .bytes i lo hi)
+      (λ p k hp hk. word-ext _ _ (toRight p hp .word k hk) (toRight p hp .mark k hk)) (λ p i hp lo hi. toRight p hp .bytes i lo hi)
 
   -- ---- the invariant
 
@@ -166,10 +181,14 @@ module _ (x : Point) (I : Invariant x) where
       upSlot = cleaned-same (λ r. r .slot) (λ r. refl) rs (v .F) enough;
     };
     word = λ g k hg hk. refl;
+    mark = λ g k hg hk. refl;
   }
 
   storeWord : (p k : ℕ) → name (settled s .store) p k ≡ name (x .map) p k
   storeWord p k = ap (λ (b : List ℕ). name b p k) settle-store
+
+  storeMark : (p k : ℕ) → lock (settled s .store) p k ≡ lock (x .map) p k
+  storeMark p k = ap (λ (b : List ℕ). lock b p k) settle-store
 
   storeByte : (p i : ℕ) → byte (settled s .store) p i ≡ byte (x .map) p i
   storeByte p i = ap (λ (b : List ℕ). byte b p i) settle-store
@@ -177,12 +196,16 @@ module _ (x : Point) (I : Invariant x) where
   content : Content (view (settled s)) (mapOf (x .map))
   content = record {
     frameWord = unfold settled in λ f k o hk. steady-plain v _ (kept .steady) _ ∙ I .content .frameWord f k (was f o) hk ∙ ap (λ (p : ℕ). name (x .map) p k) (sym (kept .steady .page f));
+    frameMark = unfold settled in λ f k o hk. I .content .frameMark f k (was f o) hk ∙ ap (λ (p : ℕ). lock (x .map) p k) (sym (kept .steady .page f));
     frameByte = unfold settled in λ f i o h l. I .content .frameByte f i (was f o) h l ∙ ap (λ (p : ℕ). byte (x .map) p i) (sym (kept .steady .page f));
     absentWord = λ p k hp a hk. storeWord p k;
+    absentMark = λ p k hp a hk. storeMark p k;
     absentByte = λ p i hp a h l. storeByte p i;
     cleanWord = λ f k o d hk. storeWord _ k;
+    cleanMark = λ f k o d hk. storeMark _ k;
     cleanByte = λ f i o d h l. storeByte _ i;
     storePlain = λ p k hp hk. rw (storeWord p k) (omega (arith, I .sound .below p k (unfold settled in hp) hk, I .shape .pages));
+    dirtyFree = unfold settled in λ f o d. absurd (clash (sym d ∙ cleaned-clean rs (v .F) enough f (was f o .lt)));
   }
     where
       was : (g : ℕ) → Occupied (view (settled s)) g → Occupied v g

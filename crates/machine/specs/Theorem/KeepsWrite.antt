@@ -1,4 +1,4 @@
--- Payload bytes put into a resident page keep the invariant.
+-- Payload bytes put into a resident page that isn't locked keep the invariant.
 use mathlib.Core.Path.{_≡_, refl, sym, ap, _∙_}
 use mathlib.Core.Logic.{_≢_}
 use mathlib.Core.Bool.{false}
@@ -10,15 +10,15 @@ use lib.Dec.{eqb}
 use lib.ListN.{length, length-set}
 use borrow.Author.Tests.{eqb-true}
 use Rattle.page.specs.Figures.{pageSize, slotCount, payloadSize}
-use Rattle.page.specs.Word.{nameOf}
-use Rattle.page.specs.Page.{name, byte, putPayload, putPayload-length, slot-putPayload, byte-putPayload-other, byte-putPayload-both, putPayload-none}
+use Rattle.page.specs.Word.{isMarked, nameOf}
+use Rattle.page.specs.Page.{slot, byte, putPayload, putPayload-length, slot-putPayload, byte-putPayload-other, byte-putPayload-both, putPayload-none}
 use Rattle.page.specs.Octets.{Octets, octets-putPayload}
 use Rattle.machine.specs.declared.FrameRecord.{FrameRecord}
 use Rattle.rules.specs.TestLaws.{clash, pick-yes, pick-no, pick-either, case, on, off}
 use Rattle.machine.specs.Machine.{State, isDirty, recordAt, dirtied}
 use Rattle.machine.specs.Calls.{dirtiedBy, written}
 use Rattle.machine.specs.History.{Point}
-use Rattle.machine.specs.Theorem.View.{View, view, Occupied, Map, MapSound}
+use Rattle.machine.specs.Theorem.View.{View, view, Occupied, Map, Free, MapSound}
 use Rattle.machine.specs.Theorem.Invariant.{Invariant, mapOf}
 use Rattle.machine.specs.Theorem.KeepEffect.{KeptView, kept-shape, kept-content, Rewritten}
 use Rattle.machine.specs.Theorem.PinsEffect.{pins-kept}
@@ -32,7 +32,8 @@ same-sound m n N same roots each S = record {
   once = λ p k q j hp hk hq hj z e. S .once p k q j hp hk hq hj (rw (same p k hp hk) at z) (sym (same p k hp hk) ∙ e ∙ same q j hq hj);
 }
 
-module _ (x : Point) (I : Invariant x) (f : ℕ) (of : Occupied (view (x .now)) f) (offset : ℕ) (d : List ℕ) (fits : offset + length d ≤ payloadSize) (od : Octets d) where
+module _ (x : Point) (I : Invariant x) (f : ℕ) (of : Occupied (view (x .now)) f) (offset : ℕ) (d : List ℕ) (fits : offset + length d ≤ payloadSize) (od : Octets d)
+    (free : Free (mapOf (x .map)) (x .now .pool .pages) (view (x .now) .page f)) where
   abbrev s : State
   s = x .now
 
@@ -75,6 +76,7 @@ module _ (x : Point) (I : Invariant x) (f : ℕ) (of : Occupied (view (x .now)) 
   kept = record {
     steady = change-steady s f r (putPayload (s .frames) f offset d) (s .store) lt samePlace;
     word = λ g k hg hk. ap nameOf (slot-putPayload (s .frames) f offset d _ (I .sized .frames) (of .lt) fits g k hk);
+    mark = λ g k hg hk. ap isMarked (slot-putPayload (s .frames) f offset d _ (I .sized .frames) (of .lt) fits g k hk);
   }
 
   -- clean afterwards: clean before, and where it is f nothing was written
@@ -98,20 +100,23 @@ module _ (x : Point) (I : Invariant x) (f : ℕ) (of : Occupied (view (x .now)) 
   elsewhere : (p i : ℕ) → i < pageSize → p ≢ v .page f → byte m p i ≡ byte (x .map) p i
   elsewhere p i l n = byte-putPayload-other (x .map) (v .page f) offset d _ (I .mapLength) pN fits p i l n
 
-  mapWords : (p k : ℕ) → p < v .N → k < slotCount → name m p k ≡ name (x .map) p k
-  mapWords p k hp hk = ap nameOf (slot-putPayload (x .map) (v .page f) offset d _ (I .mapLength) pN fits p k hk)
+  mapSlots : (p k : ℕ) → k < slotCount → slot m p k ≡ slot (x .map) p k
+  mapSlots p k hk = slot-putPayload (x .map) (v .page f) offset d _ (I .mapLength) pN fits p k hk
 
   rewritten : Rewritten v w (mapOf (x .map)) (mapOf m)
   rewritten = record {
-    mapWord = mapWords;
+    mapWord = λ p k hp hk. ap nameOf (mapSlots p k hk);
+    mapMark = λ p k hp hk. ap isMarked (mapSlots p k hk);
     bytes = λ g i o h l e. elim (ℕ-discrete g f) [
       | yes q ↦ rw q (byte-putPayload-both (s .frames) f (x .map) (v .page f) offset d _ _ i (I .sized .frames) (of .lt) (I .mapLength) pN fits l (rw q at e))
       | no q ↦ byte-putPayload-other (s .frames) f offset d _ (I .sized .frames) (of .lt) fits g i l q ∙ e ∙ sym (elsewhere (v .page g) i l (λ z. q (I .shape .apart g f o of z)))
     ];
     storeWord = λ p k hp hk. refl;
+    storeMark = λ p k hp hk. refl;
     storeBytes = λ p i hp l. refl;
     absent = λ p i hp a l. elsewhere p i l (λ z. a f of (sym z));
     clean = λ g o e. stillClean g e .clean;
+    free = λ g o e h. elim (ℕ-discrete g f) [ yes q ↦ rw q free | no q ↦ h (sym (ap isDirty (change-other rs f r g q)) ∙ e) ];
     cleanBytes = λ g i o e l. elim (ℕ-discrete g f) [
       | yes q ↦ ap (λ (b : List ℕ). byte b (v .page g) i) (putPayload-none (x .map) (v .page f) offset d (stillClean g e .nothing q))
       | no q ↦ elsewhere (v .page g) i l (λ z. q (I .shape .apart g f o of z))
@@ -129,6 +134,6 @@ module _ (x : Point) (I : Invariant x) (f : ℕ) (of : Occupied (view (x .now)) 
     mapOctets = octets-putPayload (x .map) (v .page f) offset d (I .mapOctets) od;
     shape = kept-shape v w kept (I .shape);
     content = kept-content v w kept (I .shape) (mapOf (x .map)) (mapOf m) (I .content) rewritten;
-    sound = same-sound (mapOf (x .map)) (mapOf m) (v .N) mapWords 1 _ (I .sound);
+    sound = same-sound (mapOf (x .map)) (mapOf m) (v .N) (rewritten .mapWord) 1 _ (I .sound);
     pins = pins-kept v w (kept .steady) (x .balance) (I .pins) (change-same rs f r (λ t. t .pins) lt samePins);
   }

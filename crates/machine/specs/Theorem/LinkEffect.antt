@@ -1,7 +1,7 @@
 -- A word that is a number becomes another number, on the view and in the map: link and unlink.
 use mathlib.Core.Path.{_≡_, sym, ap, _∙_}
 use mathlib.Core.Logic.{_≢_}
-use mathlib.Core.Bool.{true, false}
+use mathlib.Core.Bool.{Bool, true, false}
 use Prim.Native.Nat.{ℕ, _≤_, _<_}
 use native.Mathlib.Omega.{arith}
 use native.Mathlib.Decide.{ℕ-discrete, decLt}
@@ -10,11 +10,11 @@ use Rattle.page.specs.Word.{frameWord, Number}
 use Rattle.machine.specs.Moves.{plain}
 use Rattle.rules.specs.TestLaws.{clash}
 use Rattle.machine.specs.Laws.PlainLaws.{plain-low, plain-high}
-use Rattle.machine.specs.Theorem.View.{View, Occupied, Absent, Parent, Child, Shape, Map, Content, MapSound, NoRoot}
+use Rattle.machine.specs.Theorem.View.{View, Occupied, Absent, Parent, Child, Shape, Map, Free, Content, MapSound, NoRoot}
 use Rattle.machine.specs.Theorem.KeepEffect.{Steady, steady-was, steady-is, steady-reach, steady-absent, steady-absentWas, steady-plain}
 
--- slot k of frame f is y, and its page dirty
-pub record LinkedView (v w : View) (f k y : ℕ) : Type 0 where
+-- slot k of frame f is y, with the mark l, and its page dirty
+pub record LinkedView (v w : View) (f k y : ℕ) (l : Bool) : Type 0 where
   pub steady : Steady v w
   pub pins : (g : ℕ) → w .pins g ≡ v .pins g
   pub dirtyF : w .dirty f ≡ true
@@ -22,15 +22,22 @@ pub record LinkedView (v w : View) (f k y : ℕ) : Type 0 where
   pub word : w .word f k ≡ y
   pub wordPage : (g j : ℕ) → g < v .F → j < slotCount → g ≢ f → w .word g j ≡ v .word g j
   pub wordSlot : (g j : ℕ) → g < v .F → j < slotCount → j ≢ k → w .word g j ≡ v .word g j
+  pub mark : w .mark f k ≡ l
+  pub markPage : (g j : ℕ) → g < v .F → j < slotCount → g ≢ f → w .mark g j ≡ v .mark g j
+  pub markSlot : (g j : ℕ) → g < v .F → j < slotCount → j ≢ k → w .mark g j ≡ v .mark g j
   pub bytes : (g i : ℕ) → g < v .F → payloadStart ≤ i → i < pageSize → w .bytes g i ≡ v .bytes g i
   pub storeWord : (p j : ℕ) → p < v .N → j < slotCount → w .storeWord p j ≡ v .storeWord p j
+  pub storeMark : (p j : ℕ) → p < v .N → j < slotCount → w .storeMark p j ≡ v .storeMark p j
   pub storeBytes : (p i : ℕ) → p < v .N → i < pageSize → w .storeBytes p i ≡ v .storeBytes p i
 
--- slot k of page p is y in the map
-pub record MapLinked (m n : Map) (N p k y : ℕ) : Type 0 where
+-- slot k of page p is y in the map, with the mark l
+pub record MapLinked (m n : Map) (N p k y : ℕ) (l : Bool) : Type 0 where
   pub word : n .mapWord p k ≡ y
   pub wordPage : (q j : ℕ) → q < N → j < slotCount → q ≢ p → n .mapWord q j ≡ m .mapWord q j
   pub wordSlot : (q j : ℕ) → q < N → j < slotCount → j ≢ k → n .mapWord q j ≡ m .mapWord q j
+  pub mark : n .mapMark p k ≡ l
+  pub markPage : (q j : ℕ) → q < N → j < slotCount → q ≢ p → n .mapMark q j ≡ m .mapMark q j
+  pub markSlot : (q j : ℕ) → q < N → j < slotCount → j ≢ k → n .mapMark q j ≡ m .mapMark q j
   pub bytes : (q i : ℕ) → q < N → payloadStart ≤ i → i < pageSize → n .mapBytes q i ≡ m .mapBytes q i
 
 -- page y is named by no word of the map, or is 0
@@ -39,30 +46,30 @@ Unnamed m N y = y ≢ 0 → (p k : ℕ) → p < N → k < slotCount → m .mapWo
 
 -- ---- the map stays sound
 
-module _ (m n : Map) (N p k y : ℕ) (M : MapLinked m n N p k y) where
+module _ (m n : Map) (N p k y : ℕ) (l : Bool) (M : MapLinked m n N p k y l) where
   -- a word of the map afterwards
   data MapCase (q j : ℕ) : Type 0 where
-    changed : q ≡ p → j ≡ k → n .mapWord q j ≡ y → MapCase q j
-    stays : n .mapWord q j ≡ m .mapWord q j → MapCase q j
+    changed : q ≡ p → j ≡ k → n .mapWord q j ≡ y → n .mapMark q j ≡ l → MapCase q j
+    stays : n .mapWord q j ≡ m .mapWord q j → n .mapMark q j ≡ m .mapMark q j → MapCase q j
 
   mapCase : (q j : ℕ) → q < N → j < slotCount → MapCase q j
   mapCase q j hq hj = elim (ℕ-discrete q p) [
-    | yes a ↦ elim (ℕ-discrete j k) [ yes b ↦ changed a b (rw (a, b) (M .word)) | no b ↦ stays (M .wordSlot q j hq hj b) ]
-    | no a ↦ stays (M .wordPage q j hq hj a)
+    | yes a ↦ elim (ℕ-discrete j k) [ yes b ↦ changed a b (rw (a, b) (M .word)) (rw (a, b) (M .mark)) | no b ↦ stays (M .wordSlot q j hq hj b) (M .markSlot q j hq hj b) ]
+    | no a ↦ stays (M .wordPage q j hq hj a) (M .markPage q j hq hj a)
   ]
 
   pub link-sound : (roots each : ℕ) → y < N → Unnamed m N y → (y ≢ 0 → NoRoot roots each y) → MapSound m N roots each → MapSound n N roots each
   link-sound roots each yN fresh nr S = record {
-    notRoot = λ q j hq hj z. elim (mapCase q j hq hj) [ changed a b c ↦ rw c (nr (rw c at z)) | stays c ↦ rw c (S .notRoot q j hq hj (rw c at z)) ];
-    below = λ q j hq hj. elim (mapCase q j hq hj) [ changed a b c ↦ rw c yN | stays c ↦ rw c (S .below q j hq hj) ];
+    notRoot = λ q j hq hj z. elim (mapCase q j hq hj) [ changed a b c x ↦ rw c (nr (rw c at z)) | stays c x ↦ rw c (S .notRoot q j hq hj (rw c at z)) ];
+    below = λ q j hq hj. elim (mapCase q j hq hj) [ changed a b c x ↦ rw c yN | stays c x ↦ rw c (S .below q j hq hj) ];
     once = λ q j r i hq hj hr hi z e. elim (mapCase q j hq hj) [
-      | changed a b c ↦ elim (mapCase r i hr hi) [
-        | changed a′ b′ c′ ↦ (a ∙ sym a′, b ∙ sym b′)
-        | stays c′ ↦ absurd (fresh (omega arith) r i hr hi (sym c′ ∙ sym e ∙ c))
+      | changed a b c x ↦ elim (mapCase r i hr hi) [
+        | changed a′ b′ c′ x′ ↦ (a ∙ sym a′, b ∙ sym b′)
+        | stays c′ x′ ↦ absurd (fresh (omega arith) r i hr hi (sym c′ ∙ sym e ∙ c))
       ]
-      | stays c ↦ elim (mapCase r i hr hi) [
-        | changed a′ b′ c′ ↦ absurd (fresh (omega arith) q j hq hj (sym c ∙ e ∙ c′))
-        | stays c′ ↦ S .once q j r i hq hj hr hi (omega arith) (sym c ∙ e ∙ c′)
+      | stays c x ↦ elim (mapCase r i hr hi) [
+        | changed a′ b′ c′ x′ ↦ absurd (fresh (omega arith) q j hq hj (sym c ∙ e ∙ c′))
+        | stays c′ x′ ↦ S .once q j r i hq hj hr hi (omega arith) (sym c ∙ e ∙ c′)
       ]
     ];
   }
@@ -82,7 +89,7 @@ module _ (v : View) (m : Map) (S : Shape v) (C : Content v m) (y : ℕ) (fresh :
 
 -- ---- shape and content
 
-module _ (v w : View) (f k y : ℕ) (S : Shape v) (L : LinkedView v w f k y) (of : Occupied v f) (hk : k < slotCount) (old : Number (v .word f k)) (yN : y < v .N)
+module _ (v w : View) (f k y : ℕ) (l : Bool) (S : Shape v) (L : LinkedView v w f k y l) (of : Occupied v f) (hk : k < slotCount) (old : Number (v .word f k)) (yN : y < v .N)
     (m : Map) (C : Content v m) (fresh : Unnamed m (v .N) y) (noRoot : y ≢ 0 → NoRoot (v .roots) (v .each) y) where
   abbrev T : Steady v w
   T = L .steady
@@ -160,10 +167,31 @@ module _ (v w : View) (f k y : ℕ) (S : Shape v) (L : LinkedView v w f k y) (of
     reach = λ g o. steady-reach v w T g (S .reach g (was g o));
   }
 
-  module _ (n : Map) (M : MapLinked m n (v .N) (v .page f) k y) where
+  -- where the page that changes isn't locked, and nothing gets no mark
+  module _ (n : Map) (M : MapLinked m n (v .N) (v .page f) k y l) (free : Free m (v .N) (v .page f)) (bare : y ≡ 0 → l ≡ false) where
     -- the map's word of any other place of a page, resident or not
     mapSame : (p j : ℕ) → p < v .N → j < slotCount → (p ≡ v .page f → j ≡ k → ⊥) → n .mapWord p j ≡ m .mapWord p j
-    mapSame p j hp hj d = elim (mapCase m n (v .N) (v .page f) k y M p j hp hj) [ changed a b c ↦ absurd (d a b) | stays c ↦ c ]
+    mapSame p j hp hj d = elim (mapCase m n (v .N) (v .page f) k y l M p j hp hj) [ changed a b c e ↦ absurd (d a b) | stays c e ↦ c ]
+
+    markSame : (p j : ℕ) → p < v .N → j < slotCount → (p ≡ v .page f → j ≡ k → ⊥) → n .mapMark p j ≡ m .mapMark p j
+    markSame p j hp hj d = elim (mapCase m n (v .N) (v .page f) k y l M p j hp hj) [ changed a b c e ↦ absurd (d a b) | stays c e ↦ e ]
+
+    -- a frame's mark, where the word isn't the new one
+    frameMarkSame : (g j : ℕ) → Occupied v g → j < slotCount → (g ≡ f → j ≡ k → ⊥) → w .mark g j ≡ v .mark g j
+    frameMarkSame g j o hj d = elim (ℕ-discrete g f) [ yes a ↦ L .markSlot g j (o .lt) hj (d a) | no a ↦ L .markPage g j (o .lt) hj a ]
+
+    -- what is dirty isn't locked, before and after
+    freeWas : (g : ℕ) → Occupied v g → w .dirty g ≡ true → Free m (v .N) (v .page g)
+    freeWas g o d = elim (ℕ-discrete g f) [ yes a ↦ rw a free | no a ↦ C .dirtyFree g o (sym (L .dirty g a) ∙ d) ]
+
+    freeIs : (g : ℕ) → Occupied v g → w .dirty g ≡ true → Free n (v .N) (v .page g)
+    freeIs g o d p j hp hj e = elim (mapCase m n (v .N) (v .page f) k y l M p j hp hj) [
+      | stays c x ↦ x ∙ freeWas g o d p j hp hj (sym c ∙ e)
+      | changed a b c x ↦ x ∙ elim (ℕ-discrete y 0) [
+        | yes z ↦ bare z
+        | no z ↦ absurd (unnamed-absent v m S C y fresh noRoot z g o (sym e ∙ c))
+      ]
+    ]
 
     notF : (g : ℕ) → w .dirty g ≡ false → g ≢ f
     notF g d q = clash (sym (L .dirtyF) ∙ sym (ap (w .dirty) q) ∙ d)
@@ -174,15 +202,24 @@ module _ (v w : View) (f k y : ℕ) (S : Shape v) (L : LinkedView v w f k y) (of
         | hit a b c ↦ rw (c, a, b) (plain-low (w .page) y yLow ∙ sym (M .word))
         | same c d ↦ rw c (steady-plain v w T _ ∙ C .frameWord g j og hj ∙ sym (mapSame (v .page g) j (S .pageLt g og) hj (λ x z. d (S .apart g f og of x) z)))
       ]);
+      frameMark = λ g j o hj. let og : Occupied v g = was g o in rw (T .page g) (elim (wordCase g j og hj) [
+        | hit a b c ↦ rw (a, b) (L .mark ∙ sym (M .mark))
+        | same c d ↦ frameMarkSame g j og hj d ∙ C .frameMark g j og hj ∙ sym (markSame (v .page g) j (S .pageLt g og) hj (λ x z. d (S .apart g f og of x) z))
+      ]);
       frameByte = λ g i o h l. let og : Occupied v g = was g o in
           rw (T .page g) (L .bytes g i (og .lt) h l ∙ C .frameByte g i og h l ∙ sym (M .bytes (v .page g) i (S .pageLt g og) h l));
       absentWord = λ p j hp a hj. let q : p < v .N = rw (T .sameN) at hp in let b : Absent v p = steady-absentWas v w T p a in
           L .storeWord p j q hj ∙ C .absentWord p j q b hj ∙ sym (mapSame p j q hj (λ x z. b f of (sym x)));
+      absentMark = λ p j hp a hj. let q : p < v .N = rw (T .sameN) at hp in let b : Absent v p = steady-absentWas v w T p a in
+          L .storeMark p j q hj ∙ C .absentMark p j q b hj ∙ sym (markSame p j q hj (λ x z. b f of (sym x)));
       absentByte = λ p i hp a h l. let q : p < v .N = rw (T .sameN) at hp in
           L .storeBytes p i q l ∙ C .absentByte p i q (steady-absentWas v w T p a) h l ∙ sym (M .bytes p i q h l);
       cleanWord = λ g j o d hj. let og : Occupied v g = was g o in let q : v .page g < v .N = S .pageLt g og in rw (T .page g)
           (L .storeWord (v .page g) j q hj ∙ C .cleanWord g j og (sym (L .dirty g (notF g d)) ∙ d) hj ∙ sym (mapSame (v .page g) j q hj (λ x z. notF g d (S .apart g f og of x))));
+      cleanMark = λ g j o d hj. let og : Occupied v g = was g o in let q : v .page g < v .N = S .pageLt g og in rw (T .page g)
+          (L .storeMark (v .page g) j q hj ∙ C .cleanMark g j og (sym (L .dirty g (notF g d)) ∙ d) hj ∙ sym (markSame (v .page g) j q hj (λ x z. notF g d (S .apart g f og of x))));
       cleanByte = λ g i o d h l. let og : Occupied v g = was g o in let q : v .page g < v .N = S .pageLt g og in rw (T .page g)
           (L .storeBytes (v .page g) i q l ∙ C .cleanByte g i og (sym (L .dirty g (notF g d)) ∙ d) h l ∙ sym (M .bytes (v .page g) i q h l));
       storePlain = λ p j hp hj. let q : p < v .N = rw (T .sameN) at hp in rw (L .storeWord p j q hj) (C .storePlain p j q hj);
+      dirtyFree = λ g o d. rw (T .sameN, T .page g) (freeIs g (was g o) d);
     }

@@ -31,12 +31,16 @@ pub record Loaded (v w : View) (f k e q : ℕ) : Type 0 where
   pub dirty : (g : ℕ) → g ≢ e → w .dirty g ≡ v .dirty g
   pub pins : (g : ℕ) → g ≢ e → w .pins g ≡ v .pins g
   pub wordE : (j : ℕ) → j < slotCount → w .word e j ≡ v .storeWord q j
+  pub markE : (j : ℕ) → j < slotCount → w .mark e j ≡ v .storeMark q j
   pub bytesE : (i : ℕ) → payloadStart ≤ i → i < pageSize → w .bytes e i ≡ v .storeBytes q i
   pub wordAtParent : w .word f k ≡ frameWord e
   pub wordPage : (g j : ℕ) → g < v .F → j < slotCount → g ≢ e → g ≢ f → w .word g j ≡ v .word g j
   pub wordSlot : (g j : ℕ) → g < v .F → j < slotCount → g ≢ e → j ≢ k → w .word g j ≡ v .word g j
+  -- its mark stays, as all marks do
+  pub mark : (g j : ℕ) → g < v .F → j < slotCount → g ≢ e → w .mark g j ≡ v .mark g j
   pub bytes : (g i : ℕ) → g < v .F → payloadStart ≤ i → i < pageSize → g ≢ e → w .bytes g i ≡ v .bytes g i
   pub storeWord : (p j : ℕ) → p < v .N → j < slotCount → w .storeWord p j ≡ v .storeWord p j
+  pub storeMark : (p j : ℕ) → p < v .N → j < slotCount → w .storeMark p j ≡ v .storeMark p j
   pub storeBytes : (p i : ℕ) → p < v .N → i < pageSize → w .storeBytes p i ≡ v .storeBytes p i
 
 -- the words of the stored page q may come in: below N, none of them named by a resident page, each once
@@ -259,19 +263,32 @@ module _ (v w : View) (f k e q : ℕ) (S : Shape v) (L : Loaded v w f k e q) (of
     pub load-content : Content w m
     load-content = record {
       frameWord = frameWord′;
+      frameMark = λ g j o hj. elim (ℕ-discrete g e) [
+        | yes a ↦ rw (a, L .pageE) (L .markE j hj ∙ C .absentMark q j qN qAbsent hj)
+        | no a ↦ rw (L .mark g j (was g o a .lt) hj a, L .page g a) (C .frameMark g j (was g o a) hj)
+      ];
       frameByte = λ g i o h l. elim (ℕ-discrete g e) [
         | yes a ↦ rw (a, L .pageE) (L .bytesE i h l ∙ C .absentByte q i qN qAbsent h l)
         | no a ↦ rw (L .bytes g i (was g o a .lt) h l a, L .page g a) (C .frameByte g i (was g o a) h l)
       ];
       absentWord = λ p j hp a hj. L .storeWord p j (rw (L .sameN) at hp) hj ∙ C .absentWord p j (rw (L .sameN) at hp) (absentWas p a) hj;
+      absentMark = λ p j hp a hj. L .storeMark p j (rw (L .sameN) at hp) hj ∙ C .absentMark p j (rw (L .sameN) at hp) (absentWas p a) hj;
       absentByte = λ p i hp a h l. L .storeBytes p i (rw (L .sameN) at hp) l ∙ C .absentByte p i (rw (L .sameN) at hp) (absentWas p a) h l;
       cleanWord = λ g j o d hj. elim (ℕ-discrete g e) [
         | yes a ↦ rw (a, L .pageE) (L .storeWord q j qN hj ∙ C .absentWord q j qN qAbsent hj)
         | no a ↦ rw (L .page g a) (L .storeWord (v .page g) j (S .pageLt g (was g o a)) hj ∙ C .cleanWord g j (was g o a) (sym (L .dirty g a) ∙ d) hj)
+      ];
+      cleanMark = λ g j o d hj. elim (ℕ-discrete g e) [
+        | yes a ↦ rw (a, L .pageE) (L .storeMark q j qN hj ∙ C .absentMark q j qN qAbsent hj)
+        | no a ↦ rw (L .page g a) (L .storeMark (v .page g) j (S .pageLt g (was g o a)) hj ∙ C .cleanMark g j (was g o a) (sym (L .dirty g a) ∙ d) hj)
       ];
       cleanByte = λ g i o d h l. elim (ℕ-discrete g e) [
         | yes a ↦ rw (a, L .pageE) (L .storeBytes q i qN l ∙ C .absentByte q i qN qAbsent h l)
         | no a ↦ rw (L .page g a) (L .storeBytes (v .page g) i (S .pageLt g (was g o a)) l ∙ C .cleanByte g i (was g o a) (sym (L .dirty g a) ∙ d) h l)
       ];
       storePlain = λ p j hp hj. rw (L .storeWord p j (rw (L .sameN) at hp) hj) (C .storePlain p j (rw (L .sameN) at hp) hj);
+      dirtyFree = λ g o d p j hp hj x. elim (ℕ-discrete g e) [
+        | yes a ↦ absurd (clash (sym d ∙ ap (w .dirty) a ∙ L .dirtyE))
+        | no a ↦ C .dirtyFree g (was g o a) (sym (L .dirty g a) ∙ d) p j (rw (L .sameN) at hp) hj (x ∙ L .page g a)
+      ];
     }

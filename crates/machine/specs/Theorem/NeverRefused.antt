@@ -19,7 +19,7 @@ module _ (x : Point) (I : Invariant x) where
   refusal-usual (peek q) n e = denied-of _ _ _ _ (peek-case x I q) (place-accepted (x .now) (q .0)) n e
   refusal-usual (word h k) n e = denied-of _ _ _ _ (word-case x I h k) refl n e
   refusal-usual (write h offset d) n e = denied-of _ _ _ _ (write-case x I h offset d) refl n e
-  refusal-usual (link h k q) n e = denied-of _ _ _ _ (link-case x I h k q) refl n e
+  refusal-usual (link h k q l) n e = denied-of _ _ _ _ (link-case x I h k q l) refl n e
   refusal-usual (unlink h k) n e = denied-of _ _ _ _ (unlink-case x I h k) refl n e
   refusal-usual (evict q) n e = denied-of _ _ _ _ (evict-case x I q) refl n e
   refusal-usual settle n e = denied-of _ _ _ _ (settle-case x I) refl n e

@@ -2,11 +2,11 @@
 use Prim.Native.Nat.{ℕ, _<_, _≤_}
 use mathlib.Core.Path.{_≡_, refl, sym, _∙_, ap}
 use mathlib.Core.Logic.{_≢_}
-use mathlib.Core.Bool.{true}
+use mathlib.Core.Bool.{Bool, true}
 use native.Mathlib.Omega.{arith}
 use native.Mathlib.Decide.{ℕ-discrete}
 use Rattle.page.specs.Figures.{pageSize, slotCount, payloadStart}
-use Rattle.page.specs.Word.{isNumber, frameWord, Number, yes-number, reading, low, high, numberWord, renamed, renamed-own}
+use Rattle.page.specs.Word.{isNumber, frameWord, Number, yes-number, reading, low, high, numberWord, renamed, renamed-same, marked}
 use Rattle.page.specs.Page.{slot, name, byte}
 use Rattle.machine.specs.Machine.{recordAt, occupied, blank}
 use Rattle.machine.specs.Moves.{plain}
@@ -18,7 +18,7 @@ use Rattle.machine.specs.Theorem.View.{view, Reach, top, via, Occupied, 
 use Rattle.machine.specs.Theorem.Invariant.{Invariant}
 use Rattle.machine.specs.Theorem.Holders.{Holder, occupied-of}
 use Rattle.machine.specs.Theorem.InvariantReads.{blank-record}
-use Rattle.machine.specs.Theorem.Reads.{held-word, held-byte, stored-number}
+use Rattle.machine.specs.Theorem.Reads.{held-word, held-mark, parent-word, held-byte, stored-number}
 use Rattle.machine.specs.Theorem.Residence.{in-frame, resident-of, holder, pinned-holder}
 
 -- a word of page p in frame f against the map's: a number, of no resident page, or swizzled to the frame of the page that the map's names
@@ -52,10 +52,7 @@ module _ (x : Point) (I : Invariant x) where
 
   -- the parent's word in the map
   parent-names : (f : ℕ) → Occupied (view (x .now)) f → (P : Parent (view (x .now)) f) → Names x (view (x .now) .page (view (x .now) .up f)) (view (x .now) .upSlot f) (view (x .now) .page f)
-  parent-names f o P = record {
-    inPage = P .inPage;
-    word = sym (I .content .frameWord _ _ (P .occupied) (P .inPage)) ∙ ap (plain (view (x .now) .page)) (P .names) ∙ plain-high (view (x .now) .page) f;
-  }
+  parent-names f o P = record { inPage = P .inPage; word = parent-word x I f P }
 
   parent-resident : (f : ℕ) → Parent (view (x .now)) f → Resident x (view (x .now) .page (view (x .now) .up f))
   parent-resident f P = resident-of x I _ (view (x .now) .up f) (record { at = P .occupied; page = refl })
@@ -117,12 +114,15 @@ module _ (x : Point) (I : Invariant x) where
         (resident-of x I c j (record { at = k .at; page = k .page ∙ m .word })))
   ]
 
-  -- the whole words, put in the place of the map's
+  -- the whole words, put in the place of the map's: with its mark
+  whole-word : (p f k n : ℕ) → InFrame x p f → k < slotCount → name (x .now .frames) f k ≡ n → slot (x .now .frames) f k ≡ renamed (slot (x .map) p k) n
+  whole-word p f k n a l e = renamed-same (slot (x .now .frames) f k) n e ∙ ap (λ (m : Bool). marked m n) (held-mark x I p f k (holder x I p f a) l)
+
   pub swizzled-whole : (p f k c g : ℕ) → InFrame x p f → Names x p k c → c ≢ 0 → InFrame x c g → slot (x .now .frames) f k ≡ renamed (slot (x .map) p k) (frameWord g)
-  swizzled-whole p f k c g a m n b = renamed-own (slot (x .map) p k) _ _ (swizzled-word p f k c g a m n b)
+  swizzled-whole p f k c g a m n b = whole-word p f k (frameWord g) a (m .inPage) (swizzled-word p f k c g a m n b)
 
   pub number-whole : (p f k c : ℕ) → InFrame x p f → Names x p k c → (c ≢ 0 → Resident x c → ⊥) → slot (x .now .frames) f k ≡ renamed (slot (x .map) p k) (numberWord c)
-  number-whole p f k c a m n = renamed-own (slot (x .map) p k) _ _ (number-word p f k c a m n)
+  number-whole p f k c a m n = whole-word p f k c a (m .inPage) (number-word p f k c a m n)
 
   pub store-plain : (p k : ℕ) → p < x .now .pool .pages → k < slotCount → isNumber (name (x .now .store) p k) ≡ true
   store-plain p k hp hk = yes-number (name (x .now .store) p k) (stored-number x I p k hp hk)

@@ -7,7 +7,7 @@ use mathlib.Core.Bool.{Bool, true, false}
 use Prim.Native.Nat.{ℕ, _*_, _≤_, _<_}
 use Rattle.page.specs.Figures.{pageSize, slotCount, payloadStart, leastFrames, mostFrames, mostPages}
 use Rattle.page.specs.Word.{frameWord, Number}
-use Rattle.page.specs.Page.{name, byte}
+use Rattle.page.specs.Page.{name, lock, byte}
 use Rattle.machine.specs.Machine.{State, isUsed, isDirty, recordAt, pageIn}
 use Rattle.machine.specs.Moves.{plain}
 
@@ -23,9 +23,12 @@ pub record View : Type 0 where
   pub upSlot : ℕ → ℕ
   pub pins : ℕ → ℕ
   pub dirty : ℕ → Bool
+  -- a word: what it names, and its mark
   pub word : ℕ → ℕ → ℕ
+  pub mark : ℕ → ℕ → Bool
   pub bytes : ℕ → ℕ → ℕ
   pub storeWord : ℕ → ℕ → ℕ
+  pub storeMark : ℕ → ℕ → Bool
   pub storeBytes : ℕ → ℕ → ℕ
 
 abbrev pub view : State → View
@@ -41,8 +44,10 @@ view s = record {
   pins = λ f. recordAt (s .pool .records) f .pins;
   dirty = λ f. isDirty (recordAt (s .pool .records) f);
   word = λ f k. name (s .frames) f k;
+  mark = λ f k. lock (s .frames) f k;
   bytes = λ f i. byte (s .frames) f i;
   storeWord = λ p k. name (s .store) p k;
+  storeMark = λ p k. lock (s .store) p k;
   storeBytes = λ p i. byte (s .store) p i;
 }
 
@@ -97,17 +102,26 @@ NoRoot roots each p = (t : ℕ) → t < roots → p ≢ each * t
 -- the plain map, as functions
 pub record Map : Type 0 where
   pub mapWord : ℕ → ℕ → ℕ
+  pub mapMark : ℕ → ℕ → Bool
   pub mapBytes : ℕ → ℕ → ℕ
 
--- frames and store hold the map's pages
+-- no marked word of the map names page p
+abbrev pub Free : Map → ℕ → ℕ → Type 0
+Free m N p = (q k : ℕ) → q < N → k < slotCount → m .mapWord q k ≡ p → m .mapMark q k ≡ false
+
+-- frames and store hold the map's pages, and what is dirty isn't locked
 pub record Content (v : View) (m : Map) : Type 0 where
   pub frameWord : (f k : ℕ) → Occupied v f → k < slotCount → plain (v .page) (v .word f k) ≡ m .mapWord (v .page f) k
+  pub frameMark : (f k : ℕ) → Occupied v f → k < slotCount → v .mark f k ≡ m .mapMark (v .page f) k
   pub frameByte : (f i : ℕ) → Occupied v f → payloadStart ≤ i → i < pageSize → v .bytes f i ≡ m .mapBytes (v .page f) i
   pub absentWord : (p k : ℕ) → p < v .N → Absent v p → k < slotCount → v .storeWord p k ≡ m .mapWord p k
+  pub absentMark : (p k : ℕ) → p < v .N → Absent v p → k < slotCount → v .storeMark p k ≡ m .mapMark p k
   pub absentByte : (p i : ℕ) → p < v .N → Absent v p → payloadStart ≤ i → i < pageSize → v .storeBytes p i ≡ m .mapBytes p i
   pub cleanWord : (f k : ℕ) → Occupied v f → v .dirty f ≡ false → k < slotCount → v .storeWord (v .page f) k ≡ m .mapWord (v .page f) k
+  pub cleanMark : (f k : ℕ) → Occupied v f → v .dirty f ≡ false → k < slotCount → v .storeMark (v .page f) k ≡ m .mapMark (v .page f) k
   pub cleanByte : (f i : ℕ) → Occupied v f → v .dirty f ≡ false → payloadStart ≤ i → i < pageSize → v .storeBytes (v .page f) i ≡ m .mapBytes (v .page f) i
   pub storePlain : (p k : ℕ) → p < v .N → k < slotCount → Number (v .storeWord p k)
+  pub dirtyFree : (f : ℕ) → Occupied v f → v .dirty f ≡ true → Free m (v .N) (v .page f)
 
 -- the map is a sound store
 pub record MapSound (m : Map) (N roots each : ℕ) : Type 0 where

@@ -1,12 +1,10 @@
 -- `seen::mark_numbers` meets its contract: the numbers before place k are marked. Assumes nothing.
 use borrow.Author.Needs.{needs}
-use borrow.Author.Tests.{not-true, not-false}
 use Prim.Native.Nat.{_≤_, _-_}
 use mathlib.Core.Path.{_≡_, refl}
-use mathlib.Core.Logic.{⊎-elim}
 use native.Mathlib.Omega.{arith}
 use Rattle.page.specs.Figures.{slotCount, mostPages}
-use Rattle.seen.specs.Fold.{flag-cleared, flag-kept}
+use Rattle.seen.specs.Fold.{flag-and}
 use Rattle.seen.specs.Seen.{rowOf, Marked}
 use Rattle.seen.specs.SeenLaws.{marked-none, marked-more}
 use Rattle.seen.proofs.mark_numbers.Statement.{statement}
@@ -44,14 +42,11 @@ loop-less c = search needs
 
 loop-again : tie.Need-loop-again Inv-loop μ-loop
 loop-again c =
-    let at-note = c .before in
-    let at-numbers = at-note .before .before .before .before in
+    let at-numbers = c .before .before .before .before in
     let at-entry = at-numbers .before in
     let l = at-numbers .loop in (
       omega arith,
-      marked-more _ _ _ (l .k) (omega arith) (l .seen) _ refl (λ n. at-entry .pre .0 (l .k) (omega arith)) _ _ (at-note .note .ensures) _ _
-          (⊎-elim (λ a. flag-cleared (l .fresh) (not-true _ (a .0 .taken)) (a .1)) (λ a. flag-kept (l .fresh) (not-false _ (a .0 .left)) (a .1)) (c .if1 .came))
-          (l .inv .1),
+      marked-more _ _ _ (l .k) (omega arith) (l .seen) _ refl (λ n. at-entry .pre .0 (l .k) (omega arith)) _ _ (c .note .ensures) _ _ (flag-and (l .fresh) _) (l .inv .1),
     )
 
 returns : tie.Need-returns Inv-loop μ-loop

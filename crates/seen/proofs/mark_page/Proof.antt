@@ -1,7 +1,7 @@
 -- `seen::mark_page` meets its contract: the first words are marked, and the others unless they are all 0. Assumes nothing.
 use borrow.Author.Needs.{needs}
 use borrow.Author.Tests.{not-true, not-false}
-use mathlib.Core.Path.{_≡_, sym, _∙_}
+use mathlib.Core.Path.{sym, _∙_}
 use native.Mathlib.Omega.{arith}
 use Rattle.seen.specs.SeenLaws.{marked-none, marked-false, marked-over}
 use Rattle.seen.proofs.mark_page.Statement.{statement}
@@ -18,17 +18,17 @@ returns c =
     marked-false _ _ _ _ _ (omega arith) _ _
     (rw (not-true (at-mark-slots .mark-slots .result) (c .if1 .taken)) at (at-mark-slots .mark-slots .ensures .onward _ (marked-none _ _ _ (at-entry .pre .2))))
 
-sub-name-at : tie.Need-sub-name-at
-sub-name-at c = search needs
+sub-word-at : tie.Need-sub-word-at
+sub-word-at c = search needs
 
-mul-name-at : tie.Need-mul-name-at
-mul-name-at c = search needs
+mul-word-at : tie.Need-mul-word-at
+mul-word-at c = search needs
 
-add-name-at : tie.Need-add-name-at
-add-name-at c = search needs
+add-word-at : tie.Need-add-word-at
+add-word-at c = search needs
 
-name-at-requires : tie.Need-name-at-requires
-name-at-requires c κs = search needs
+word-at-requires : tie.Need-word-at-requires
+word-at-requires c κs = search needs
 
 mul-has-any : tie.Need-mul-has-any
 mul-has-any c = search needs
@@ -70,10 +70,10 @@ mark-page-spec =
     (tie.spec
     mark-slots-requires
     returns
-    sub-name-at
-    mul-name-at
-    add-name-at
-    name-at-requires
+    sub-word-at
+    mul-word-at
+    add-word-at
+    word-at-requires
     mul-has-any
     add-has-any
     sub-has-any

@@ -1,14 +1,17 @@
--- `seen::mark_slots` meets its contract: the words from `first` to slot k are marked. Assumes nothing.
+-- `seen::mark_slots` meets its contract: the words from `first` to slot k are marked, each of which is its own name. Assumes nothing.
 use borrow.Author.Needs.{needs}
 use borrow.Author.Tests.{not-true, not-false}
-use Prim.Native.Nat.{_≤_, _-_}
-use mathlib.Core.Path.{_≡_, refl, sym, _∙_}
+use Prim.Native.Nat.{ℕ, _<_, _≤_, _-_}
+use mathlib.Core.Path.{_≡_, refl, sym, ap, _∙_}
 use mathlib.Core.Bool.{true}
+use mathlib.Core.List.{List}
 use mathlib.Core.Logic.{⊎-elim}
 use native.Mathlib.Omega.{arith}
+use Rattle.page.specs.Figures.{mostPages}
+use Rattle.page.specs.Word.{wordAt, nameOf, nameAt, name-number}
 use Rattle.page.specs.Page.{wordsFrom}
 use Rattle.seen.specs.Seen.{MarksOn}
-use Rattle.seen.specs.SeenLaws.{mark-notes, notes-zero, marks-none, marks-more, marks-large, marks-false}
+use Rattle.seen.specs.SeenLaws.{mark-notes, notes-zero, marks-none, marks-more, marks-false, marks-then}
 use Rattle.seen.proofs.mark_slots.Statement.{statement}
 use Rattle.seen.proofs.mark_slots.Tie as tie
 
@@ -18,29 +21,33 @@ Inv-loop buffer at first end limit seen₀ k₀ seen k = (k ≤ end) × MarksOn 
 abbrev μ-loop : tie.MeasureT-loop
 μ-loop buffer at first end limit seen₀ k₀ seen k = end - k
 
+own-name : (b : List ℕ) (a w : ℕ) → w ≡ wordAt b a → w < mostPages → nameAt b a ≡ w
+own-name b a w e l = ap nameOf (sym e) ∙ name-number w l
+
 loop-holds : tie.Need-loop-holds Inv-loop μ-loop
 loop-holds c = (omega arith, marks-none _ _ _ _)
 
-mul-name-at : tie.Need-mul-name-at Inv-loop μ-loop
-mul-name-at c = search needs
+mul-word-at : tie.Need-mul-word-at Inv-loop μ-loop
+mul-word-at c = search needs
 
-add-name-at : tie.Need-add-name-at Inv-loop μ-loop
-add-name-at c = search needs
+add-word-at : tie.Need-add-word-at Inv-loop μ-loop
+add-word-at c = search needs
 
-name-at-requires : tie.Need-name-at-requires Inv-loop μ-loop
-name-at-requires c κs = search needs
+word-at-requires : tie.Need-word-at-requires Inv-loop μ-loop
+word-at-requires c κs = search needs
 
 cast-w : tie.Need-cast-w Inv-loop μ-loop
 cast-w c = search needs
 
--- a word that isn't below the limit
+mark-names-requires : tie.Need-mark-names-requires Inv-loop μ-loop
+mark-names-requires c κs = search needs
+
+-- from a word that isn't below the limit on, by names
 returns : tie.Need-returns Inv-loop μ-loop
 returns c =
-    let past-zero = c .before in
-    let at-name = past-zero .before in
-    let l = at-name .before .before .loop in
-    marks-false _ _ _ _ _ _ (omega arith) _
-    (marks-large _ _ _ _ (l .k) _ (sym (at-name .name-at .ensures)) (past-zero .if1 .taken) (c .if2 .taken) _)
+    let at-word = c .before .before .before in
+    let l = at-word .before .before .before .loop in
+    marks-then _ _ _ (l .k) _ _ (l .seen) _ _ (l .inv .1) (c .mark-names .ensures)
 
 mark-requires : tie.Need-mark-requires Inv-loop μ-loop
 mark-requires c κs = search needs
@@ -50,10 +57,10 @@ returns-2 : tie.Need-returns-2 Inv-loop μ-loop
 returns-2 c =
     let at-mark = c .before in
     let past-zero = at-mark .before .before .before in
-    let at-name = past-zero .before in
-    let l = at-name .before .before .loop in
+    let at-word = past-zero .before in
+    let l = at-word .before .before .loop in
     marks-false _ _ _ _ _ _ (omega arith) _
-    (marks-more _ _ _ _ (omega arith) (l .k) (l .seen) _ (sym (at-name .name-at .ensures)) (λ n. omega arith) _ _ (λ t. mark-notes _ _ (omega arith) (at-mark .mark .ensures) (past-zero .if1 .taken)) _ (sym (not-true _ (c .if3 .taken))) (l .inv .1))
+    (marks-more _ _ _ _ (omega arith) (l .k) (l .seen) _ (own-name _ _ _ (at-word .word-at .ensures) (omega arith)) (λ n. omega arith) _ _ (λ t. mark-notes _ _ (omega arith) (at-mark .mark .ensures) (past-zero .if1 .taken)) _ (sym (not-true _ (c .if3 .taken))) (l .inv .1))
 
 add-k : tie.Need-add-k Inv-loop μ-loop
 add-k c = search needs
@@ -63,13 +70,13 @@ loop-less c = search needs
 
 loop-again : tie.Need-loop-again Inv-loop μ-loop
 loop-again c =
-    let at-name = c .before in
-    let l = at-name .before .before .loop in
-    let e = at-name .name-at .ensures in (
+    let at-word = c .before in
+    let l = at-word .before .before .loop in
+    let e = at-word .word-at .ensures in (
       omega arith,
       ⊎-elim
-          (λ a. rw (a .5) (marks-more _ _ _ _ (omega arith) (l .k) (l .seen) _ (sym e) (λ n. omega (arith, a .1 .left)) _ _ (λ t. mark-notes _ _ (omega (arith, a .1 .left)) (a .3 .ensures) (a .0 .taken)) _ (sym (not-false _ (a .4 .left))) (l .inv .1)))
-          (λ a. rw (a .1) (marks-more _ _ _ _ (omega arith) (l .k) (l .seen) _ (sym e ∙ a .0 .left) (λ n. absurd (n refl)) _ _ (notes-zero _) _ refl (l .inv .1)))
+          (λ a. rw (a .5) (marks-more _ _ _ _ (omega arith) (l .k) (l .seen) _ (own-name _ _ _ e (omega (arith, a .1 .left))) (λ n. omega (arith, a .1 .left)) _ _ (λ t. mark-notes _ _ (omega (arith, a .1 .left)) (a .3 .ensures) (a .0 .taken)) _ (sym (not-false _ (a .4 .left))) (l .inv .1)))
+          (λ a. rw (a .1) (marks-more _ _ _ _ (omega arith) (l .k) (l .seen) _ (own-name _ _ _ (sym (a .0 .left) ∙ e) (omega arith)) (λ n. absurd (n refl)) _ _ (notes-zero _) _ refl (l .inv .1)))
           (c .if1 .came),
     )
 
@@ -87,10 +94,11 @@ mark-slots-spec =
     Inv-loop
     μ-loop
     loop-holds
-    mul-name-at
-    add-name-at
-    name-at-requires
+    mul-word-at
+    add-word-at
+    word-at-requires
     cast-w
+    mark-names-requires
     returns
     mark-requires
     returns-2

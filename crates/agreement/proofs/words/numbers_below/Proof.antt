@@ -6,7 +6,7 @@ use mathlib.Core.List.{List}
 use native.Mathlib.Omega.{arith}
 use lib.ListN.{set, replicate}
 use Rattle.page.specs.Figures.{slotCount, wordSize}
-use Rattle.page.specs.Word.{nameAt}
+use Rattle.page.specs.Word.{wordAt}
 use Rattle.seen.specs.Fold.{fold, fold-none, fold-more}
 use Rattle.agreement.specs.Fit.{numberBelow, fill}
 use Rattle.agreement.specs.FitLaws.{below-of}
@@ -14,7 +14,7 @@ use Rattle.agreement.proofs.words.numbers_below.Statement.{statement}
 use Rattle.agreement.proofs.words.numbers_below.Tie as tie
 
 abbrev row : List ℕ → ℕ → ℕ → ℕ → ℕ
-row frames start pages k = numberBelow pages (nameAt frames (start + wordSize * k))
+row frames start pages k = numberBelow pages (wordAt frames (start + wordSize * k))
 
 abbrev Inv-loop : tie.InvT-loop
 Inv-loop frames start pages numbers₀ k₀ numbers k = (k ≤ slotCount) × (numbers ≡ fold (fill (row frames start pages)) (replicate slotCount 0) k)
@@ -25,14 +25,14 @@ abbrev μ-loop : tie.MeasureT-loop
 loop-holds : tie.Need-loop-holds Inv-loop μ-loop
 loop-holds c = (omega arith, fold-none _ _)
 
-mul-name-at : tie.Need-mul-name-at Inv-loop μ-loop
-mul-name-at c = search needs
+mul-word-at : tie.Need-mul-word-at Inv-loop μ-loop
+mul-word-at c = search needs
 
-add-name-at : tie.Need-add-name-at Inv-loop μ-loop
-add-name-at c = search needs
+add-word-at : tie.Need-add-word-at Inv-loop μ-loop
+add-word-at c = search needs
 
-name-at-requires : tie.Need-name-at-requires Inv-loop μ-loop
-name-at-requires c κs = search needs
+word-at-requires : tie.Need-word-at-requires Inv-loop μ-loop
+word-at-requires c κs = search needs
 
 number-below-requires : tie.Need-number-below-requires Inv-loop μ-loop
 number-below-requires c κs = search needs
@@ -52,7 +52,7 @@ loop-less c = search needs
 loop-again : tie.Need-loop-again Inv-loop μ-loop
 loop-again c =
     let l = c .before .before .before .loop in
-    let e = c .number-below .ensures ∙ ap (numberBelow (c .before .before .before .before .before .args .pages)) (c .before .name-at .ensures) in
+    let e = c .number-below .ensures ∙ ap (numberBelow (c .before .before .before .before .before .args .pages)) (c .before .word-at .ensures) in
     (omega arith, fold-more _ _ _ (l .inv .1) (ap (set (l .numbers) (l .k)) e))
 
 returns : tie.Need-returns Inv-loop μ-loop
@@ -65,9 +65,9 @@ numbers-below-spec =
     Inv-loop
     μ-loop
     loop-holds
-    mul-name-at
-    add-name-at
-    name-at-requires
+    mul-word-at
+    add-word-at
+    word-at-requires
     number-below-requires
     mul-numbers
     array-write-numbers

@@ -1,7 +1,7 @@
--- `changes::refusals::link_refusal` meets its contract: the rules of the slot, and then rules 6, 9, by the tables, and 8. Assumes nothing.
+-- `changes::refusals::link_refusal` meets its contract: the rules of a change, and then rules 6, 9, by the tables, and 8. Assumes nothing.
 use Prim.Native.Nat.{ℕ, _/_, _≤_, _<_}
 use mathlib.Core.Path.{_≡_, sym, ap, _∙_}
-use mathlib.Core.Bool.{Bool, true, false, not}
+use mathlib.Core.Bool.{true, false, not}
 use mathlib.Core.List.{List, [], _∷_}
 use native.Mathlib.Omega.{arith}
 use borrow.Author.Tests.{lt-ltb, le-ltb, eq-eqb, ne-eqb}
@@ -14,7 +14,7 @@ use Rattle.machine.specs.Machine.{State, state}
 use Rattle.machine.specs.Naming.{named}
 use Rattle.machine.specs.Rules.{wordOf, rule6-link, rule8, rule9}
 use Rattle.machine.specs.Calls.{linkRules}
-use Rattle.machine.specs.Laws.RuleLaws.{SlotKept, slot-kept, slot-stops, slot-passes}
+use Rattle.machine.specs.Laws.RuleLaws.{EditKept, edit-kept, edit-stops, edit-passes}
 use Rattle.seen.specs.Seen.{Seen}
 use Rattle.residents.specs.Handed.{Handed}
 use Rattle.naming.specs.NamedByTables.{namedBy, named-by-tables}
@@ -22,12 +22,12 @@ use borrow.Author.Needs.{needs}
 use Rattle.changes.proofs.refusals.link_refusal.Statement.{statement}
 use Rattle.changes.proofs.refusals.link_refusal.Tie as tie
 
--- the points that are gone by: the start, past the rules of the slot, past rule 6
+-- the points that are gone by: the start, past the rules of a change, past rule 6
 abbrev start : tie.Else1 → tie.Start
 start c = c .before .before .before .before .before .before
 
-abbrev past-slot : tie.Else3 → tie.Else1
-past-slot c = c .before .before .before .before
+abbrev past-change : tie.Else3 → tie.Else1
+past-change c = c .before .before .before .before
 
 abbrev past-number : tie.After-is-named → tie.Else3
 past-number c = c .before .before .before
@@ -35,7 +35,7 @@ past-number c = c .before .before .before
 abbrev given : tie.Start → State
 given c = let a = c .args in state (a .pool) (a .frames .now) (a .store .now)
 
--- what comes after rule 6, and after the rules of the slot
+-- what comes after rule 6, and after the rules of a change
 abbrev last : tie.Start → List Rule
 last c = let s = given c in rule9 s (c .args .page .0) ∷ rule8 (wordOf s (c .args .handle) (c .args .slot)) ∷ []
 
@@ -52,48 +52,48 @@ past-pages q n h l = sym (and-yes (lt-ltb 0 q (omega arith)) (sym (le-ltb q n l)
 a-page : (q n : ℕ) → (q ≡ 0 → ⊥) → q < n → (ltb 0 q and ltb q n) ≡ true
 a-page q n h l = sym (and-yes (lt-ltb 0 q (omega arith)) (sym (lt-ltb q n l)))
 
--- past the rules of the slot, and then by the rest
-kept : (c : tie.Else1) → let a = start c .args in SlotKept (given (start c)) (a .handle) (a .slot)
-kept c = let a = start c .args in slot-kept (given (start c)) (a .handle) (a .slot) (sym (c .before .slot-refusal .ensures .0) ∙ c .if1 .left)
+-- past the rules of a change, and then by the rest
+kept : (c : tie.Else1) → let a = start c .args in EditKept (given (start c)) (a .handle) (a .slot)
+kept c = let a = start c .args in edit-kept (given (start c)) (a .handle) (a .slot) (sym (c .before .edit-refusal .ensures .0) ∙ c .if1 .left)
 
 passed : (c : tie.Else1) {m : ℕ} → m ≡ firstBroken (rest (start c)) → let a = start c .args in m ≡ firstBroken (linkRules (given (start c)) (a .handle) (a .slot) (a .page))
-passed c = let a = start c .args in slot-passes (given (start c)) (a .handle) (a .slot) (rest (start c)) (c .before .slot-refusal .ensures .0) (c .if1 .left)
+passed c = let a = start c .args in edit-passes (given (start c)) (a .handle) (a .slot) (rest (start c)) (c .before .edit-refusal .ensures .0) (c .if1 .left)
 
 -- N by the store's length
 stored : (c : tie.Else1) → let a = start c .args in length (a .store .now) / pageSize ≡ a .pool .pages
 stored c = omega (arith, kept c .kept .sized .store)
 
 -- past rule 6
-below : (c : tie.Else3) → let a = start (past-slot c) .args in a .page .0 < a .pool .pages
-below c = omega (arith, stored (past-slot c), c .if3 .left)
+below : (c : tie.Else3) → let a = start (past-change c) .args in a .page .0 < a .pool .pages
+below c = omega (arith, stored (past-change c), c .if3 .left)
 
-numbered : (c : tie.Else3) → let a = start (past-slot c) .args in (ltb 0 (a .page .0) and ltb (a .page .0) (a .pool .pages)) ≡ true
+numbered : (c : tie.Else3) → let a = start (past-change c) .args in (ltb 0 (a .page .0) and ltb (a .page .0) (a .pool .pages)) ≡ true
 numbered c = a-page _ _ (c .before .before .if2 .left) (below c)
 
-passed-number : (c : tie.Else3) {m : ℕ} → m ≡ firstBroken (last (start (past-slot c))) → let a = start (past-slot c) .args in m ≡ firstBroken (linkRules (given (start (past-slot c))) (a .handle) (a .slot) (a .page))
-passed-number c e = passed (past-slot c) (e ∙ sym (kept-then 6 _ (numbered c)))
+passed-number : (c : tie.Else3) {m : ℕ} → m ≡ firstBroken (last (start (past-change c))) → let a = start (past-change c) .args in m ≡ firstBroken (linkRules (given (start (past-change c))) (a .handle) (a .slot) (a .page))
+passed-number c e = passed (past-change c) (e ∙ sym (kept-then 6 _ (numbered c)))
 
 -- what the tables tell is what rule 9 asks
-told : (c : tie.Else3) {residents : List ℕ} {seen : Seen} → let a = start (past-slot c) .args in Handed (a .pool) (a .frames .now) residents seen
-    → namedBy residents seen (a .store .now) (length (a .store .now) / pageSize) (a .page .0) ≡ named (given (start (past-slot c))) (a .page .0)
+told : (c : tie.Else3) {residents : List ℕ} {seen : Seen} → let a = start (past-change c) .args in Handed (a .pool) (a .frames .now) residents seen
+    → namedBy residents seen (a .store .now) (length (a .store .now) / pageSize) (a .page .0) ≡ named (given (start (past-change c))) (a .page .0)
 told c {residents} {seen} h =
-    let a = start (past-slot c) .args in
+    let a = start (past-change c) .args in
     let z = c .before .before .if2 .left in
-    ap (λ (n : ℕ). namedBy residents seen (a .store .now) n (a .page .0)) (stored (past-slot c)) ∙ named-by-tables (given (start (past-slot c))) (kept (past-slot c) .kept) h (a .page .0) (omega arith) (below c)
+    ap (λ (n : ℕ). namedBy residents seen (a .store .now) n (a .page .0)) (stored (past-change c)) ∙ named-by-tables (given (start (past-change c))) (kept (past-change c) .kept) h (a .page .0) (omega arith) (below c)
 
 -- what rule 9's test answered is whether the page is named
-asked : (c : tie.After-is-named) → let at-start = start (past-slot (past-number c)) in c .is-named .result ≡ named (given at-start) (at-start .args .page .0)
-asked c = let handed = past-slot (past-number c) in c .is-named .ensures ∙ told (past-number c) (handed .before .slot-refusal .ensures .1 (handed .if1 .left))
+asked : (c : tie.After-is-named) → let at-start = start (past-change (past-number c)) in c .is-named .result ≡ named (given at-start) (at-start .args .page .0)
+asked c = let handed = past-change (past-number c) in c .is-named .ensures ∙ told (past-number c) (handed .before .edit-refusal .ensures .1 (handed .if1 .left))
 
-slot-refusal-requires : tie.Need-slot-refusal-requires
-slot-refusal-requires c κs = search needs
+edit-refusal-requires : tie.Need-edit-refusal-requires
+edit-refusal-requires c κs = search needs
 
--- rules 1 to 4
+-- rules 1 to 4, and 26
 returns : tie.Need-returns
 returns c =
     let at-start = c .before .before .before .before .before .before in
     let a = at-start .args in
-    slot-stops (given at-start) (a .handle) (a .slot) (rest at-start) (c .before .slot-refusal .ensures .0) (c .if1 .taken)
+    edit-stops (given at-start) (a .handle) (a .slot) (rest at-start) (c .before .edit-refusal .ensures .0) (c .if1 .taken)
 
 -- rule 6: page 0
 returns-2 : tie.Need-returns-2
@@ -114,8 +114,8 @@ returns-3 c =
 is-named-requires : tie.Need-is-named-requires
 is-named-requires c κs =
     let past-numbered = c .before .before in
-    let z = kept (past-slot past-numbered) .kept .sized in
-    let e = stored (past-slot past-numbered) in
+    let z = kept (past-change past-numbered) .kept .sized in
+    let e = stored (past-change past-numbered) in
     let l = below past-numbered in
     (omega arith, omega arith, omega arith)
 
@@ -126,7 +126,7 @@ returns-4 c =
     passed-number (past-number at-is-named) (sym (broken-here 9 _ (ap not (sym (asked at-is-named) ∙ c .if4 .taken))))
 
 slot-name-requires : tie.Need-slot-name-requires
-slot-name-requires c κs = let k = kept (past-slot (past-number (c .before))) in (omega arith, k .slot)
+slot-name-requires c κs = let k = kept (past-change (past-number (c .before))) in (omega arith, k .slot)
 
 -- rule 8
 returns-5 : tie.Need-returns-5
@@ -150,7 +150,7 @@ pub link-refusal-spec : {M : Type 1} → statement M
 link-refusal-spec =
     tie.close
     (tie.spec
-    slot-refusal-requires
+    edit-refusal-requires
     returns
     returns-2
     cast-if3

@@ -1,4 +1,4 @@
--- `changes::refusals::unlink_refusal` meets its contract: the rules of the slot, and then rules 7 and 10. Assumes nothing.
+-- `changes::refusals::unlink_refusal` meets its contract: the rules of a change, and then rules 7 and 10. Assumes nothing.
 use Prim.Native.Nat.{ℕ}
 use mathlib.Core.Path.{_≡_, sym, ap, _∙_}
 use mathlib.Core.Bool.{not}
@@ -11,7 +11,7 @@ use Rattle.rules.specs.TestLaws.{call-no, call-yes, kept-then, broken-here, non
 use Rattle.machine.specs.Machine.{State, state}
 use Rattle.machine.specs.Rules.{wordOf, rule7, rule10}
 use Rattle.machine.specs.Calls.{unlinkRules}
-use Rattle.machine.specs.Laws.RuleLaws.{SlotKept, slot-kept, slot-stops, slot-passes}
+use Rattle.machine.specs.Laws.RuleLaws.{EditKept, edit-kept, edit-stops, edit-passes}
 use borrow.Author.Needs.{needs}
 use Rattle.changes.proofs.refusals.unlink_refusal.Statement.{statement}
 use Rattle.changes.proofs.refusals.unlink_refusal.Tie as tie
@@ -19,30 +19,30 @@ use Rattle.changes.proofs.refusals.unlink_refusal.Tie as tie
 abbrev given : tie.Start → State
 given c = let a = c .args in state (a .pool) (a .frames .now) (a .store .now)
 
--- the start, from past the rules of the slot
+-- the start, from past the rules of a change
 abbrev start : tie.Else1 → tie.Start
 start c = c .before .before .before .before .before .before
 
--- what comes after the rules of the slot
+-- what comes after the rules of a change
 abbrev rest : tie.Start → List Rule
 rest c = let w = wordOf (given c) (c .args .handle) (c .args .slot) in rule7 w ∷ rule10 w ∷ []
 
--- past the rules of the slot, and then by the rest
-kept : (c : tie.Else1) → let a = start c .args in SlotKept (given (start c)) (a .handle) (a .slot)
-kept c = let a = start c .args in slot-kept (given (start c)) (a .handle) (a .slot) (sym (c .before .slot-refusal .ensures .0) ∙ c .if1 .left)
+-- past the rules of a change, and then by the rest
+kept : (c : tie.Else1) → let a = start c .args in EditKept (given (start c)) (a .handle) (a .slot)
+kept c = let a = start c .args in edit-kept (given (start c)) (a .handle) (a .slot) (sym (c .before .edit-refusal .ensures .0) ∙ c .if1 .left)
 
 passed : (c : tie.Else1) {m : ℕ} → m ≡ firstBroken (rest (start c)) → m ≡ firstBroken (unlinkRules (given (start c)) (start c .args .handle) (start c .args .slot))
-passed c = slot-passes (given (start c)) (start c .args .handle) (start c .args .slot) (rest (start c)) (c .before .slot-refusal .ensures .0) (c .if1 .left)
+passed c = edit-passes (given (start c)) (start c .args .handle) (start c .args .slot) (rest (start c)) (c .before .edit-refusal .ensures .0) (c .if1 .left)
 
-slot-refusal-requires : tie.Need-slot-refusal-requires
-slot-refusal-requires c κs = search needs
+edit-refusal-requires : tie.Need-edit-refusal-requires
+edit-refusal-requires c κs = search needs
 
--- rules 1 to 4
+-- rules 1 to 4, and 26
 returns : tie.Need-returns
 returns c =
-    let at-slot-refusal = c .before in
-    let at-entry = at-slot-refusal .before .before .before .before .before in
-    slot-stops (given at-entry) (at-entry .args .handle) (at-entry .args .slot) (rest at-entry) (at-slot-refusal .slot-refusal .ensures .0) (c .if1 .taken)
+    let at-edit-refusal = c .before in
+    let at-entry = at-edit-refusal .before .before .before .before .before in
+    edit-stops (given at-entry) (at-entry .args .handle) (at-entry .args .slot) (rest at-entry) (at-edit-refusal .edit-refusal .ensures .0) (c .if1 .taken)
 
 slot-name-requires : tie.Need-slot-name-requires
 slot-name-requires c κs = let k = kept c in (omega arith, k .slot)
@@ -78,7 +78,7 @@ pub unlink-refusal-spec : {M : Type 1} → statement M
 unlink-refusal-spec =
     tie.close
     (tie.spec
-    slot-refusal-requires
+    edit-refusal-requires
     returns
     slot-name-requires
     returns-2

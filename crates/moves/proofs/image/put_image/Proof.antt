@@ -7,10 +7,9 @@ use native.Mathlib.Omega.{arith}
 use native.Mathlib.Numerals.{add-one}
 use lib.ListN.{length}
 use Rattle.page.specs.Figures.{pageSize, slotCount, wordSize, mostFrames}
-use Rattle.page.specs.Word.{wordAt, nameOf, renamed, putWord, putWord-length, isNumber, frameIn, frameWord}
-use Rattle.page.specs.Page.{slot, name, slot-first, putSlot-first}
-use Rattle.rules.specs.Tests.{pick}
-use Rattle.machine.specs.Moves.{plain, imageTo}
+use Rattle.page.specs.Word.{wordAt, nameOf, putWord, putWord-length, frameWord}
+use Rattle.page.specs.Page.{slot-first, putSlot-first}
+use Rattle.machine.specs.Moves.{imaged, imageTo}
 use Rattle.machine.specs.Laws.MoveLaws.{image-suc, image-zero}
 use Rattle.residents.specs.Residents.{pageBy}
 use Rattle.moves.specs.WriteOut.{Named}
@@ -23,18 +22,13 @@ Inv-loop dst₀ src residents k₀ dst k = (k ≤ slotCount) × (length dst ≡ 
 abbrev μ-loop : tie.MeasureT-loop
 μ-loop dst₀ src residents k₀ dst k = slotCount - k
 
--- one word more: its old word, what that names, the number that it stands for, and the word put
-step : (page : ℕ → ℕ) (g d e : List ℕ) (k o n j v w : ℕ) → d ≡ imageTo page g k → o ≡ wordAt g (wordSize * k) → n ≡ nameOf o → j ≡ frameIn n → v ≡ pick (isNumber n) n (page j) → w ≡ renamed o v
-    → e ≡ putWord d (wordSize * k) w → e ≡ imageTo page g (k + 1)
-unfolding plain
-step page g d e k o n j v w hd ho hn hj hv hw he = rw (he, hw, hv, hj, hn, ho, hd, add-one k, image-suc page g k, slot-first g k, putSlot-first (imageTo page g k) k)
+-- one word more: its old word, and the word put
+step : (page : ℕ → ℕ) (g d e : List ℕ) (k o w : ℕ) → d ≡ imageTo page g k → o ≡ wordAt g (wordSize * k) → w ≡ imaged page o → e ≡ putWord d (wordSize * k) w → e ≡ imageTo page g (k + 1)
+step page g d e k o w hd ho hw he = rw (he, hw, ho, hd, add-one k, image-suc page g k, slot-first g k, putSlot-first (imageTo page g k) k)
 
 -- the frame that a word names is one of 64
-named : (g : List ℕ) (k o n j : ℕ) → k < slotCount → Named g 0 → o ≡ wordAt g (wordSize * k) → n ≡ nameOf o → j ≡ frameIn n → j < mostFrames
-named g k o n j l h ho hn hj =
-    let b : name g 0 k < frameWord mostFrames = h k l in
-    let e : n ≡ name g 0 k = hn ∙ ap nameOf (ho ∙ sym (slot-first g k)) in
-    omega arith
+named : (g : List ℕ) (k o : ℕ) → k < slotCount → Named g 0 → o ≡ wordAt g (wordSize * k) → nameOf o < frameWord mostFrames
+named g k o l h ho = rw (ho, ← slot-first g k) (h k l)
 
 copy-into-requires : tie.Need-copy-into-requires Inv-loop μ-loop
 copy-into-requires c κs = omega arith
@@ -48,32 +42,14 @@ mul-word-at c = search needs
 word-at-requires : tie.Need-word-at-requires Inv-loop μ-loop
 word-at-requires c κs = omega arith
 
-name-of-requires : tie.Need-name-of-requires Inv-loop μ-loop
-name-of-requires c κs = search needs
-
-frame-in-requires : tie.Need-frame-in-requires Inv-loop μ-loop
-frame-in-requires c κs = search needs
-
-mul-t14 : tie.Need-mul-t14 Inv-loop μ-loop
-mul-t14 c = search needs
-
-element-copy-out-t17 : tie.Need-element-copy-out-t17 Inv-loop μ-loop
-element-copy-out-t17 c =
-    let at-name-of = c .before in
-    let at-word-at = at-name-of .before in
-    let past-words = at-word-at .before in
-    let at-copy-into = past-words .before .before .before .before in
-    let at-entry = at-copy-into .before .before .before .before in
-    named _ _ _ _ _ (past-words .loop-test .taken) (at-entry .pre .2) (at-word-at .word-at .ensures) (at-name-of .name-of .ensures) (c .frame-in .ensures)
-
-plain-name-requires : tie.Need-plain-name-requires Inv-loop μ-loop
-plain-name-requires c κs = search needs
-
 mul-put-word : tie.Need-mul-put-word Inv-loop μ-loop
 mul-put-word c = search needs
 
-renamed-requires : tie.Need-renamed-requires Inv-loop μ-loop
-renamed-requires c κs = search needs
+imaged-word-requires : tie.Need-imaged-word-requires Inv-loop μ-loop
+imaged-word-requires c κs =
+    let at-word = c .before in
+    let at-entry = at-word .before .before .before .before .before .before .before .before .before in
+    named _ _ _ (at-word .before .loop-test .taken) (at-entry .pre .2) (at-word .word-at .ensures)
 
 put-word-requires : tie.Need-put-word-requires Inv-loop μ-loop
 put-word-requires c κs = omega arith
@@ -87,12 +63,11 @@ loop-less c = search needs
 loop-again : tie.Need-loop-again Inv-loop μ-loop
 loop-again c =
     let put = c .before .before in
-    let number = put .before .before .before in
-    let read = number .before .before .before .before in
+    let read = put .before .before .before in
     let l = read .before .before in (
       omega arith,
       rw (put .put-word .ensures) (putWord-length _ _ _ ∙ l .loop .inv .1),
-      step _ _ _ _ _ _ _ _ _ _ (l .loop .inv .2) (read .word-at .ensures) (number .before .before .before .name-of .ensures) (number .before .before .frame-in .ensures) (number .plain-name .ensures .0) (put .before .renamed .ensures) (put .put-word .ensures),
+      step _ _ _ _ _ _ _ (l .loop .inv .2) (read .word-at .ensures) (put .before .imaged-word .ensures) (put .put-word .ensures),
     )
 
 same-length : tie.Need-same-length Inv-loop μ-loop
@@ -111,13 +86,8 @@ put-image-spec =
     loop-holds
     mul-word-at
     word-at-requires
-    name-of-requires
-    frame-in-requires
-    mul-t14
-    element-copy-out-t17
-    plain-name-requires
     mul-put-word
-    renamed-requires
+    imaged-word-requires
     put-word-requires
     add-k
     loop-less

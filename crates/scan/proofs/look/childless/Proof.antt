@@ -1,4 +1,4 @@
--- `scan::look::childless` meets its contract. The loop's invariant: `none` says whether every word below `k` is a number. Assumes nothing.
+-- `scan::look::childless` meets its contract. The loop's invariant: `none` says whether what every word below `k` names is a number, by the word's own bit 31. Assumes nothing.
 use Prim.Native.Nat.{ℕ, _≤_, _-_, _+_, _*_}
 use mathlib.Core.Path.{_≡_, sym, ap, _∙_}
 use mathlib.Core.Logic.{⊎-elim}
@@ -7,7 +7,7 @@ use mathlib.Core.List.{List}
 use native.Mathlib.Omega.{arith}
 use borrow.Author.Needs.{needs}
 use Rattle.page.specs.Figures.{slotCount}
-use Rattle.page.specs.Word.{nameAt, isNumber}
+use Rattle.page.specs.Word.{nameAt, isNumber, number-as-word}
 use Rattle.page.specs.Page.{slot}
 use Rattle.rules.specs.TestLaws.{call-no, call-yes}
 use Rattle.machine.specs.Sweep.{childless}
@@ -35,14 +35,14 @@ start-requires c κs = search needs
 loop-holds : tie.Need-loop-holds Inv-loop μ-loop
 loop-holds c = (omega arith, fold-none _ _)
 
-mul-name-at : tie.Need-mul-name-at Inv-loop μ-loop
-mul-name-at c = search needs
+mul-word-at : tie.Need-mul-word-at Inv-loop μ-loop
+mul-word-at c = search needs
 
-add-name-at : tie.Need-add-name-at Inv-loop μ-loop
-add-name-at c = search needs
+add-word-at : tie.Need-add-word-at Inv-loop μ-loop
+add-word-at c = search needs
 
-name-at-requires : tie.Need-name-at-requires Inv-loop μ-loop
-name-at-requires c κs = search needs
+word-at-requires : tie.Need-word-at-requires Inv-loop μ-loop
+word-at-requires c κs = search needs
 
 is-number-requires : tie.Need-is-number-requires Inv-loop μ-loop
 is-number-requires c κs = search needs
@@ -56,12 +56,12 @@ loop-less c = search needs
 loop-again : tie.Need-loop-again Inv-loop μ-loop
 loop-again c =
     let l = c .before .before .before .before .loop in
-    let e = ap isNumber (sym (c .before .before .name-at .ensures)) in
+    let e = ap isNumber (sym (c .before .before .word-at .ensures)) in
     let f = c .before .is-number .ensures in (
       omega arith,
       fold-more _ _ _ (l .inv .1) (⊎-elim
-          (λ w. flag-cleared (l .none) (e ∙ call-no f (w .0 .taken)) (w .1))
-          (λ w. flag-kept (l .none) (e ∙ call-yes f (w .0 .left)) (w .1))
+          (λ w. flag-cleared (l .none) (number-as-word _ ∙ e ∙ call-no f (w .0 .taken)) (w .1))
+          (λ w. flag-kept (l .none) (number-as-word _ ∙ e ∙ call-yes f (w .0 .left)) (w .1))
           (c .if1 .came)),
     )
 
@@ -76,9 +76,9 @@ childless-spec =
     μ-loop
     start-requires
     loop-holds
-    mul-name-at
-    add-name-at
-    name-at-requires
+    mul-word-at
+    add-word-at
+    word-at-requires
     is-number-requires
     add-k
     loop-less

@@ -1,4 +1,4 @@
--- `seen::words::has_any` meets its contract: `hit` tells of the words passed. Assumes nothing.
+-- `seen::words::has_any` meets its contract: `hit` tells of the words passed, of which those that name nothing are 0. Assumes nothing.
 use borrow.Author.Needs.{needs}
 use borrow.Author.Tests.{eq-eqb, ne-eqb}
 use Prim.Native.Nat.{ℕ, _≤_, _-_}
@@ -8,6 +8,7 @@ use mathlib.Core.List.{List}
 use mathlib.Core.Logic.{⊎-elim}
 use native.Mathlib.Omega.{arith}
 use lib.Dec.{eqb}
+use Rattle.page.specs.Word.{name-nothing, nothing-named}
 use Rattle.page.specs.Page.{wordsFrom}
 use Rattle.seen.specs.Fold.{fold, fold-none, fold-more, someOf, some-fold, flag-set, flag-unset}
 use Rattle.seen.specs.Among.{hasAny}
@@ -26,14 +27,14 @@ abbrev μ-loop : tie.MeasureT-loop
 loop-holds : tie.Need-loop-holds Inv-loop μ-loop
 loop-holds c = (omega arith, fold-none _ _)
 
-mul-name-at : tie.Need-mul-name-at Inv-loop μ-loop
-mul-name-at c = search needs
+mul-word-at : tie.Need-mul-word-at Inv-loop μ-loop
+mul-word-at c = search needs
 
-add-name-at : tie.Need-add-name-at Inv-loop μ-loop
-add-name-at c = search needs
+add-word-at : tie.Need-add-word-at Inv-loop μ-loop
+add-word-at c = search needs
 
-name-at-requires : tie.Need-name-at-requires Inv-loop μ-loop
-name-at-requires c κs = search needs
+word-at-requires : tie.Need-word-at-requires Inv-loop μ-loop
+word-at-requires c κs = search needs
 
 add-k : tie.Need-add-k Inv-loop μ-loop
 add-k c = search needs
@@ -44,11 +45,11 @@ loop-less c = search needs
 loop-again : tie.Need-loop-again Inv-loop μ-loop
 loop-again c =
     let l = c .before .before .before .loop in
-    let e = c .before .name-at .ensures in (
+    let e = c .before .word-at .ensures in (
       omega arith,
       fold-more _ _ _ (l .inv .1) (⊎-elim
-          (λ a. flag-set (l .hit) (ap not (ne-eqb _ 0 (λ z. a .0 .taken (e ∙ z)))) (a .1))
-          (λ a. flag-unset (l .hit) (ap not (eq-eqb _ 0 (sym e ∙ a .0 .left))) (a .1))
+          (λ a. flag-set (l .hit) (ap not (ne-eqb _ 0 (λ z. a .0 .taken (e ∙ name-nothing _ z)))) (a .1))
+          (λ a. flag-unset (l .hit) (ap not (eq-eqb _ 0 (nothing-named _ (sym e ∙ a .0 .left)))) (a .1))
           (c .if1 .came)),
     )
 
@@ -61,4 +62,4 @@ returns c =
 pub has-any-spec : {M : Type 1} → statement M
 has-any-spec =
     tie.close
-    (tie.spec Inv-loop μ-loop loop-holds mul-name-at add-name-at name-at-requires add-k loop-less loop-again returns)
+    (tie.spec Inv-loop μ-loop loop-holds mul-word-at add-word-at word-at-requires add-k loop-less loop-again returns)
