@@ -72,8 +72,8 @@ numbersAbsent p fs =
 -- "No number stands in two such words."
 unfoldable pub numbersOnce : Pool → List ℕ → Bool
 numbersOnce p fs =
-    every (p .count) (λ f. every slotCount (λ k. every (p .count) (λ g. every slotCount (λ j.
-    (occupied p f and occupied p g and givesPage (name fs f k) and eqb (name fs f k) (name fs g j)) ⇒ (eqb f g and eqb k j)))))
+    every (p .count) (λ f. occupied p f ⇒ every slotCount (λ k. givesPage (name fs f k) ⇒
+    every (p .count) (λ g. occupied p g ⇒ every slotCount (λ j. eqb (name fs f k) (name fs g j) ⇒ (eqb f g and eqb k j)))))
 
 -- frame 0 is reached from f in at most n steps to the parent
 unfoldable pub reachesRoot : Pool → ℕ → ℕ → Bool

@@ -15,7 +15,7 @@ wordsBelow st N = every N (λ p. every slotCount (λ k. ltb (name st p k) N))
 -- no number stands in two words
 unfoldable pub wordsOnce : List ℕ → ℕ → Bool
 wordsOnce st N =
-    every N (λ p. every slotCount (λ k. every N (λ q. every slotCount (λ j. (not (namesNothing (name st p k)) and eqb (name st p k) (name st q j)) ⇒ (eqb p q and eqb k j)))))
+    every N (λ p. every slotCount (λ k. not (namesNothing (name st p k)) ⇒ every N (λ q. every slotCount (λ j. eqb (name st p k) (name st q j) ⇒ (eqb p q and eqb k j)))))
 
 unfoldable pub sound : List ℕ → ℕ → Bool
 sound st N = wordsBelow st N and wordsOnce st N

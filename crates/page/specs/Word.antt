@@ -9,15 +9,19 @@ use native.Mathlib.Decide.{decLt, ℕ-discrete}
 use native.Mathlib.Nat.{div-div-eq-div-mul, div-add-mod', mod-eq-of-lt, add-zero}
 use borrow.Author.Tests.{lt-ltb, le-ltb, ltb-true, ltb-false, eq-eqb, ne-eqb, eqb-false, not-true}
 use lib.Dec.{eqb, ltb}
-use lib.ListN.{length, getD, set, length-set}
-use lib.Seq.{lt-length-set, getD-set-same, getD-set-other}
+use lib.ListN.{length, getD, set, drop, length-set}
+use lib.Seq.{lt-length-set, getD-set-same, getD-set-other, getD-drop}
 use Rattle.page.specs.Figures.{mostPages, mostFrames, byteRadix, wordSize, wordRadix, swizzleBit, lockBit}
 
 -- ---- the four bytes, little-endian
 
--- the word in the bytes from a on
+-- the word in the first bytes
+abbrev pub firstWord : List ℕ → ℕ
+firstWord b = getD b 0 0 + 256 * getD b 1 0 + 65536 * getD b 2 0 + 16777216 * getD b 3 0
+
+-- the word in the bytes from a on. One walk to them and not four: the tables compute with it.
 unfoldable pub wordAt : List ℕ → ℕ → ℕ
-wordAt b a = getD b a 0 + 256 * getD b (a + 1) 0 + 65536 * getD b (a + 2) 0 + 16777216 * getD b (a + 3) 0
+wordAt b a = firstWord (drop a b)
 
 -- the bytes with the word w in those from a on
 unfoldable pub putWord : List ℕ → ℕ → ℕ → List ℕ
@@ -268,6 +272,10 @@ renamed-lt old n h = marked-lt (isMarked old) n h
 
 -- ---- laws of the four bytes
 
+pub wordAt-bytes : (b : List ℕ) (a : ℕ) → wordAt b a ≡ getD b a 0 + 256 * getD b (a + 1) 0 + 65536 * getD b (a + 2) 0 + 16777216 * getD b (a + 3) 0
+unfolding wordAt
+wordAt-bytes b a = rw (getD-drop a b 0 0, getD-drop a b 1 0, getD-drop a b 2 0, getD-drop a b 3 0, add-zero a) refl
+
 pub putWord-length : (b : List ℕ) (a w : ℕ) → length (putWord b a w) ≡ length b
 unfolding putWord
 putWord-length b a w = simp length-set
@@ -296,7 +304,7 @@ word-digits w h =
 
 -- a word put is the word read there
 pub wordAt-same : (b : List ℕ) (a w : ℕ) → a + wordSize ≤ length b → w < wordRadix → wordAt (putWord b a w) a ≡ w
-unfolding putWord wordAt
+unfolding putWord
 wordAt-same b a w h hw =
     let n01 : a ≢ a + 1 = omega arith in
     let n02 : a ≢ a + 2 = omega arith in
@@ -308,23 +316,20 @@ wordAt-same b a w h hw =
     let l1 : a + 1 < length b = omega arith in
     let l2 : a + 2 < length b = omega arith in
     let l3 : a + 3 < length b = omega arith in
-    simp (getD-set-other, getD-set-same, lt-length-set) (word-digits w hw)
+    wordAt-bytes _ a ∙ simp (getD-set-other, getD-set-same, lt-length-set) (word-digits w hw)
 
 -- words that lie before it and after it stay
 pub wordAt-before : (b : List ℕ) (a c w : ℕ) → c + wordSize ≤ a → wordAt (putWord b a w) c ≡ wordAt b c
-unfolding wordAt
-wordAt-before b a c w h = rw (putWord-before b a w c (omega arith), putWord-before b a w (c + 1) (omega arith), putWord-before b a w (c + 2) (omega arith), putWord-before b a w (c + 3) (omega arith))
+wordAt-before b a c w h = rw (wordAt-bytes (putWord b a w) c, wordAt-bytes b c, putWord-before b a w c (omega arith), putWord-before b a w (c + 1) (omega arith), putWord-before b a w (c + 2) (omega arith), putWord-before b a w (c + 3) (omega arith))
 
 pub wordAt-after : (b : List ℕ) (a c w : ℕ) → a + wordSize ≤ c → wordAt (putWord b a w) c ≡ wordAt b c
-unfolding wordAt
-wordAt-after b a c w h = rw (putWord-after b a w c (omega arith), putWord-after b a w (c + 1) (omega arith), putWord-after b a w (c + 2) (omega arith), putWord-after b a w (c + 3) (omega arith))
+wordAt-after b a c w h = rw (wordAt-bytes (putWord b a w) c, wordAt-bytes b c, putWord-after b a w c (omega arith), putWord-after b a w (c + 1) (omega arith), putWord-after b a w (c + 2) (omega arith), putWord-after b a w (c + 3) (omega arith))
 
 -- a word depends on its four bytes alone
 pub wordAt-ext : (b c : List ℕ) (x y : ℕ) → ((j : ℕ) → j < wordSize → getD b (x + j) 0 ≡ getD c (y + j) 0) → wordAt b x ≡ wordAt c y
-unfolding wordAt
 wordAt-ext b c x y h =
     let e0 : getD b x 0 ≡ getD c y 0 = ap (λ (k : ℕ). getD b k 0) (sym (add-zero x)) ∙ h 0 (omega arith) ∙ ap (λ (k : ℕ). getD c k 0) (add-zero y) in
-    rw (e0, h 1 (omega arith), h 2 (omega arith), h 3 (omega arith))
+    rw (wordAt-bytes b x, wordAt-bytes c y, e0, h 1 (omega arith), h 2 (omega arith), h 3 (omega arith))
 
 -- and four bytes depend on their word alone
 digits-inj : (a0 a1 a2 a3 b0 b1 b2 b3 : ℕ) → a0 < 256 → a1 < 256 → a2 < 256 → a3 < 256 → b0 < 256 → b1 < 256 → b2 < 256 → b3 < 256
@@ -333,15 +338,13 @@ digits-inj a0 a1 a2 a3 b0 b1 b2 b3 h0 h1 h2 h3 k0 k1 k2 k3 e = omega arith
 
 pub wordAt-inj : (b c : List ℕ) (x y : ℕ) → ((i : ℕ) → getD b i 0 < byteRadix) → ((i : ℕ) → getD c i 0 < byteRadix) → wordAt b x ≡ wordAt c y
     → (getD b x 0 ≡ getD c y 0) × (getD b (x + 1) 0 ≡ getD c (y + 1) 0) × (getD b (x + 2) 0 ≡ getD c (y + 2) 0) × (getD b (x + 3) 0 ≡ getD c (y + 3) 0)
-unfolding wordAt
 wordAt-inj b c x y hb hc e =
     digits-inj (getD b x 0) (getD b (x + 1) 0) (getD b (x + 2) 0) (getD b (x + 3) 0) (getD c y 0) (getD c (y + 1) 0) (getD c (y + 2) 0) (getD c (y + 3) 0)
-    (hb x) (hb (x + 1)) (hb (x + 2)) (hb (x + 3)) (hc y) (hc (y + 1)) (hc (y + 2)) (hc (y + 3)) e
+    (hb x) (hb (x + 1)) (hb (x + 2)) (hb (x + 3)) (hc y) (hc (y + 1)) (hc (y + 2)) (hc (y + 3)) (sym (wordAt-bytes b x) ∙ e ∙ wordAt-bytes c y)
 
 -- four bytes make a word
 pub wordAt-lt : (b : List ℕ) (a : ℕ) → ((i : ℕ) → getD b i 0 < byteRadix) → wordAt b a < wordRadix
-unfolding wordAt
-wordAt-lt b a h = omega (arith, h a, h (a + 1), h (a + 2), h (a + 3))
+wordAt-lt b a h = rw (wordAt-bytes b a) (omega (arith, h a, h (a + 1), h (a + 2), h (a + 3)))
 
 -- ---- what loops go by that read many words at a time
 

@@ -41,9 +41,8 @@ module _ (st : List ℕ) (N : ℕ) where
       record {
         below = λ p k lp lk. ltb-true _ N (every-true slotCount _ (every-true N _ (a .0) p lp) k lk);
         once = λ p k q j lp lk lq lj n e.
-            let b = and-true (eqb p q) (eqb k j) (use⇒ _ _
-            (every-true slotCount _ (every-true N _ (every-true slotCount _ (every-true N _ (a .1) p lp) k lk) q lq) j lj)
-            (both _ _ (ap not (ne-eqb _ 0 n)) (eq-eqb _ _ e))) in
+            let others = use⇒ _ _ (every-true slotCount _ (every-true N _ (a .1) p lp) k lk) (ap not (ne-eqb _ 0 n)) in
+            let b = and-true (eqb p q) (eqb k j) (use⇒ _ _ (every-true slotCount _ (every-true N _ others q lq) j lj) (eq-eqb _ _ e)) in
             (eqb-true p q (b .0), eqb-true k j (b .1));
       }
 
@@ -51,10 +50,9 @@ module _ (st : List ℕ) (N : ℕ) where
   unfolding sound wordsBelow wordsOnce slot
   facts-sound S =
       both _ _ (true-every N _ (λ p lp. true-every slotCount _ (λ k lk. lt-ltb _ N (S .below p k lp lk))))
-      (true-every N _ (λ p lp. true-every slotCount _ (λ k lk. true-every N _ (λ q lq. true-every slotCount _ (λ j lj. make⇒ _ _ (λ t.
-      let a = and-true (not (eqb (pageWords st p k) 0)) _ t in
-      let b = S .once p k q j lp lk lq lj (eqb-false _ 0 (not-true _ (a .0))) (eqb-true _ _ (a .1)) in
-      both _ _ (eq-eqb p q (b .0)) (eq-eqb k j (b .1))))))))
+      (true-every N _ (λ p lp. true-every slotCount _ (λ k lk. make⇒ _ _ (λ n. true-every N _ (λ q lq. true-every slotCount _ (λ j lj. make⇒ _ _ (λ e.
+      let b = S .once p k q j lp lk lq lj (eqb-false _ 0 (not-true _ n)) (eqb-true _ _ e) in
+      both _ _ (eq-eqb p q (b .0)) (eq-eqb k j (b .1)))))))))
 
   -- ---- the words before a word
 

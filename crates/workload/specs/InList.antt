@@ -8,7 +8,7 @@ use native.Mathlib.Omega.{arith}
 use borrow.Author.Tests.{lt-ltb}
 use lib.ListN.{getD, replicate}
 use Rattle.page.specs.Figures.{slotCount}
-use Rattle.page.specs.Word.{wordAt, isMarked, nameOf, namesNothing, low-word}
+use Rattle.page.specs.Word.{wordAt-bytes, isMarked, nameOf, namesNothing, low-word}
 use Rattle.page.specs.Page.{slot, name, bytesFrom}
 use Rattle.page.specs.Octets.{Octets}
 use Rattle.rules.specs.Tests.{pick, _and_, _⇒_, firstBroken}
@@ -102,8 +102,8 @@ zero-octets : (m : ℕ) → Octets (replicate m 0)
 zero-octets m i = rw (zero-byte m i) (omega arith)
 
 zero-word : (m p k : ℕ) → slot (replicate m 0) p k ≡ 0
-unfolding slot wordAt
-zero-word m p k = let a = zero-byte m in rw (a _, a _, a _, a _) refl
+unfolding slot
+zero-word m p k = let a = zero-byte m in wordAt-bytes _ _ ∙ rw (a _, a _, a _, a _) refl
 
 zero-name : (m p k : ℕ) → name (replicate m 0) p k ≡ 0
 zero-name m p k = ap nameOf (zero-word m p k) ∙ low-word 0 (omega arith) .0
@@ -111,15 +111,15 @@ zero-name m p k = ap nameOf (zero-word m p k) ∙ low-word 0 (omega arith) .0
 zeros-unmarked : (m : ℕ) → Unmarked (replicate m 0)
 zeros-unmarked m p k h = ap isMarked (zero-word m p k) ∙ low-word 0 (omega arith) .1
 
-unnamed : (m p k : ℕ) (a b : Bool) → ((not (namesNothing (name (replicate m 0) p k)) and a) ⇒ b) ≡ true
-unfolding _⇒_ _and_
-unnamed m p k a b = rw (zero-name m p k) refl
+unnamed : (m p k : ℕ) (b : Bool) → (not (namesNothing (name (replicate m 0) p k)) ⇒ b) ≡ true
+unfolding _⇒_
+unnamed m p k b = rw (zero-name m p k) refl
 
 zeros-sound : (m N : ℕ) → 0 < N → sound (replicate m 0) N ≡ true
 unfolding sound wordsBelow wordsOnce
 zeros-sound m N l = both _ _
     (true-every N _ (λ p _. true-every slotCount _ (λ k _. rw (zero-name m p k) (lt-ltb 0 N l))))
-    (true-every N _ (λ p _. true-every slotCount _ (λ k _. true-every N _ (λ q _. true-every slotCount _ (λ j _. unnamed m p k _ _)))))
+    (true-every N _ (λ p _. true-every slotCount _ (λ k _. unnamed m p k _)))
 
 listing-kept : firstBroken (openRules (replicate 1024 0) (replicate 4096 0)) ≡ 0
 unfolding lengthsFit _and_

@@ -140,9 +140,8 @@ module _ (p : Pool) (fs : List ℕ) where
       → name fs f k ≡ name fs g j → (f ≡ g) × (k ≡ j)
   unfolding numbersOnce
   single-of t f k g j of hk og hj n l e =
-      let a = and-true (eqb f g) (eqb k j) (use⇒ _ _
-      (every-true 16 _ (every-true _ _ (every-true 16 _ (every-true _ _ t f (occupied-lt p f of)) k hk) g (occupied-lt p g og)) j hj)
-      (both _ _ of (both _ _ og (both _ _ (gives-page _ l n) (eq-eqb _ _ e))))) in
+      let others = use⇒ _ _ (every-true 16 _ (use⇒ _ _ (every-true _ _ t f (occupied-lt p f of)) of) k hk) (gives-page _ l n) in
+      let a = and-true (eqb f g) (eqb k j) (use⇒ _ _ (every-true 16 _ (use⇒ _ _ (every-true _ _ others g (occupied-lt p g og)) og) j hj) (eq-eqb _ _ e)) in
       (eqb-true f g (a .0), eqb-true k j (a .1))
 
   reach-of : allReachRoot p ≡ true → (f : ℕ) → occupied p f ≡ true → reachesRoot p (p .count) f ≡ true
@@ -232,13 +231,10 @@ module _ (p : Pool) (fs : List ℕ) where
 
     is-single : numbersOnce p fs ≡ true
     unfolding numbersOnce
-    is-single = true-every _ _ (λ f lf. true-every 16 _ (λ k hk. true-every _ _ (λ g lg. true-every 16 _ (λ j hj. make⇒ _ _ (λ t.
-        let a = and-true (occupied p f) _ t in
-        let b = and-true (occupied p g) _ (a .1) in
-        let c = and-true (givesPage (name fs f k)) _ (b .1) in
-        let d = page-given (name fs f k) (c .0) in
-        let r = A .once f k g j (a .0) hk (b .0) hj (d .1) (d .0) (eqb-true _ _ (c .1)) in
-        both _ _ (eq-eqb f g (r .0)) (eq-eqb k j (r .1)))))))
+    is-single = true-every _ _ (λ f lf. make⇒ _ _ (λ of. true-every 16 _ (λ k hk. make⇒ _ _ (λ t. true-every _ _ (λ g lg. make⇒ _ _ (λ og. true-every 16 _ (λ j hj. make⇒ _ _ (λ e.
+        let d = page-given (name fs f k) t in
+        let r = A .once f k g j of hk og hj (d .1) (d .0) (eqb-true _ _ e) in
+        both _ _ (eq-eqb f g (r .0)) (eq-eqb k j (r .1))))))))))
 
     is-rooted : allReachRoot p ≡ true
     unfolding allReachRoot

@@ -12,7 +12,7 @@ use Rattle.page.specs.Figures.{pageSize, slotCount, mostPages, wordRadix, swizz
 use Rattle.page.specs.Word.{nameOf, isNumber, frameIn, namesNothing, says, plainly, markedly, bit-alone}
 use Rattle.page.specs.Page.{slot, name}
 use Rattle.machine.specs.declared.Handle.{Handle}
-use Rattle.rules.specs.Tests.{pick, _and_, _⇒_, Rule, firstBroken, verdict}
+use Rattle.rules.specs.Tests.{pick, _and_, _⇒_, every, Rule, firstBroken, verdict}
 use Rattle.rules.specs.TestLaws.{clash, is-off, and-no, or-off, every-false, every-ext, pick-yes, pick-two, kept-then, broken-here, numbered}
 use Rattle.machine.specs.Machine.{State, occupied}
 use Rattle.machine.specs.Agreement.{agree}
@@ -44,8 +44,10 @@ pub sound-by-names : (a b : List ℕ) (N : ℕ) → ((p k : ℕ) → p < N → k
 unfolding sound wordsBelow wordsOnce
 sound-by-names a b N e = and-same _ _ _ _
     (every-ext N _ _ (λ p hp. every-ext slotCount _ _ (λ k hk. ap (λ (n : ℕ). ltb n N) (e p k hp hk))))
-    (every-ext N _ _ (λ p hp. every-ext slotCount _ _ (λ k hk. every-ext N _ _ (λ q hq. every-ext slotCount _ _ (λ j hj.
-    ap (λ (n : ℕ). (not (namesNothing n) and eqb n (name a q j)) ⇒ (eqb p q and eqb k j)) (e p k hp hk) ∙ ap (λ (n : ℕ). (not (namesNothing (name b p k)) and eqb (name b p k) n) ⇒ (eqb p q and eqb k j)) (e q j hq hj))))))
+    (every-ext N _ _ (λ p hp. every-ext slotCount _ _ (λ k hk.
+    ap (λ (n : ℕ). not (namesNothing n) ⇒ every N (λ q. every slotCount (λ j. eqb n (name a q j) ⇒ (eqb p q and eqb k j)))) (e p k hp hk)
+    ∙ ap (λ (t : Bool). not (namesNothing (name b p k)) ⇒ t) (every-ext N _ _ (λ q hq. every-ext slotCount _ _ (λ j hj.
+    ap (λ (n : ℕ). eqb (name b p k) n ⇒ (eqb p q and eqb k j)) (e q j hq hj)))))))
   where
     and-same : (a b c d : Bool) → a ≡ b → c ≡ d → (a and c) ≡ (b and d)
     and-same a b c d x y = rw (x, y)

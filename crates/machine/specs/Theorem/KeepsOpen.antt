@@ -35,8 +35,8 @@ below-of st N t p k hp hk = ltb-true _ N (every-true slotCount _ (every-true N _
 once-of : (st : List ℕ) (N : ℕ) → wordsOnce st N ≡ true → (p k q j : ℕ) → p < N → k < slotCount → q < N → j < slotCount → name st p k ≢ 0 → name st p k ≡ name st q j → (p ≡ q) × (k ≡ j)
 unfolding wordsOnce
 once-of st N t p k q j hp hk hq hj n e =
-    let a = and-true (eqb p q) (eqb k j) (use⇒ _ _ (every-true slotCount _ (every-true N _ (every-true slotCount _ (every-true N _ t p hp) k hk) q hq) j hj)
-    (both _ _ (ap not (ne-eqb _ 0 n)) (eq-eqb _ _ e))) in
+    let others = use⇒ _ _ (every-true slotCount _ (every-true N _ t p hp) k hk) (ap not (ne-eqb _ 0 n)) in
+    let a = and-true (eqb p q) (eqb k j) (use⇒ _ _ (every-true slotCount _ (every-true N _ others q hq) j hj) (eq-eqb _ _ e)) in
     (eqb-true p q (a .0), eqb-true k j (a .1))
 
 sound-map : (st : List ℕ) (N : ℕ) → sound st N ≡ true → MapSound (mapOf st) N 1 N

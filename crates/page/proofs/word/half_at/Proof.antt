@@ -1,8 +1,8 @@
 -- `page::word::half_at` meets its contract: the word's other bytes are whole halves. Assumes nothing.
 use Prim.Native.Nat.{ℕ, _+_, _*_, _%_, _<_}
-use mathlib.Core.Path.{_≡_}
+use mathlib.Core.Path.{_≡_, sym, ap, _∙_}
 use native.Mathlib.Omega.{arith}
-use Rattle.page.specs.Word.{wordAt}
+use Rattle.page.specs.Word.{halfRadix, wordAt-bytes}
 use borrow.Author.Needs.{needs}
 use Rattle.page.proofs.word.half_at.Statement.{statement}
 use Rattle.page.proofs.word.half_at.Tie as tie
@@ -32,11 +32,10 @@ add-result : tie.Need-add-result
 add-result c = search needs
 
 returns : tie.Need-returns
-unfolding wordAt
 returns c =
     let first = c .before .before .digit .ensures in
     let second = c .digit2 .ensures in
-    low-half _ _ _ _ _ _ (first .0) (first .1) (second .0) (second .1)
+    low-half _ _ _ _ _ _ (first .0) (first .1) (second .0) (second .1) ∙ sym (ap (λ (w : ℕ). w % halfRadix) (wordAt-bytes _ _))
 
 pub half-at-spec : {M : Type 1} → statement M
 half-at-spec =

@@ -1,4 +1,5 @@
-use Rattle.page.specs.Word.{wordAt}
+use mathlib.Core.Path.{sym, _∙_}
+use Rattle.page.specs.Word.{wordAt-bytes}
 use borrow.Author.Needs.{needs}
 use Rattle.page.proofs.word.word_at.Statement.{statement}
 use Rattle.page.proofs.word.word_at.Tie as tie
@@ -55,8 +56,7 @@ add-result-3 : tie.Need-add-result-3
 add-result-3 c = search needs
 
 returns : tie.Need-returns
-unfolding wordAt
-returns c = search needs
+returns c = search needs ∙ sym (wordAt-bytes _ _)
 
 pub word-at-spec : {M : Type 1} → statement M
 word-at-spec =
