@@ -1,5 +1,5 @@
 -- The table of the page numbers seen, and what it tells of a row of numbers. Its form shows in `Seen`, `none` and `noted` alone, and no other crate goes by it.
-use Prim.Native.Nat.{ℕ, _<_}
+use Prim.Native.Nat.{ℕ, _<_, _≤_}
 use mathlib.Core.Path.{_≡_}
 use mathlib.Core.Logic.{_≢_}
 use mathlib.Core.Bool.{Bool, true, false, not}
@@ -49,6 +49,10 @@ pub record Notes (x : ℕ) (before after : Seen) (new : Bool) : Type 0 where
 unfoldable pub fresh : (ℕ → Bool) → (ℕ → ℕ) → ℕ → ℕ → Bool
 fresh seen w N k = eqb (w k) 0 or (ltb (w k) N and not (seen (w k)) and not (among w k (w k)))
 
+-- the first slots of a page: one that names few has them there, most likely
+abbrev pub firstSlots : ℕ
+firstSlots = 4
+
 -- after the first m numbers: whether all were fresh, and if so, the table tells of them too
 pub record Marked (m : ℕ) (w : ℕ → ℕ) (N : ℕ) (before after : Seen) (r : Bool) : Type 0 where
   pub answer : r ≡ every m (fresh (noted before) w N)
@@ -57,6 +61,11 @@ pub record Marked (m : ℕ) (w : ℕ → ℕ) (N : ℕ) (before after : Seen) (r
 -- going on from the first m numbers, all of them fresh, to the first n, whatever the table was before them
 pub record MarksOn (m n : ℕ) (w : ℕ → ℕ) (N : ℕ) (now after : Seen) (r : Bool) : Type 0 where
   pub onward : (before : Seen) → Marked m w N before now true → Marked n w N before after r
+
+-- going on so as far as the first k, all of them fresh; or, where k is past n, one of the first n wasn't
+pub record MarksTo (m k n : ℕ) (w : ℕ → ℕ) (N : ℕ) (now after : Seen) : Type 0 where
+  pub most : k ≤ n → MarksOn m k w N now after true
+  pub past : n < k → MarksOn m n w N now after false
 
 -- the numbers in an array as a row, and that each is a page's
 abbrev pub rowOf : List ℕ → ℕ → ℕ

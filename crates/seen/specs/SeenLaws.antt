@@ -129,7 +129,7 @@ module _ (w : ℕ → ℕ) (N : ℕ) (before : Seen) where
   }
 
   -- once false, it stays so
-  pub marked-false : (m n : ℕ) → m ≤ n → (now after : Seen) → Marked m w N before now false → Marked n w N before after false
+  marked-false : (m n : ℕ) → m ≤ n → (now after : Seen) → Marked m w N before now false → Marked n w N before after false
   marked-false m n l now after M = record {
     answer = sym (is-off (every n isFresh) (λ t. clash (sym (true-less t) ∙ sym (M .answer))));
     tells = λ e. absurd (clash (sym e));
@@ -140,7 +140,7 @@ module _ (w : ℕ → ℕ) (N : ℕ) (before : Seen) where
 
   module _ (m : ℕ) where
     -- number m is v, which isn't below N
-    pub marked-large : (v : ℕ) → w m ≡ v → v ≢ 0 → N ≤ v → (after : Seen) → Marked (m + 1) w N before after false
+    marked-large : (v : ℕ) → w m ≡ v → v ≢ 0 → N ≤ v → (after : Seen) → Marked (m + 1) w N before after false
     marked-large v e n l after = record {
       answer = sym (every-false (m + 1) isFresh m (omega arith) (not-fresh (noted before) w N m (λ z. n (sym e ∙ z)) (λ h. let b : w m < N = h .below in omega arith)));
       tells = λ z. absurd (clash (sym z));
@@ -217,5 +217,6 @@ pub marks-then : (w : ℕ → ℕ) (N m k n : ℕ) (now seen after : Seen) (r : 
 marks-then w N m k n now seen after r A B = record { onward = λ before M. B .onward before (A .onward before M) }
 
 -- words of 0 from slot k on are passed over
-pub marked-over : (b : List ℕ) (a k n N : ℕ) (before now : Seen) → N ≤ mostPages → hasAny (wordsFrom b (a + wordSize * k)) n ≡ false → Marked k (wordsFrom b a) N before now true → Marked (k + n) (wordsFrom b a) N before now true
-marked-over b a k n N before now few t = marks-zeros (wordsFrom b a) N k now few n (λ j l. ap (nameAt b) (omega arith) ∙ not-any (wordsFrom b (a + 4 * k)) n t j l) .onward before
+pub marks-over : (b : List ℕ) (a m k n N : ℕ) (now seen : Seen) → N ≤ mostPages → hasAny (wordsFrom b (a + wordSize * k)) n ≡ false → MarksOn m k (wordsFrom b a) N now seen true → MarksOn m (k + n) (wordsFrom b a) N now seen true
+marks-over b a m k n N now seen few t A =
+    marks-then (wordsFrom b a) N m k (k + n) now seen seen true A (marks-zeros (wordsFrom b a) N k seen few n (λ j l. ap (nameAt b) (omega arith) ∙ not-any (wordsFrom b (a + 4 * k)) n t j l))

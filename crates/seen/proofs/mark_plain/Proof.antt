@@ -1,4 +1,4 @@
--- `seen::mark_slots` meets its contract: the words from `first` to slot k are marked, each of which is its own name. Assumes nothing.
+-- `seen::mark_plain` meets its contract: the words from `first` to slot k are marked, each of which is its own name. Assumes nothing.
 use borrow.Author.Needs.{needs}
 use borrow.Author.Tests.{not-true, not-false}
 use Prim.Native.Nat.{ℕ, _<_, _≤_, _-_}
@@ -11,9 +11,9 @@ use Rattle.page.specs.Figures.{mostPages}
 use Rattle.page.specs.Word.{wordAt, nameOf, nameAt, name-number}
 use Rattle.page.specs.Page.{wordsFrom}
 use Rattle.seen.specs.Seen.{MarksOn}
-use Rattle.seen.specs.SeenLaws.{mark-notes, notes-zero, marks-none, marks-more, marks-false, marks-then}
-use Rattle.seen.proofs.mark_slots.Statement.{statement}
-use Rattle.seen.proofs.mark_slots.Tie as tie
+use Rattle.seen.specs.SeenLaws.{mark-notes, notes-zero, marks-none, marks-more, marks-false}
+use Rattle.seen.proofs.mark_plain.Statement.{statement}
+use Rattle.seen.proofs.mark_plain.Tie as tie
 
 abbrev Inv-loop : tie.InvT-loop
 Inv-loop buffer at first end limit seen₀ k₀ seen k = (k ≤ end) × MarksOn first k (wordsFrom buffer at) limit seen₀ seen true
@@ -39,18 +39,17 @@ word-at-requires c κs = search needs
 cast-w : tie.Need-cast-w Inv-loop μ-loop
 cast-w c = search needs
 
-mark-names-requires : tie.Need-mark-names-requires Inv-loop μ-loop
-mark-names-requires c κs = search needs
-
--- from a word that isn't below the limit on, by names
+-- the words before one that isn't below the limit
 returns : tie.Need-returns Inv-loop μ-loop
 returns c =
-    let at-word = c .before .before .before in
-    let l = at-word .before .before .before .loop in
-    marks-then _ _ _ (l .k) _ _ (l .seen) _ _ (l .inv .1) (c .mark-names .ensures)
+    let l = c .before .before .before .before .loop in
+    record { most = λ h. l .inv .1; past = λ h. absurd (omega arith) }
 
 mark-requires : tie.Need-mark-requires Inv-loop μ-loop
 mark-requires c κs = search needs
+
+add-result : tie.Need-add-result Inv-loop μ-loop
+add-result c = search needs
 
 -- a number that was noted before
 returns-2 : tie.Need-returns-2 Inv-loop μ-loop
@@ -59,8 +58,11 @@ returns-2 c =
     let past-zero = at-mark .before .before .before in
     let at-word = past-zero .before in
     let l = at-word .before .before .loop in
-    marks-false _ _ _ _ _ _ (omega arith) _
-    (marks-more _ _ _ _ (omega arith) (l .k) (l .seen) _ (own-name _ _ _ (at-word .word-at .ensures) (omega arith)) (λ n. omega arith) _ _ (λ t. mark-notes _ _ (omega arith) (at-mark .mark .ensures) (past-zero .if1 .taken)) _ (sym (not-true _ (c .if3 .taken))) (l .inv .1))
+    record {
+      most = λ h. absurd (omega arith);
+      past = λ h. marks-false _ _ _ _ _ _ (omega arith) _
+          (marks-more _ _ _ _ (omega arith) (l .k) (l .seen) _ (own-name _ _ _ (at-word .word-at .ensures) (omega arith)) (λ n. omega arith) _ _ (λ t. mark-notes _ _ (omega arith) (at-mark .mark .ensures) (past-zero .if1 .taken)) _ (sym (not-true _ (c .if3 .taken))) (l .inv .1));
+    }
 
 add-k : tie.Need-add-k Inv-loop μ-loop
 add-k c = search needs
@@ -82,13 +84,10 @@ loop-again c =
 
 -- every word is passed
 returns-3 : tie.Need-returns-3 Inv-loop μ-loop
-returns-3 c =
-    let at-words = c .before in
-    let e : at-words .loop .k ≡ at-words .before .before .args .end = omega arith in
-    rw e at (at-words .loop .inv .1)
+returns-3 c = record { most = λ h. c .before .loop .inv .1; past = λ h. absurd (omega arith) }
 
-pub mark-slots-spec : {M : Type 1} → statement M
-mark-slots-spec =
+pub mark-plain-spec : {M : Type 1} → statement M
+mark-plain-spec =
     tie.close
     (tie.spec
     Inv-loop
@@ -98,9 +97,9 @@ mark-slots-spec =
     add-word-at
     word-at-requires
     cast-w
-    mark-names-requires
     returns
     mark-requires
+    add-result
     returns-2
     add-k
     loop-less
