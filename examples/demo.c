@@ -1,5 +1,5 @@
 /*
- * A pool of 4 frames over a store of 16 empty pages: links and fixes a few pages, writes, reads back, locks a page, settles, and
+ * A pool of 4 frames over a store of 80 empty pages: links and fixes a few pages, writes, reads back, locks a page, settles, and
  * reads the store again through a new pool, where the page is freed. Then tells from its fixes what caches of a few sizes hit.
  * Prints what it did, as demo.rs does.
  */
@@ -10,11 +10,14 @@
 #include <stdlib.h>
 #include <string.h>
 
-#define PAGES 16
+#define PAGES 80
 #define FRAMES 4
 
 static uint8_t store[PAGES * POOL_PAGE_SIZE];
 static uint8_t frames[FRAMES * POOL_PAGE_SIZE];
+static uint8_t directory[POOL_DIRECTORY_SIZE];
+/* What every call on the pool is lent. */
+#define LENT frames, sizeof frames, store, sizeof store, directory, sizeof directory
 static struct pool pool;
 /* The recording: the page of each fix. */
 static uint16_t recorded[POOL_MOST_REFERENCES];
@@ -38,10 +41,10 @@ static void done(struct pool_done answer)
 
 static struct pool_handle open_pool(void)
 {
-    done(pool_open(frames, sizeof frames, store, sizeof store));
+    done(pool_open(LENT));
     printf("open: %d pages, %d frames\n", pool.pages, pool.count);
 
-    struct pool_fixed fixed = pool_root(pool, frames, sizeof frames, store, sizeof store);
+    struct pool_fixed fixed = pool_root(pool, LENT);
     accept(fixed.refusal);
     pool = fixed.pool;
     printf("root: page %d in frame %d\n", fixed.handle.page, fixed.handle.frame);
@@ -50,19 +53,19 @@ static struct pool_handle open_pool(void)
 
 static void link_page(struct pool_handle parent, size_t slot, pool_page_number page, bool locked)
 {
-    done(pool_link(pool, frames, sizeof frames, store, sizeof store, parent, slot, page, locked));
+    done(pool_link(pool, LENT, parent, slot, page, locked));
     printf("link page %d to slot %zu of page %d%s\n", page, slot, parent.page, locked ? ", locked" : "");
 }
 
 static void unlink_slot(struct pool_handle parent, size_t slot)
 {
-    done(pool_unlink(pool, frames, sizeof frames, store, sizeof store, parent, slot));
+    done(pool_unlink(pool, LENT, parent, slot));
     printf("unlink slot %zu of page %d\n", slot, parent.page);
 }
 
 static struct pool_handle fix_slot(struct pool_handle parent, size_t slot)
 {
-    struct pool_fixed fixed = pool_fix(pool, frames, sizeof frames, store, sizeof store, parent, slot);
+    struct pool_fixed fixed = pool_fix(pool, LENT, parent, slot);
     accept(fixed.refusal);
     pool = fixed.pool;
     if (fixes < POOL_MOST_REFERENCES)
@@ -74,7 +77,7 @@ static struct pool_handle fix_slot(struct pool_handle parent, size_t slot)
 
 static void unfix_page(struct pool_handle handle)
 {
-    done(pool_unfix(pool, frames, sizeof frames, store, sizeof store, handle));
+    done(pool_unfix(pool, LENT, handle));
     printf("unfix page %d\n", handle.page);
 }
 
@@ -97,8 +100,7 @@ static const char *reason(uint8_t refusal)
 
 static void write_text(struct pool_handle handle, const char *text)
 {
-    struct pool_done answer = pool_write(pool, frames, sizeof frames, store, sizeof store, handle, 0, (const uint8_t *)text,
-                                         strlen(text));
+    struct pool_done answer = pool_write(pool, LENT, handle, 0, (const uint8_t *)text, strlen(text));
     if (answer.refusal != POOL_ACCEPTED) {
         printf("write to page %d: refused by rule %d: %s\n", handle.page, answer.refusal, reason(answer.refusal));
         return;
@@ -109,7 +111,7 @@ static void write_text(struct pool_handle handle, const char *text)
 
 static void evict_page(pool_page_number page)
 {
-    struct pool_done answer = pool_evict(pool, frames, sizeof frames, store, sizeof store, page);
+    struct pool_done answer = pool_evict(pool, LENT, page);
     if (answer.refusal != POOL_ACCEPTED) {
         printf("evict page %d: refused by rule %d: %s\n", page, answer.refusal, reason(answer.refusal));
         return;
@@ -129,12 +131,12 @@ static void relink_page(struct pool_handle parent, size_t slot, struct pool_hand
 
 static void find_page(pool_page_number page)
 {
-    struct pool_found found = pool_find(pool, frames, sizeof frames, store, sizeof store, page);
+    struct pool_found found = pool_find(pool, LENT, page);
     accept(found.refusal);
     if (found.present)
-        printf("find page %d: frame %d, %d looks\n", page, found.frame, found.looks);
+        printf("find page %d: frame %d, %d compared\n", page, found.frame, found.compared);
     else
-        printf("find page %d: absent, %d looks\n", page, found.looks);
+        printf("find page %d: absent, %d compared\n", page, found.compared);
 }
 
 /* Prints the text at the start of a payload, read in place. */
@@ -150,17 +152,17 @@ static void print_payload(const char *call, pool_page_number page, struct pool_p
 
 static void show_page(struct pool_handle handle)
 {
-    print_payload("show", handle.page, pool_show(pool, frames, sizeof frames, store, sizeof store, handle));
+    print_payload("show", handle.page, pool_show(pool, LENT, handle));
 }
 
 static void peek_page(pool_page_number page)
 {
-    print_payload("peek", page, pool_peek(pool, frames, sizeof frames, store, sizeof store, page));
+    print_payload("peek", page, pool_peek(pool, LENT, page));
 }
 
 static void print_word(struct pool_handle handle, size_t slot)
 {
-    struct pool_named named = pool_word(pool, frames, sizeof frames, store, sizeof store, handle, slot);
+    struct pool_named named = pool_word(pool, LENT, handle, slot);
     accept(named.refusal);
     if (named.page != 0)
         printf("word in slot %zu of page %d: page %d%s\n", slot, handle.page, named.page, named.locked ? ", locked" : "");
@@ -170,7 +172,7 @@ static void print_word(struct pool_handle handle, size_t slot)
 
 static void settle(void)
 {
-    done(pool_settle(pool, frames, sizeof frames, store, sizeof store));
+    done(pool_settle(pool, LENT));
     printf("settle\n");
 }
 
@@ -194,11 +196,14 @@ int main(void)
     link_page(root, 3, 7, false);
     struct pool_handle parent = fix_slot(root, 3);
     write_text(parent, "a parent");
-    link_page(parent, 0, 9, false);
+    link_page(parent, 0, 74, false);
     struct pool_handle child = fix_slot(parent, 0);
     write_text(child, "its child");
     print_word(root, 3);
-    find_page(9);
+
+    /* Both have remainder 7 by 67: in their chain the one loaded last stands first. */
+    find_page(74);
+    find_page(7);
 
     /* The root never goes, a pinned page goes once it is unfixed, and a parent after its child. */
     evict_page(0);
@@ -206,10 +211,10 @@ int main(void)
     unfix_page(parent);
     evict_page(7);
     unfix_page(child);
-    evict_page(9);
+    evict_page(74);
     evict_page(7);
-    find_page(9);
-    peek_page(9);
+    find_page(74);
+    peek_page(74);
     parent = fix_slot(root, 3);
 
     /* More pages than frames: the third of them has to be swept for. */

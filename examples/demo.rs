@@ -1,11 +1,11 @@
-//! A pool of 4 frames over a store of 16 empty pages: links and fixes a few pages, writes, reads back, locks a page, settles, and
+//! A pool of 4 frames over a store of 80 empty pages: links and fixes a few pages, writes, reads back, locks a page, settles, and
 //! reads the store again through a new pool, where the page is freed. Then tells from its fixes what caches of a few sizes hit.
 //! Prints what it did, as demo.c does.
 use pagepool::{Found, Handle, Named, PageNumber, PagePool, Refusal, Share, Tally, PAGE_SIZE};
 
 /// The pool with its buffers. Each method makes a call and prints it.
 struct Demo {
-    pool: PagePool<[u8; 4 * PAGE_SIZE], [u8; 16 * PAGE_SIZE]>,
+    pool: PagePool<[u8; 4 * PAGE_SIZE], [u8; 80 * PAGE_SIZE]>,
     /// The recording: the page of each fix.
     recorded: Vec<u16>,
 }
@@ -111,10 +111,10 @@ impl Demo {
     }
 
     fn find(&self, page: PageNumber) -> Result<(), Refusal> {
-        let Found { frame, looks } = self.pool.find(page)?;
+        let Found { frame, compared } = self.pool.find(page)?;
         match frame {
-            Some(frame) => println!("find page {page}: frame {frame}, {looks} looks"),
-            None => println!("find page {page}: absent, {looks} looks"),
+            Some(frame) => println!("find page {page}: frame {frame}, {compared} compared"),
+            None => println!("find page {page}: absent, {compared} compared"),
         }
         Ok(())
     }
@@ -162,18 +162,21 @@ impl Demo {
 
 fn main() -> Result<(), Refusal> {
     let mut demo = Demo {
-        pool: PagePool::new([0; 4 * PAGE_SIZE], [0; 16 * PAGE_SIZE]),
+        pool: PagePool::new([0; 4 * PAGE_SIZE], [0; 80 * PAGE_SIZE]),
         recorded: Vec::new(),
     };
     let root = demo.open()?;
     demo.link(root, 3, PageNumber(7), false)?;
     let parent = demo.fix(root, 3)?;
     demo.write(parent, "a parent");
-    demo.link(parent, 0, PageNumber(9), false)?;
+    demo.link(parent, 0, PageNumber(74), false)?;
     let child = demo.fix(parent, 0)?;
     demo.write(child, "its child");
     demo.word(root, 3)?;
-    demo.find(PageNumber(9))?;
+
+    // Both have remainder 7 by 67: in their chain the one loaded last stands first.
+    demo.find(PageNumber(74))?;
+    demo.find(PageNumber(7))?;
 
     // The root never goes, a pinned page goes once it is unfixed, and a parent after its child.
     demo.evict(PageNumber(0));
@@ -181,10 +184,10 @@ fn main() -> Result<(), Refusal> {
     demo.unfix(parent)?;
     demo.evict(PageNumber(7));
     demo.unfix(child)?;
-    demo.evict(PageNumber(9));
+    demo.evict(PageNumber(74));
     demo.evict(PageNumber(7));
-    demo.find(PageNumber(9))?;
-    demo.peek(PageNumber(9))?;
+    demo.find(PageNumber(74))?;
+    demo.peek(PageNumber(74))?;
     let parent = demo.fix(root, 3)?;
 
     // More pages than frames: the third of them has to be swept for.

@@ -5,9 +5,9 @@
  *     cc program.c $(PKG_CONFIG_PATH=PREFIX/lib/pkgconfig pkg-config --cflags --libs pagepool)
  * In this tree, `./archive` writes target/staticlib/libpagepool.a; examples/demo.c is a program that links it.
  *
- * The host owns everything. It keeps the store (N pages of 256 bytes), the frames (F of 256 bytes) and the pool's records,
- * and hands all three to every call; a call keeps nothing. The records are passed by value: go on with those in the answer.
- * A tally of recorded fixes stands by itself: its calls take no pool.
+ * The host owns everything. It keeps the store (N pages of 256 bytes), the frames (F of 256 bytes), the directory (131 bytes) and
+ * the pool's records, and hands all four to every call; a call keeps nothing. The records are passed by value: go on with those in
+ * the answer. A tally of recorded fixes stands by itself: its calls take no pool.
  *
  * Answers. `refusal` is 0 where the call was accepted, and otherwise the number of the first broken rule (enum pool_refusal).
  * An accepted answer's fields all count. A refused call has changed nothing: the records in its answer are those that it was
@@ -25,6 +25,14 @@
  *     uint8_t copy[POOL_PAYLOAD_SIZE];
  *     memcpy(copy, pool_payload(place, frames, store), sizeof copy);
  *
+ * Directory. In its 131 bytes find and peek look up the resident pages, each in the chain of its number's remainder by 67. Byte b
+ * below 67 holds 1 plus the frame at the head of chain b, byte 67 + f holds 1 plus the frame after f in its chain, and either 0
+ * where there is none. Open sets it, whatever it held, with page 0 alone in it. Loading a page puts it at its chain's head, and
+ * evicting one takes it out, by evict or by a sweep of fix; the others of a chain keep their order. No other call changes it, and a
+ * refused one leaves it byte for byte, open too. Go on with it as it was left. Another length is refused by 1, and by 2 a directory
+ * whose chains don't give exactly the resident pages of their remainders, each once in any order, or with another byte that isn't
+ * 0: that of a frame which is empty or not below F.
+ *
  * Locked pages. A word can mark the page that it names as locked; link puts the mark there, and word tells it. Write, link and
  * unlink in a locked page are refused by 26, so that its payload and its words stay as they are while the marked word stands: it
  * is never dirty, and the store holds its bytes. It is fixed, shown, loaded and evicted as any other, and so are the pages that
@@ -36,8 +44,8 @@
  *
  * Arguments. A call takes any lengths, records, handle, slot, offset, page number and tally, and refuses what it can't use. Of
  * the pointers it asks what C asks: each has as many bytes behind it as its size says, or elements as its length says, and a
- * buffer that is not const overlaps no other. NULL with a length of 0 is fine throughout: frames, store, counters, hits and
- * recordings of no length are refused by 1, and a write of no bytes changes nothing. NULL with any other length is not.
+ * buffer that is not const overlaps no other. NULL with a length of 0 is fine throughout: frames, store, directory, counters, hits
+ * and recordings of no length are refused by 1, and a write of no bytes changes nothing. NULL with any other length is not.
  */
 #ifndef PAGEPOOL_H
 #define PAGEPOOL_H
@@ -56,7 +64,7 @@ extern "C" {
  * Raised by each new call and by each change of a signature, a struct or an answer: MINOR where programs that were written and
  * compiled for the version before go on working with the new archive, otherwise MAJOR.
  */
-#define PAGEPOOL_VERSION_MAJOR 4
+#define PAGEPOOL_VERSION_MAJOR 5
 #define PAGEPOOL_VERSION_MINOR 0
 #define PAGEPOOL_VERSION (1000 * PAGEPOOL_VERSION_MAJOR + PAGEPOOL_VERSION_MINOR)
 
@@ -79,6 +87,9 @@ extern "C" {
 #define POOL_MOST_FRAMES 64
 #define POOL_MAX_USAGE 3
 #define POOL_MAX_PINS 65535
+/* The chains of the directory, and its bytes: one for the head of each chain, then one for each of 64 frames. */
+#define POOL_BUCKETS 67
+#define POOL_DIRECTORY_SIZE 131
 /* A tally has a counter for each depth from 1 to this. */
 #define POOL_DEPTHS 4095
 /* A recording has 1 to so many page numbers, each below POOL_MOST_PAGES. */
@@ -89,9 +100,9 @@ extern "C" {
 
 enum pool_refusal {
     POOL_ACCEPTED = 0,
-    /* Frames, store, counters, hits or recording have a length out of range or other than at opening, or the tally is full. */
+    /* Frames, store, directory, counters, hits or recording have a wrong length, or not that of opening, or the tally is full. */
     POOL_WRONG_LENGTH = 1,
-    /* Records and frames don't agree, or a tally's references with its recordings or its counters. */
+    /* Records, frames and directory don't agree, or a tally's references with its recordings or its counters. */
     POOL_DISAGREE = 2,
     /* The handle's frame isn't below F or doesn't hold its page, or that has no pins. */
     POOL_BAD_HANDLE = 3,
@@ -210,14 +221,14 @@ struct pool_named {
 };
 
 /*
- * Whether a page is resident; its frame, 0 where it isn't; and the frames looked at: that frame's index plus 1, or F where
- * there is none.
+ * Whether a page is resident; its frame, 0 where it isn't; and the entries of its chain that were compared: its place there, from
+ * 1, or the chain's length where it isn't resident.
  */
 struct pool_found {
     uint8_t refusal;
     bool present;
     pool_frame_index frame;
-    uint16_t looks;
+    uint16_t compared;
 };
 
 /* Where a payload lies: in the store or in the frames, from `start` on. Beside a refusal, no bytes at the frames' start. */
@@ -267,14 +278,15 @@ static inline const uint8_t *pool_payload(struct pool_place place, const uint8_t
 
 /*
  * Begins with a store as it is: page 0 is copied to frame 0, not pinned, and every other frame is empty. F and N are the sizes
- * over 256. Gives the records. Whatever earlier records of this store had not settled is forgotten, and their handles are
- * stale: settle first. Refused: 1, 16.
+ * over 256. Gives the records, and sets the directory over what it held. Whatever earlier records of this store had not settled
+ * is forgotten, and their handles are stale: settle first. Refused: 1, 16.
  */
-struct pool_done pool_open(uint8_t *frames, size_t frames_size, const uint8_t *store, size_t store_size);
+struct pool_done pool_open(uint8_t *frames, size_t frames_size, const uint8_t *store, size_t store_size, uint8_t *directory,
+                           size_t directory_size);
 
 /* Pins page 0 and gives its handle. Refused: 1, 2, 13. */
 struct pool_fixed pool_root(struct pool pool, const uint8_t *frames, size_t frames_size, const uint8_t *store,
-                            size_t store_size);
+                            size_t store_size, const uint8_t *directory, size_t directory_size);
 
 /*
  * Pins the page that a slot of the handle's page names, and gives its handle. A page that isn't resident is loaded first,
@@ -290,30 +302,32 @@ struct pool_fixed pool_root(struct pool pool, const uint8_t *frames, size_t fram
  * keeps so many pages pinned at once needs more frames: settle, and open with a larger F.
  */
 struct pool_fixed pool_fix(struct pool pool, uint8_t *frames, size_t frames_size, uint8_t *store, size_t store_size,
-                           struct pool_handle handle, size_t slot);
+                           uint8_t *directory, size_t directory_size, struct pool_handle handle, size_t slot);
 
 /* Takes one pin off the handle's page. Refused: 1, 2, 3. */
 struct pool_done pool_unfix(struct pool pool, const uint8_t *frames, size_t frames_size, const uint8_t *store,
-                            size_t store_size, struct pool_handle handle);
+                            size_t store_size, const uint8_t *directory, size_t directory_size, struct pool_handle handle);
 
 /* Gives the place of the payload of the handle's page. Refused: 1, 2, 3. */
 struct pool_place pool_show(struct pool pool, const uint8_t *frames, size_t frames_size, const uint8_t *store,
-                            size_t store_size, struct pool_handle handle);
+                            size_t store_size, const uint8_t *directory, size_t directory_size, struct pool_handle handle);
 
 /* Gives the place of the payload of a page: in its frame if it is resident, otherwise in the store. Refused: 1, 2, 6. */
 struct pool_place pool_peek(struct pool pool, const uint8_t *frames, size_t frames_size, const uint8_t *store,
-                            size_t store_size, pool_page_number page);
+                            size_t store_size, const uint8_t *directory, size_t directory_size, pool_page_number page);
 
 /* Gives the page number in a slot of the handle's page, 0 for none, and whether that page is locked. Refused: 1, 2, 3, 4. */
 struct pool_named pool_word(struct pool pool, const uint8_t *frames, size_t frames_size, const uint8_t *store,
-                            size_t store_size, struct pool_handle handle, size_t slot);
+                            size_t store_size, const uint8_t *directory, size_t directory_size, struct pool_handle handle,
+                            size_t slot);
 
 /*
  * Puts bytes at an offset of the payload of the handle's page, which is then dirty unless there are none. In a locked page a write
  * of no bytes is refused too. Refused: 1, 2, 3, 5, 26.
  */
 struct pool_done pool_write(struct pool pool, uint8_t *frames, size_t frames_size, const uint8_t *store, size_t store_size,
-                            struct pool_handle handle, size_t offset, const uint8_t *bytes, size_t bytes_size);
+                            const uint8_t *directory, size_t directory_size, struct pool_handle handle, size_t offset,
+                            const uint8_t *bytes, size_t bytes_size);
 
 /*
  * Stores a page number in an empty slot of the handle's page, which is then dirty; with `locked`, the word marks the page of that
@@ -326,11 +340,12 @@ struct pool_done pool_write(struct pool pool, uint8_t *frames, size_t frames_siz
  * the page that it is linked in, whether the mark is put or not.
  */
 struct pool_done pool_link(struct pool pool, uint8_t *frames, size_t frames_size, const uint8_t *store, size_t store_size,
-                           struct pool_handle handle, size_t slot, pool_page_number page, bool locked);
+                           const uint8_t *directory, size_t directory_size, struct pool_handle handle, size_t slot,
+                           pool_page_number page, bool locked);
 
 /* Clears a slot of the handle's page, which is then dirty. A mark there goes with it. Refused: 1, 2, 3, 4, 26, 7, 10. */
 struct pool_done pool_unlink(struct pool pool, uint8_t *frames, size_t frames_size, const uint8_t *store, size_t store_size,
-                             struct pool_handle handle, size_t slot);
+                             const uint8_t *directory, size_t directory_size, struct pool_handle handle, size_t slot);
 
 /*
  * Takes a page out of its frame, to the store if it is dirty. Refused: 1, 2, 6, 11, 20, 21, 22.
@@ -341,19 +356,21 @@ struct pool_done pool_unlink(struct pool pool, uint8_t *frames, size_t frames_si
  * them is refused by 21 or 22 in turn, do there what is said here.
  */
 struct pool_done pool_evict(struct pool pool, uint8_t *frames, size_t frames_size, uint8_t *store, size_t store_size,
-                            pool_page_number page);
+                            uint8_t *directory, size_t directory_size, pool_page_number page);
 
 /* Writes each dirty page to the store, and marks it clean. Refused: 1, 2. */
-struct pool_done pool_settle(struct pool pool, const uint8_t *frames, size_t frames_size, uint8_t *store, size_t store_size);
+struct pool_done pool_settle(struct pool pool, const uint8_t *frames, size_t frames_size, uint8_t *store, size_t store_size,
+                             const uint8_t *directory, size_t directory_size);
 
 /*
- * Tells whether a page is resident, in which frame, and by how many looks. Refused: 1, 2, 6.
+ * Tells whether a page is resident, in which frame, and how many entries of its chain were compared. Refused: 1, 2, 6.
  *
- * It looks at the frames from 0 on, at empty ones too, and ends at the one that holds the page. A page in the last frame and one
- * that isn't resident both take F looks: `present` tells them apart.
+ * It goes along the page's chain in the directory from the head on, and ends at the page's entry. A page that is absent takes the
+ * whole chain, as the last one in it does: `present` tells them apart. So it never takes more than there are resident pages with
+ * the page's remainder by 67.
  */
 struct pool_found pool_find(struct pool pool, const uint8_t *frames, size_t frames_size, const uint8_t *store,
-                            size_t store_size, pool_page_number page);
+                            size_t store_size, const uint8_t *directory, size_t directory_size, pool_page_number page);
 
 /*
  * ---- a workload that anyone can repeat
@@ -361,7 +378,8 @@ struct pool_found pool_find(struct pool pool, const uint8_t *frames, size_t fram
  * It begins with a pool just opened and the generator of a seed. Draw a record on the pool as it is, make the record's call, and
  * so on:
  *     struct pool_generator generator = pool_seeded(7);
- *     struct pool_drawn drawn = pool_draw(pool, frames, sizeof frames, store, sizeof store, generator);
+ *     struct pool_drawn drawn = pool_draw(pool, frames, sizeof frames, store, sizeof store, directory, sizeof directory,
+ *                                         generator);
  *     generator = drawn.generator;
  * and then the call of drawn.entry. The same seed, F, N and store give the same records and answers on every machine. Kept one
  * after the other the records are a recording; ./listing gives the same answers for it where the pool is the listing's, 4 frames
@@ -380,7 +398,8 @@ struct pool_generator pool_seeded(uint32_t seed);
  * are 0, but that link's handle has the page that is in the drawn frame, or 0 where that is empty.
  */
 struct pool_drawn pool_draw(struct pool pool, const uint8_t *frames, size_t frames_size, const uint8_t *store,
-                            size_t store_size, struct pool_generator generator);
+                            size_t store_size, const uint8_t *directory, size_t directory_size,
+                            struct pool_generator generator);
 
 /*
  * ---- how many frames to buy
@@ -482,7 +501,7 @@ POOL_SIZE(pool_found, 6);
 POOL_OFFSET(pool_found, refusal, 0);
 POOL_OFFSET(pool_found, present, 1);
 POOL_OFFSET(pool_found, frame, 2);
-POOL_OFFSET(pool_found, looks, 4);
+POOL_OFFSET(pool_found, compared, 4);
 
 POOL_SIZE(pool_place, 24);
 POOL_OFFSET(pool_place, refusal, 0);

@@ -9,7 +9,7 @@ extern "C" fn done(pool: Pool) -> Done {
 }
 
 extern "C" fn found(_: Pool) -> Found {
-    Found { refusal: 0, present: false, frame: FrameIndex(0), looks: 0 }
+    Found { refusal: 0, present: false, frame: FrameIndex(0), compared: 0 }
 }
 
 extern "C" fn opened() -> Done {

@@ -1,9 +1,12 @@
 //! The calls that are timed, each with the state that it is made on.
 use crate::boundary;
 use crate::timing::{repeat, Variant};
-use pagepool::{raw, Entry, Generator, NoRule, PageNumber, Refusal, MAX_PINS, MAX_USAGE, PAGE_SIZE};
+use pagepool::{Entry, Generator, PageNumber, Refusal, MAX_PINS, MAX_USAGE, PAGE_SIZE};
 use pool_bench::baseline;
-use pool_bench::shapes::{absent, last_named, last_resident, pinned, unnamed, State, EMPTY_SLOT, ROOT};
+use pool_bench::shapes::{
+    absent, absent_from_chain, last_named, last_of_chain, last_resident, pinned, unnamed, State, EMPTY_SLOT,
+    ROOT,
+};
 use std::cell::Cell;
 use std::hint::black_box;
 
@@ -31,16 +34,9 @@ fn refuse_edit<T>(answer: Result<T, Refusal>) {
     assert!(matches!(black_box(answer), Err(Refusal::IsLocked)));
 }
 
-/// An evict of a page that names a resident one, as the package makes it; but an archive from before request A.4 can be timed
-/// too, whose number is no rule of the package.
-fn evict_refused(state: &mut State, page: PageNumber) {
-    let State { records, frames, store } = state;
-    // SAFETY: each pointer is that of a buffer of the length beside it, lent for the call alone.
-    let done = unsafe {
-        raw::pool_evict(*records, frames.as_mut_ptr(), frames.len(), store.as_mut_ptr(), store.len(), page)
-    };
-    *records = done.pool;
-    assert!(matches!(black_box(Refusal::try_from(done.refusal)), Ok(Refusal::IsParent) | Err(NoRule(1..))));
+/// A refusal of an evict, since its page names a resident one.
+fn refuse_parent<T>(answer: Result<T, Refusal>) {
+    assert!(matches!(black_box(answer), Err(Refusal::IsParent)));
 }
 
 /// The four variants of a call with what it must answer, what copies its records and what undoes it.
@@ -54,7 +50,13 @@ macro_rules! variants {
                 undo_library(black_box(s));
             }),
             baseline: repeat(move |s: &mut State| {
-                $expect(baseline::$call(&mut s.records, &mut s.frames, &mut s.store $(, $argument)*));
+                $expect(baseline::$call(
+                    &mut s.records,
+                    &mut s.frames,
+                    &mut s.store,
+                    &mut s.directory
+                    $(, $argument)*
+                ));
                 undo_baseline(black_box(s));
             }),
             copy: repeat(move |s: &mut State| {
@@ -85,13 +87,20 @@ macro_rules! undone {
     ($state:expr, $call:ident($($argument:expr),*)) => {{
         let state: State = $state;
         let mut after = state.clone();
-        accept(after.$call($($argument),*));
+        accept(baseline::$call(
+            &mut after.records,
+            &mut after.frames,
+            &mut after.store,
+            &mut after.directory
+            $(, $argument)*
+        ));
         let undo = undo(&state, &after);
         (state, variants!(accept, boundary::in_and_out, undo, $call($($argument),*)))
     }};
 }
 
-/// Puts the records back, and the frames that a call altered. What it wrote to the store was there before.
+/// Puts the records back, and the frames and the directory's bytes that a call altered. What it wrote to the store was there
+/// before.
 fn undo(before: &State, after: &State) -> impl Fn(&mut State) + Clone {
     assert!(before.store == after.store);
     let records = before.records;
@@ -99,10 +108,16 @@ fn undo(before: &State, after: &State) -> impl Fn(&mut State) + Clone {
     let altered = frames.enumerate().filter(|(_, (old, new))| old != new);
     let pages: Vec<(usize, Vec<u8>)> =
         altered.map(|(frame, (old, _))| (PAGE_SIZE * frame, old.to_vec())).collect();
+    let bytes = before.directory.iter().zip(&after.directory).enumerate();
+    let bytes: Vec<(usize, u8)> =
+        bytes.filter(|(_, (old, new))| old != new).map(|(at, (old, _))| (at, *old)).collect();
     move |state| {
         state.records = records;
         for (start, page) in &pages {
             state.frames[*start..*start + PAGE_SIZE].copy_from_slice(page);
+        }
+        for (at, byte) in &bytes {
+            state.directory[*at] = *byte;
         }
     }
 }
@@ -161,13 +176,11 @@ pub fn root(state: &State) -> (State, Variants) {
     repeated!(state.clone(), boundary::in_and_out, root())
 }
 
-/// An archive from before request A.2 can be timed too: its struct, which has no looks, comes back in the same register, and
-/// nothing goes by the looks.
 fn find(state: &State, page: PageNumber) -> (State, Variants) {
     repeated!(state.clone(), boundary::only_in, find(page))
 }
 
-/// The root: one look.
+/// The root, in frame 0.
 pub fn find_first(state: &State) -> (State, Variants) {
     find(state, ROOT.page)
 }
@@ -182,14 +195,30 @@ pub fn find_last(state: &State) -> (State, Variants) {
     find(state, last_resident(state))
 }
 
-/// A page that isn't resident: F looks.
+/// A page that isn't resident.
 pub fn find_absent(state: &State) -> (State, Variants) {
     find(state, unnamed(state))
+}
+
+/// A resident page, the last of a longest chain.
+pub fn find_last_of_chain(state: &State) -> (State, Variants) {
+    find(state, last_of_chain(state))
+}
+
+/// A page that isn't resident, and would be in a longest chain.
+pub fn find_absent_from_chain(state: &State) -> (State, Variants) {
+    find(state, absent_from_chain(state))
 }
 
 /// A page that isn't resident.
 pub fn peek(state: &State) -> (State, Variants) {
     let page = unnamed(state);
+    repeated!(state.clone(), boundary::only_in, peek(page))
+}
+
+/// The page in the last frame.
+pub fn peek_resident(state: &State) -> (State, Variants) {
+    let page = last_resident(state);
     repeated!(state.clone(), boundary::only_in, peek(page))
 }
 
@@ -263,20 +292,14 @@ pub fn evict_dirty(state: &State) -> (State, Variants) {
 /// In `Full` alone.
 pub fn evict_parent(state: &State) -> (State, Variants) {
     let (mut state, (parent, slot)) = (state.clone(), absent(state));
-    let child = state.fix(parent, slot).expect("a frame is open").handle;
-    state.unfix(child).expect("it was pinned");
-    state.unfix(parent).expect("it was pinned");
+    let State { records, frames, store, directory } = &mut state;
+    let child =
+        baseline::fix(records, frames, store, directory, parent, slot).expect("a frame is open").handle;
+    for handle in [child, parent] {
+        baseline::unfix(records, frames, store, directory, handle).expect("it was pinned");
+    }
     let page = parent.page;
-    let variants = Variants {
-        library: repeat(move |s: &mut State| evict_refused(s, page)),
-        baseline: repeat(move |s: &mut State| {
-            let answer = baseline::evict(&mut s.records, &mut s.frames, &mut s.store, page);
-            assert_eq!(black_box(answer), Err(Refusal::IsParent));
-        }),
-        copy: repeat(boundary::in_and_out),
-        undo: repeat(|_| ()),
-    };
-    (state, variants)
+    refused!(refuse_parent, state, evict(page))
 }
 
 pub fn settle_dirty(state: &State) -> (State, Variants) {
@@ -300,7 +323,9 @@ fn drawing(draw: impl Fn(&State, &mut Generator) -> Result<Entry, Refusal>) -> i
 pub fn draw(state: &State) -> (State, Variants) {
     let variants = Variants {
         library: repeat(drawing(|s, generator| s.draw(generator))),
-        baseline: repeat(drawing(|s, generator| baseline::draw(&s.records, &s.frames, &s.store, generator))),
+        baseline: repeat(drawing(|s, generator| {
+            baseline::draw(&s.records, &s.frames, &s.store, &s.directory, generator)
+        })),
         copy: repeat(boundary::only_in),
         undo: repeat(|_| ()),
     };

@@ -1,6 +1,8 @@
 //! Two programs, each linked to an archive of its own, timed in turn. A busy moment of the machine falls on a round or two:
 //! the least times of all rounds and the middle one of the rounds' ratios both have to tell before a row counts as slower.
-use crate::{rows, tallies};
+use crate::report::under;
+use crate::rows::{self, DIFFERENCES, SHOW};
+use crate::tallies;
 use std::io;
 use std::process::Command;
 
@@ -43,7 +45,7 @@ pub fn text(programs: [&str; 2], calls: &[&str]) -> io::Result<String> {
             rounds[side].push(run(programs[side], calls)?);
         }
     }
-    Ok(table(&rounds))
+    Ok(table(&rounds) + &parts(&rounds))
 }
 
 fn run(program: &str, calls: &[&str]) -> io::Result<Vec<Round>> {
@@ -65,6 +67,42 @@ fn read(line: &str) -> io::Result<Round> {
 /// A row's rounds of a program, none where it has no such row.
 fn of_row<'a>(rounds: &'a [Vec<Round>], row: &str) -> Vec<&'a Round> {
     rounds.iter().flatten().filter(|round| round.row == row).collect()
+}
+
+const PARTS_HEAD: &str = "\
+| part of a call | shape | F | N | A, ns | B, ns | B less A, ns |
+|---|---|--:|--:|--:|--:|--:|
+";
+
+/// What rows take more than others on the same state, and what a call takes that does little but rules 1 and 2: where A is from
+/// before request A.3, it takes the directory's test more in B. None where a program has no such row.
+fn parts(rounds: &[Vec<Vec<Round>>; 2]) -> String {
+    let time = |side: usize, label: &str, state: &str| {
+        let times = of_row(&rounds[side], &format!("{label} | {state}"));
+        (!times.is_empty()).then(|| least(times.iter().map(|round| round.library)))
+    };
+    let mut text = String::new();
+    for Round { row, .. } in &rounds[0][0] {
+        let Some((label, state)) = row.split_once(" | ") else { continue };
+        if label == SHOW {
+            text += &part("rules 1 and 2, by show", state, [0, 1].map(|side| time(side, label, state)));
+        }
+        for (name, _, other) in DIFFERENCES.iter().filter(|(_, row, _)| *row == label) {
+            let more = |side| Some(time(side, label, state)? - time(side, other, state)?);
+            text += &part(name, state, [0, 1].map(more));
+        }
+    }
+    under(PARTS_HEAD, text)
+}
+
+/// A line of a part's times in both programs.
+fn part(name: &str, state: &str, [a, b]: [Option<f64>; 2]) -> String {
+    if a.or(b).is_none() {
+        return String::new();
+    }
+    let cell = |time: Option<f64>| time.map_or("none".into(), |time| format!("{time:.1}"));
+    let more = a.zip(b).map_or("none".into(), |(a, b)| format!("{:+.1}", b - a));
+    format!("| {name} | {state} | {} | {} | {more} |\n", cell(a), cell(b))
 }
 
 /// The rows that both programs have, and how many one of them has alone.

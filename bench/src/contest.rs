@@ -1,8 +1,11 @@
-//! The forms of counting depths against each other, on the recordings that add is timed on.
+//! The forms of counting depths against each other, on the recordings that add is timed on; and those of the directory's test, on
+//! states that calls are timed on.
 use crate::tallies::{added, Added};
 use crate::timing::{deeper, repeat, Race};
 use pagepool::DEPTHS;
+use pool_bench::chains::{self, Lent};
 use pool_bench::forms::{Counts, FORMS};
+use pool_bench::shapes::{sharing, Shape};
 use std::hint::black_box;
 
 const FORM_COUNT: usize = FORMS.len();
@@ -40,4 +43,42 @@ pub fn measured(passes: u32) -> Vec<Figure> {
         deeper(pass, &mut || rows.iter_mut().for_each(|(_, race)| race.pass()));
     }
     rows.iter().map(|(added, race)| Figure { added: *added, times: race.times() }).collect()
+}
+
+const CHAIN_FORMS: usize = chains::FORMS.len();
+
+/// A state, and the nanoseconds that each form of the directory's test takes on it.
+pub struct Tested {
+    pub shape: Shape,
+    pub count: usize,
+    pub pages: usize,
+    pub times: [f64; CHAIN_FORMS],
+}
+
+/// One page to a chain, the root alone, four pages to a chain, and all in one.
+fn states() -> impl Iterator<Item = (Shape, usize, usize)> {
+    let sizes = |shape| [4, 16, 64].map(|count| (shape, count, 256));
+    [Shape::Full, Shape::Opened].into_iter().flat_map(sizes).chain(sharing())
+}
+
+fn chain_race((shape, count, pages): (Shape, usize, usize)) -> Race<Lent, CHAIN_FORMS> {
+    let state = shape.state(count, pages);
+    let variants =
+        chains::FORMS.map(|form| repeat(move |lent: &mut Lent| assert!(black_box((form.agrees)(lent)))));
+    Race::new(Lent::new(&state.records, state.directory), |_| (), variants)
+}
+
+/// The directory's test alone, timed in so many passes.
+pub fn tested(passes: u32) -> Vec<Tested> {
+    let mut rows: Vec<_> = states().map(|state| (state, chain_race(state))).collect();
+    for pass in 0..passes {
+        deeper(pass, &mut || rows.iter_mut().for_each(|(_, race)| race.pass()));
+    }
+    let tested = rows.iter().map(|((shape, count, pages), race)| Tested {
+        shape: *shape,
+        count: *count,
+        pages: *pages,
+        times: race.times(),
+    });
+    tested.collect()
 }

@@ -1,5 +1,5 @@
 //! Times each call of the proved library and of the baseline, or one of them, and measures the library's stack; and times the forms
-//! of counting depths. `--write` puts the figures into docs/PERFORMANCE.md and the plots beside it.
+//! of counting depths and of the directory's test. `--write` puts the figures into docs/PERFORMANCE.md and the plots beside it.
 mod asked;
 mod boundary;
 mod calls;
@@ -26,7 +26,7 @@ const DOCS: &str = concat!(env!("CARGO_MANIFEST_DIR"), "/../docs");
 
 const USAGE: &str = "\
 usage: pool-bench [CALL]                   print the tables, or the rows of one call
-       pool-bench --forms                  print the forms of counting depths side by side
+       pool-bench --forms                  print the forms of counting depths, and of the directory's test, side by side
        pool-bench --write [PART]           put them into docs/, or one part: pool, tally or forms
        pool-bench --check FOLDER           put them into another folder, after one pass, and print nothing
        pool-bench --figures [CALL]..       print a round of a comparison
@@ -95,7 +95,11 @@ impl Part {
                 let text = report::tally::text(&figures, &stack::measured_on_a_tally());
                 Measured { text, plot: Some(("performance-tally.svg", plot::of_tally(&figures))) }
             }
-            Part::Forms => Measured { text: report::forms::text(&contest::measured(passes)), plot: None },
+            Part::Forms => {
+                let depths = report::forms::text(&contest::measured(passes));
+                let text = depths + &report::forms::chains_text(&contest::tested(passes));
+                Measured { text, plot: None }
+            }
         }
     }
 }

@@ -25,6 +25,8 @@ fn colour(shape: Shape) -> &'static str {
         Shape::Chain => "#c2255c",
         Shape::Turned => "#495057",
         Shape::Marked => "#0c8599",
+        Shape::Fours => "#b08900",
+        Shape::OneChain => "#7a5c3e",
     }
 }
 

@@ -2,7 +2,7 @@
 pub mod forms;
 pub mod tally;
 
-use crate::rows::{Figure, Grows, Times};
+use crate::rows::{Figure, Grows, Times, DIFFERENCES};
 use crate::stack::Depth;
 use pool_bench::shapes::Shape;
 use std::fmt::Write;
@@ -70,7 +70,38 @@ pub fn text(figures: &[Figure], depths: &[Depth]) -> String {
         let missed = missed.iter().filter(|missed| **missed == shape).count();
         let _ = write!(text, "{} {} {missed} of {rows}", if place == 0 { ":" } else { "," }, shape.name());
     }
-    text + ".\n" + &slopes(figures)
+    text + ".\n" + &slopes(figures) + &differences(figures)
+}
+
+/// Lines under the head of their table, or nothing where there are none.
+pub fn under(head: &str, lines: String) -> String {
+    if lines.is_empty() {
+        lines
+    } else {
+        format!("\n{head}{lines}")
+    }
+}
+
+/// A table of what rows take more than others on the same state, as far as there are rows for it.
+fn differences(figures: &[Figure]) -> String {
+    let mut text = String::new();
+    for (name, label, other) in DIFFERENCES {
+        for row in figures.iter().filter(|row| row.label == label && row.grows == Grows::Frames) {
+            let state = |row: &Figure| (row.shape, row.count, row.pages);
+            let less = figures.iter().find(|less| less.label == other && state(less) == state(row));
+            if let Some(less) = less {
+                let library = row.times.library - less.times.library;
+                let baseline = row.times.baseline - less.times.baseline;
+                let (shape, count, pages) = (row.shape.name(), row.count, row.pages);
+                let _ =
+                    writeln!(text, "| {name} | {shape} | {count} | {pages} | {library:.1} | {baseline:.1} |");
+            }
+        }
+    }
+    under(
+        "| part of a call | shape | F | N | library, ns | baseline, ns |\n|---|---|--:|--:|--:|--:|\n",
+        text,
+    )
 }
 
 /// What one thing more costs: between two sizes of a call on a shape.
@@ -99,11 +130,7 @@ fn slopes(figures: &[Figure]) -> String {
             let _ = writeln!(text, "| {thing} | {library:.2} | {baseline:.2} | {rows} |");
         }
     }
-    if text.is_empty() {
-        text
-    } else {
-        format!("\n| one more | library, ns | baseline, ns | by the rows |\n|---|--:|--:|---|\n{text}")
-    }
+    under("| one more | library, ns | baseline, ns | by the rows |\n|---|--:|--:|---|\n", text)
 }
 
 /// The shapes that there are rows of, and how many.

@@ -1,12 +1,13 @@
 //! The rows of the table of the pool's calls, and their figures.
 use crate::asked::Asked;
 use crate::calls::{
-    draw, evict_dirty, evict_parent, find_absent, find_first, find_last, find_middle, fix_clean, fix_dirty,
-    fix_half_pinned, fix_hit, fix_one_open, link, link_locked, link_marked, link_named, link_taken, open,
-    peek, root, settle_dirty, show, unfix, unlink, unlink_locked, word, write, write_locked, Variants,
+    draw, evict_dirty, evict_parent, find_absent, find_absent_from_chain, find_first, find_last,
+    find_last_of_chain, find_middle, fix_clean, fix_dirty, fix_half_pinned, fix_hit, fix_one_open, link,
+    link_locked, link_marked, link_named, link_taken, open, peek, peek_resident, root, settle_dirty, show,
+    unfix, unlink, unlink_locked, word, write, write_locked, Variants,
 };
 use crate::timing::{deeper, Race};
-use pool_bench::shapes::{has_marks, Shape, State};
+use pool_bench::shapes::{has_marks, Shape, State, FOURS, ONE_CHAIN};
 
 /// A measured row.
 pub struct Figure {
@@ -57,8 +58,10 @@ const WITH_FULL_FRAMES: &[Call] = &[
     ("find, first frame", find_first),
     ("find, middle frame", find_middle),
     ("find, last frame", find_last),
+    ("find, absent", find_absent),
     ("peek", peek),
-    ("show", show),
+    ("peek, resident", peek_resident),
+    (SHOW, show),
     (WORD, word),
     ("write, 8 bytes", write),
     ("unlink", unlink),
@@ -88,6 +91,22 @@ const WITH_MARKS: &[Call] = &[
     ("unlink, locked page", unlink_locked),
 ];
 
+/// Where pages share chains: calls that go along one, and what rule 2 takes of it.
+const WITH_CHAINS: &[Call] = &[
+    ("root", root),
+    ("fix, hit", fix_hit),
+    ("fix, sweep, clean victim", fix_clean),
+    ("find, first frame", find_first),
+    ("find, last frame", find_last),
+    ("find, last of a chain", find_last_of_chain),
+    ("find, absent from a chain", find_absent_from_chain),
+    ("find, absent", find_absent),
+    ("peek", peek),
+    ("peek, resident", peek_resident),
+    (SHOW, show),
+    ("evict, dirty", evict_dirty),
+];
+
 const ON_THE_ROOT: &[Call] = &[
     ("root", root),
     ("fix, empty frame", fix_clean),
@@ -95,7 +114,7 @@ const ON_THE_ROOT: &[Call] = &[
     ("find, first frame", find_first),
     ("find, absent", find_absent),
     ("peek", peek),
-    ("show", show),
+    (SHOW, show),
     (WORD, word),
     ("write, 8 bytes", write),
     ("link", link),
@@ -109,10 +128,22 @@ const OF_EVERY_USER: &[Call] = &[
     ("fix, hit", fix_hit),
     ("unfix", unfix),
     ("find, last frame", find_last),
-    ("show", show),
+    (SHOW, show),
     (WORD, word),
     ("write, 8 bytes", write),
     ("draw", draw),
+];
+
+/// A call that does next to nothing but rules 1 and 2.
+pub const SHOW: &str = "show";
+
+/// What a row takes more than another on the same state: by name, that row and the other.
+pub const DIFFERENCES: [(&str, &str, &str); 5] = [
+    ("find past rule 2, last frame", "find, last frame", SHOW),
+    ("find past rule 2, last of a chain", "find, last of a chain", SHOW),
+    ("find past rule 2, absent", "find, absent", SHOW),
+    ("find past rule 2, absent from a chain", "find, absent from a chain", SHOW),
+    ("peek past rule 2, resident", "peek, resident", SHOW),
 ];
 
 /// A call whose answer tells a mark.
@@ -139,7 +170,7 @@ const fn by_pages(shape: Shape, calls: &'static [Call]) -> Block {
     Block { shape, grows: Grows::Pages, sizes: BY_PAGES, calls }
 }
 
-static BLOCKS: [Block; 10] = [
+static BLOCKS: [Block; 12] = [
     by_frames(Shape::Full, WITH_FULL_FRAMES),
     by_frames(Shape::Full, WITH_OTHER_PINS),
     by_pages(Shape::Full, OVER_THE_STORE),
@@ -150,6 +181,8 @@ static BLOCKS: [Block; 10] = [
     by_frames(Shape::Turned, &[("root", root)]),
     by_frames(Shape::Marked, WITH_MARKS),
     by_pages(Shape::Marked, OVER_MARKS),
+    Block { shape: Shape::Fours, grows: Grows::Frames, sizes: &FOURS, calls: WITH_CHAINS },
+    Block { shape: Shape::OneChain, grows: Grows::Frames, sizes: &ONE_CHAIN, calls: WITH_CHAINS },
 ];
 
 impl Figure {

@@ -1,7 +1,14 @@
 //! The shapes of state that calls are timed on: how the store's pages name each other, and which of them are resident.
-use pagepool::{FrameIndex, Handle, PageNumber, PagePool, LOCK_BIT, PAGE_SIZE, PAYLOAD_START, SLOTS};
+use crate::baseline;
+#[cfg(feature = "former")]
+use crate::former::PagePool;
+#[cfg(not(feature = "former"))]
+use pagepool::PagePool;
+use pagepool::{
+    FrameIndex, Handle, PageNumber, BUCKETS, LOCK_BIT, MOST_FRAMES, PAGE_SIZE, PAYLOAD_START, SLOTS,
+};
 
-/// The records, the frames and the store of a host.
+/// The records, the frames, the store and the directory of a host.
 pub type State = PagePool<Vec<u8>, Vec<u8>>;
 
 #[derive(Clone, Copy, Debug, PartialEq)]
@@ -20,6 +27,10 @@ pub enum Shape {
     Turned,
     /// Pages as in `Full`, each word marked, so that every page but the root is locked. The frames are full.
     Marked,
+    /// The tree of `Full` over other pages, four of which share a chain of the directory each time. The frames are full.
+    Fours,
+    /// The same over the pages that share the root's chain, which so holds every resident page. The frames are full.
+    OneChain,
 }
 
 pub const ROOT: Handle = Handle { frame: FrameIndex(0), page: PageNumber(0) };
@@ -27,12 +38,36 @@ pub const ROOT: Handle = Handle { frame: FrameIndex(0), page: PageNumber(0) };
 /// A slot that is empty in every pinned page, except in the root of `Leaves`.
 pub const EMPTY_SLOT: usize = 15;
 
-/// A page that isn't taken in, so that a resident page names one that is not; in `Full` it names pages itself.
+/// The place of a page that isn't taken in, so that a resident page names one that is not; in `Full` it names pages itself.
 const LEFT_OUT: usize = 16;
 
+/// The places of `Fours`: as many as there can be frames, and four more, since one page isn't taken in and four share each chain.
+const FOURS_PLACES: usize = MOST_FRAMES + 4;
+
+/// F and N for `Fours`: so many pages that some share a chain of the directory, and that another would.
+pub const FOURS: [(usize, usize); 3] = [(4, 320), (16, 320), (64, 320)];
+
+/// F and N for `OneChain`: as many frames as there are pages for them in one chain, but for the one that isn't taken in.
+pub const ONE_CHAIN: [(usize, usize); 3] = [(4, 4096), (16, 4096), (61, 4096)];
+
+/// The shapes whose pages share chains, each with its F and N.
+pub fn sharing() -> impl Iterator<Item = (Shape, usize, usize)> {
+    let sized = [(Shape::Fours, FOURS), (Shape::OneChain, ONE_CHAIN)];
+    sized.into_iter().flat_map(|(shape, sizes)| sizes.map(|(count, pages)| (shape, count, pages)))
+}
+
 impl Shape {
-    pub const ALL: [Shape; 7] =
-        [Shape::Full, Shape::Leaves, Shape::Opened, Shape::Few, Shape::Chain, Shape::Turned, Shape::Marked];
+    pub const ALL: [Shape; 9] = [
+        Shape::Full,
+        Shape::Leaves,
+        Shape::Opened,
+        Shape::Few,
+        Shape::Chain,
+        Shape::Turned,
+        Shape::Marked,
+        Shape::Fours,
+        Shape::OneChain,
+    ];
 
     pub fn name(self) -> &'static str {
         match self {
@@ -43,28 +78,45 @@ impl Shape {
             Shape::Chain => "chain",
             Shape::Turned => "turned chain",
             Shape::Marked => "marked",
+            Shape::Fours => "four to a chain",
+            Shape::OneChain => "all in one chain",
         }
     }
 
-    /// The page and the slot that name a page.
-    fn parent(self, page: usize) -> (usize, usize) {
+    /// The page at a place of the tree: in most shapes the place is its number.
+    fn number(self, place: usize) -> usize {
         match self {
-            Shape::Leaves if page <= SLOTS => (0, page - 1),
-            Shape::Leaves => ((page - SLOTS - 1) / 15 + 1, (page - SLOTS - 1) % 15),
-            Shape::Chain | Shape::Turned => (page - 1, 0),
-            Shape::Full | Shape::Opened | Shape::Few | Shape::Marked => ((page - 1) / 15, (page - 1) % 15),
+            Shape::Fours => place / 4 + BUCKETS * (place % 4),
+            Shape::OneChain => BUCKETS * place,
+            _ => place,
         }
     }
 
-    /// The pages that are named, for F frames and N pages. The last page never is.
-    fn named(self, count: usize, pages: usize) -> impl Iterator<Item = usize> {
-        let end = if self == Shape::Leaves { count.max(SLOTS) + 1 } else { pages };
-        1..end.min(pages - 1)
+    /// The place and the slot that name a place's page.
+    fn parent(self, place: usize) -> (usize, usize) {
+        match self {
+            Shape::Leaves if place <= SLOTS => (0, place - 1),
+            Shape::Leaves => ((place - SLOTS - 1) / 15 + 1, (place - SLOTS - 1) % 15),
+            Shape::Chain | Shape::Turned => (place - 1, 0),
+            _ => ((place - 1) / 15, (place - 1) % 15),
+        }
     }
 
-    /// The word that names a page.
-    fn word(self, page: usize) -> u32 {
-        page as u32 | if self == Shape::Marked { LOCK_BIT } else { 0 }
+    /// The places whose pages are named, for F frames and N pages. The last page never is.
+    fn named(self, count: usize, pages: usize) -> impl Iterator<Item = usize> {
+        let end = match self {
+            Shape::Leaves => count.max(SLOTS) + 1,
+            Shape::Fours => FOURS_PLACES,
+            Shape::OneChain => pages / BUCKETS + 1,
+            _ => pages,
+        };
+        let is_below = move |place| self.number(place) < pages - 1;
+        (1..end.min(pages - 1)).filter(move |place| is_below(*place) && is_below(self.parent(*place).0))
+    }
+
+    /// The word that names a place's page.
+    fn word(self, place: usize) -> u32 {
+        self.number(place) as u32 | if self == Shape::Marked { LOCK_BIT } else { 0 }
     }
 
     pub fn store(self, count: usize, pages: usize) -> Vec<u8> {
@@ -72,27 +124,30 @@ impl Shape {
         for (page, bytes) in store.chunks_exact_mut(PAGE_SIZE).enumerate() {
             bytes[PAYLOAD_START..].fill(page as u8 | 1);
         }
-        for page in self.named(count, pages) {
-            let (parent, slot) = self.parent(page);
-            let word = &mut store[PAGE_SIZE * parent + 4 * slot..][..4];
-            word.copy_from_slice(&self.word(page).to_le_bytes());
+        for place in self.named(count, pages) {
+            let (parent, slot) = self.parent(place);
+            let word = &mut store[PAGE_SIZE * self.number(parent) + 4 * slot..][..4];
+            word.copy_from_slice(&self.word(place).to_le_bytes());
         }
         store
     }
 
-    /// A pool over such a store, its frames filled in the order of page numbers. The pages in the first two frames are pinned,
-    /// and each page has usage 1.
+    /// A pool over such a store, by the baseline's calls, its frames filled in the order of places. The pages in the first two
+    /// frames are pinned, and each page has usage 1.
     pub fn state(self, count: usize, pages: usize) -> State {
         let mut state = opened(count, self.store(count, pages));
-        let mut handles = vec![state.root().expect("the root can be pinned").handle];
-        let taken_in = |page: &usize| self.in_chain() || *page != LEFT_OUT;
+        let root = baseline::root(&mut state.records, &state.frames, &state.store, &state.directory);
+        let mut handles = vec![root.expect("the root can be pinned").handle];
+        let taken_in = |place: &usize| self.in_chain() || *place != LEFT_OUT;
         let most = if self == Shape::Opened { 0 } else { count - 1 };
-        for page in self.named(count, pages).filter(taken_in).take(most) {
-            let (parent, slot) = self.parent(page);
+        for place in self.named(count, pages).filter(taken_in).take(most) {
+            let (parent, slot) = self.parent(place);
             if self == Shape::Turned {
-                state.records.hand = FrameIndex((count - page) as u8);
+                state.records.hand = FrameIndex((count - place) as u8);
             }
-            handles.push(state.fix(handles[parent], slot).expect("a frame is empty").handle);
+            let State { records, frames, store, directory } = &mut state;
+            let fixed = baseline::fix(records, frames, store, directory, handles[parent], slot);
+            handles.push(fixed.expect("a frame is empty").handle);
         }
         state.records.hand = FrameIndex(0);
         release_all_but_two(&mut state);
@@ -109,10 +164,11 @@ pub fn has_marks() -> bool {
     State::new(vec![0; PAGE_SIZE * 2], Shape::Marked.store(2, 4)).open().is_ok()
 }
 
-/// A pool just opened, nothing pinned.
+/// A pool just opened, by the baseline, nothing pinned.
 pub fn opened(count: usize, store: Vec<u8>) -> State {
     let mut state = State::new(vec![0; PAGE_SIZE * count], store);
-    state.open().expect("the store is sound");
+    let State { records, frames, store, directory } = &mut state;
+    baseline::open(records, frames, store, directory).expect("the store is sound");
     state
 }
 
@@ -146,7 +202,7 @@ pub fn last_resident(state: &State) -> PageNumber {
     used.expect("the root is resident").page
 }
 
-/// The last page that a word names, in every shape but `Leaves`.
+/// The last page that a word names, where all but the last page are named.
 pub fn last_named(state: &State) -> PageNumber {
     PageNumber(state.records.pages - 2)
 }
@@ -154,4 +210,37 @@ pub fn last_named(state: &State) -> PageNumber {
 /// A page that isn't resident and that no word names.
 pub fn unnamed(state: &State) -> PageNumber {
     PageNumber(state.records.pages - 1)
+}
+
+/// The resident page for which find compares the most entries: the last of a longest chain.
+pub fn last_of_chain(state: &State) -> PageNumber {
+    let used = state.records.records.iter().filter(|record| record.is_used());
+    used.map(|record| record.page).max_by_key(|page| compared(state, *page)).expect("the root is resident")
+}
+
+/// A page that isn't resident, for which find compares the most entries.
+pub fn absent_from_chain(state: &State) -> PageNumber {
+    let resident = |page: &PageNumber| {
+        let mut used = state.records.records.iter().filter(|record| record.is_used());
+        used.any(|record| record.page == *page)
+    };
+    let absent = (0..state.records.pages).map(PageNumber).filter(|page| !resident(page));
+    absent.max_by_key(|page| compared(state, *page)).expect("more pages than frames")
+}
+
+/// Turns the chain of a page round, which is right too.
+pub fn reverse_chain(state: &mut State, page: PageNumber) {
+    let bucket = usize::from(page) % BUCKETS;
+    let (mut before, mut byte) = (0, state.directory[bucket]);
+    while byte != 0 {
+        let link = BUCKETS + usize::from(byte - 1);
+        (before, byte) = (byte, std::mem::replace(&mut state.directory[link], before));
+    }
+    state.directory[bucket] = before;
+}
+
+/// The entries that find compares for a page.
+fn compared(state: &State, page: PageNumber) -> u16 {
+    let found = baseline::find(&state.records, &state.frames, &state.store, &state.directory, page);
+    found.expect("records, frames and directory agree").compared
 }

@@ -1,16 +1,17 @@
 //! The baseline answers and leaves exactly what the linked library does, on random calls, refused ones too.
 use pagepool::{
-    FrameIndex, Generator, Handle, PageNumber, Pool, Refusal, LOCK_BIT, MAX_USAGE, PAGE_SIZE, PAYLOAD_SIZE,
-    SLOTS,
+    FrameIndex, Generator, Handle, PageNumber, Pool, Refusal, BUCKETS, DIRECTORY_SIZE, LOCK_BIT, MAX_USAGE,
+    PAGE_SIZE, PAYLOAD_SIZE, SLOTS,
 };
 use pool_bench::baseline;
-use pool_bench::shapes::{opened, Shape, State};
+use pool_bench::shapes::{opened, reverse_chain, sharing, Shape, State};
 use random::Random;
 use std::collections::BTreeMap;
 use std::fmt::Debug;
 
 /// Shapes of every store: each other has the store of one of these.
-const STORES: [Shape; 4] = [Shape::Full, Shape::Leaves, Shape::Chain, Shape::Marked];
+const STORES: [Shape; 6] =
+    [Shape::Full, Shape::Leaves, Shape::Chain, Shape::Marked, Shape::Fours, Shape::OneChain];
 
 /// A call's name and what both answered, 0 for accepted.
 type Pair = (&'static str, u8);
@@ -19,7 +20,13 @@ type Pair = (&'static str, u8);
 macro_rules! same {
     ($a:ident, $b:ident, $name:ident($($argument:expr),*)) => {{
         let library = $a.$name($($argument),*);
-        let baseline = baseline::$name(&mut $b.records, &mut $b.frames, &mut $b.store $(, $argument)*);
+        let baseline = baseline::$name(
+            &mut $b.records,
+            &mut $b.frames,
+            &mut $b.store,
+            &mut $b.directory
+            $(, $argument)*
+        );
         agreed(stringify!($name), library, baseline)
     }};
 }
@@ -28,7 +35,7 @@ macro_rules! same {
 macro_rules! same_part {
     ($a:ident, $b:ident, $name:ident($argument:expr)) => {{
         let library = $a.$name($argument);
-        let baseline = baseline::$name(&$b.records, &$b.frames, &$b.store, $argument);
+        let baseline = baseline::$name(&$b.records, &$b.frames, &$b.store, &$b.directory, $argument);
         agreed(stringify!($name), library.map(|part| place(part, $a)), baseline.map(|part| place(part, $b)))
     }};
 }
@@ -56,8 +63,8 @@ struct Trial {
     given: BTreeMap<Pair, usize>,
     /// By number of pages: how many calls warmed so many.
     warmed: BTreeMap<usize, usize>,
-    /// How many finds ended after so many looks, at a frame or not.
-    looked: BTreeMap<(bool, u16), usize>,
+    /// How many finds compared so many entries, to the page's or not.
+    compared: BTreeMap<(bool, u16), usize>,
     /// How many records of each call were drawn, with data or not.
     drawn: BTreeMap<(u8, bool), usize>,
     generator: Generator,
@@ -69,7 +76,7 @@ impl Trial {
             random: Random::new(seed),
             given: BTreeMap::new(),
             warmed: BTreeMap::new(),
-            looked: BTreeMap::new(),
+            compared: BTreeMap::new(),
             drawn: BTreeMap::new(),
             generator: Generator::seeded(seed as u32),
         }
@@ -133,16 +140,16 @@ impl Trial {
     fn find(&mut self, a: &mut State, b: &mut State, page: PageNumber) -> Pair {
         let library = a.find(page);
         if let Ok(found) = library {
-            *self.looked.entry((found.frame.is_some(), found.looks)).or_default() += 1;
+            *self.compared.entry((found.frame.is_some(), found.compared)).or_default() += 1;
         }
-        agreed("find", library, baseline::find(&b.records, &b.frames, &b.store, page))
+        agreed("find", library, baseline::find(&b.records, &b.frames, &b.store, &b.directory, page))
     }
 
     /// A draw by a generator that goes along.
     fn draw(&mut self, a: &mut State, b: &mut State) -> Pair {
         let mut generator = self.generator;
         let library = a.draw(&mut self.generator);
-        let baseline = baseline::draw(&b.records, &b.frames, &b.store, &mut generator);
+        let baseline = baseline::draw(&b.records, &b.frames, &b.store, &b.directory, &mut generator);
         assert_eq!(self.generator, generator, "draw");
         if let Ok(entry) = library {
             *self.drawn.entry((entry[0], entry[7..] != [0; 9])).or_default() += 1;
@@ -225,8 +232,16 @@ impl Trial {
             0 => PageNumber(self.random.below(65_536) as u16),
             1..=3 => PageNumber(state.records.pages.wrapping_sub(1)),
             4..=10 => self.resident(state),
+            11 | 12 => self.sharing(state),
             _ => PageNumber(self.random.below(pages.max(1)) as u16),
         }
+    }
+
+    /// A page that shares a resident one's chain.
+    fn sharing(&mut self, state: &State) -> PageNumber {
+        let (pages, resident) = (usize::from(state.records.pages), usize::from(self.resident(state)));
+        let number = resident % BUCKETS + BUCKETS * self.random.below(pages / BUCKETS + 1);
+        PageNumber(number as u16)
     }
 
     /// A resident page, page 0 where there is none.
@@ -247,8 +262,11 @@ impl Trial {
     /// Alters a field, a word, a length or who is whose parent.
     fn damage(&mut self, state: &mut State) {
         let (frames, pages) = (state.frames.len() / PAGE_SIZE, state.store.len() / PAGE_SIZE);
-        match self.random.below(10) {
+        match self.random.below(13) {
             9 => self.mark(state, 5),
+            10 => state.directory[self.random.below(DIRECTORY_SIZE)] = self.random.below(70) as u8,
+            11 => self.damage_entry(state),
+            12 => reverse_chain(state, self.resident(state)),
             0 => self.damage_sizes(state),
             1..=3 => self.damage_record(state),
             4 => self.damage_parents(state),
@@ -259,6 +277,14 @@ impl Trial {
                 }
             }
         }
+    }
+
+    /// Changes the head of a resident page's chain, or the link of any frame.
+    fn damage_entry(&mut self, state: &mut State) {
+        let page = self.resident(state);
+        let frame = self.random.below(64);
+        let at = if self.random.percent(50) { usize::from(page) % BUCKETS } else { BUCKETS + frame };
+        state.directory[at] = self.random.below(usize::from(state.records.count) + 2) as u8;
     }
 
     fn damage_sizes(&mut self, state: &mut State) {
@@ -356,10 +382,28 @@ fn large_pools() {
             trial.run(state, 2000);
         }
     }
-    println!("{:?}, looks {:?}", trial.given, trial.looked);
-    let far: usize = trial.looked.range((true, 8)..).map(|(_, finds)| finds).sum();
-    let [root, absent] = [(true, 1), (false, 64)].map(|ended| trial.looked.get(&ended).copied().unwrap_or(0));
-    assert!(root.min(far).min(absent) > 20, "finds that end at once, far on, and nowhere");
+    println!("{:?}, compared {:?}", trial.given, trial.compared);
+    assert!(trial.given(0) > 1000 && trial.given(2) > 100, "accepted, and records that disagree");
+}
+
+/// Short runs from full frames whose pages share chains, in any order.
+#[test]
+fn shared_chains() {
+    let mut trial = Trial::new(5);
+    for (shape, count, pages) in sharing() {
+        for _ in 0..40 {
+            let state = trial.marked(shape.state(count, pages));
+            trial.run(state, 100);
+        }
+    }
+    println!("{:?}, compared {:?}", trial.given, trial.compared);
+    assert!(trial.given(0) > 1000 && trial.given(2) > 100, "accepted, and directories that disagree");
+    let met = [(true, 1), (true, 2), (true, 3), (false, 0), (false, 1), (false, 4)];
+    let seldom: Vec<_> =
+        met.into_iter().filter(|met| trial.compared.get(met).is_none_or(|times| *times < 10)).collect();
+    assert!(seldom.is_empty(), "entries compared, to the page's or not, seldom: {seldom:?}");
+    let far = |found| trial.compared.range((found, 5)..=(found, 64)).map(|(_, finds)| finds).sum::<usize>();
+    assert!(far(true).min(far(false)) > 10, "finds that go far along a chain, to its end or not");
 }
 
 /// Short runs from frames whose parents lie after them: an open among the calls ends that.

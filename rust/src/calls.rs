@@ -1,4 +1,4 @@
-//! The thirteen calls, and the draw of a workload's next one, each on records, frames and store lent by the caller.
+//! The thirteen calls, and the draw of a workload's next one, each on records, frames, store and directory lent by the caller.
 use crate::raw;
 use crate::records::{Entry, FrameIndex, Generator, Handle, PageNumber, Pool};
 use crate::refusal::{unless_refused, Refusal};
@@ -26,17 +26,32 @@ pub struct Named {
 pub struct Found {
     /// The frame that holds the page, none if it isn't resident.
     pub frame: Option<FrameIndex>,
-    /// The frames looked at: that frame's index plus 1, or F if there is none.
-    pub looks: u16,
+    /// The entries of the page's chain that were compared: its place there, from 1, or the chain's length if it isn't resident.
+    pub compared: u16,
 }
 
 /// Calls an exported function with the records and the lent buffers, and then its own arguments.
 macro_rules! call {
-    ($name:ident($pool:expr, $frames:ident.$frames_ptr:ident, $store:ident.$store_ptr:ident $(, $argument:expr)*)) => {
+    ($name:ident(
+        $pool:expr,
+        $frames:ident.$frames_ptr:ident,
+        $store:ident.$store_ptr:ident,
+        $directory:ident.$directory_ptr:ident
+        $(, $argument:expr)*
+    )) => {
         // SAFETY: each pointer is that of a slice of the length beside it, lent for the call alone; the slices that can be
         // written overlap no other.
         unsafe {
-            raw::$name($pool, $frames.$frames_ptr(), $frames.len(), $store.$store_ptr(), $store.len() $(, $argument)*)
+            raw::$name(
+                $pool,
+                $frames.$frames_ptr(),
+                $frames.len(),
+                $store.$store_ptr(),
+                $store.len(),
+                $directory.$directory_ptr(),
+                $directory.len()
+                $(, $argument)*
+            )
         }
     };
 }
@@ -62,23 +77,37 @@ impl raw::Place {
     }
 }
 
-/// Begins with a store: page 0 is copied to frame 0, not pinned, and every other frame is empty. What an earlier pool has not
-/// settled is forgotten. Refused: 1, 16.
-pub fn open(frames: &mut [u8], store: &[u8]) -> Result<Pool, Refusal> {
+/// Begins with a store: page 0 is copied to frame 0, not pinned, and every other frame is empty. The directory is set over
+/// what it held: page 0 is alone in it. What an earlier pool has not settled is forgotten. Refused: 1, 16.
+pub fn open(frames: &mut [u8], store: &[u8], directory: &mut [u8]) -> Result<Pool, Refusal> {
     let mut pool = Pool::ZERO;
-    open_into(&mut pool, frames, store).map(|()| pool)
+    open_into(&mut pool, frames, store, directory).map(|()| pool)
 }
 
-/// As [`open`], with the records put where they belong. Refused, those stay as they were.
-pub(crate) fn open_into(pool: &mut Pool, frames: &mut [u8], store: &[u8]) -> Result<(), Refusal> {
+/// As [`open`], with the records put where they belong. Refused, those stay as they were, as the directory does.
+pub(crate) fn open_into(
+    pool: &mut Pool,
+    frames: &mut [u8],
+    store: &[u8],
+    directory: &mut [u8],
+) -> Result<(), Refusal> {
     // SAFETY: as in `call`.
-    let done = unsafe { raw::pool_open(frames.as_mut_ptr(), frames.len(), store.as_ptr(), store.len()) };
+    let done = unsafe {
+        raw::pool_open(
+            frames.as_mut_ptr(),
+            frames.len(),
+            store.as_ptr(),
+            store.len(),
+            directory.as_mut_ptr(),
+            directory.len(),
+        )
+    };
     unless_refused(done.refusal, ()).map(|()| *pool = done.pool)
 }
 
 /// Pins page 0. Refused: 1, 2, 13.
-pub fn root(pool: &mut Pool, frames: &[u8], store: &[u8]) -> Result<Fixed, Refusal> {
-    call!(pool_root(*pool, frames.as_ptr, store.as_ptr)).answer(pool)
+pub fn root(pool: &mut Pool, frames: &[u8], store: &[u8], directory: &[u8]) -> Result<Fixed, Refusal> {
+    call!(pool_root(*pool, frames.as_ptr, store.as_ptr, directory.as_ptr)).answer(pool)
 }
 
 /// Pins the page that a slot of the handle's page names, and loads it first if it isn't resident, into an empty frame or one
@@ -93,15 +122,23 @@ pub fn fix(
     pool: &mut Pool,
     frames: &mut [u8],
     store: &mut [u8],
+    directory: &mut [u8],
     handle: Handle,
     slot: usize,
 ) -> Result<Fixed, Refusal> {
-    call!(pool_fix(*pool, frames.as_mut_ptr, store.as_mut_ptr, handle, slot)).answer(pool)
+    call!(pool_fix(*pool, frames.as_mut_ptr, store.as_mut_ptr, directory.as_mut_ptr, handle, slot))
+        .answer(pool)
 }
 
 /// Takes one pin off the handle's page. Refused: 1, 2, 3.
-pub fn unfix(pool: &mut Pool, frames: &[u8], store: &[u8], handle: Handle) -> Result<(), Refusal> {
-    call!(pool_unfix(*pool, frames.as_ptr, store.as_ptr, handle)).answer(pool)
+pub fn unfix(
+    pool: &mut Pool,
+    frames: &[u8],
+    store: &[u8],
+    directory: &[u8],
+    handle: Handle,
+) -> Result<(), Refusal> {
+    call!(pool_unfix(*pool, frames.as_ptr, store.as_ptr, directory.as_ptr, handle)).answer(pool)
 }
 
 /// The payload of the handle's page, a part of the frames. Refused: 1, 2, 3.
@@ -109,17 +146,23 @@ pub fn unfix(pool: &mut Pool, frames: &[u8], store: &[u8], handle: Handle) -> Re
 /// Records and store can be changed while it is held:
 ///
 /// ```
-/// # use pagepool::{PAGE_SIZE, PAYLOAD_SIZE};
-/// # let (mut frames, mut store) = ([0; 2 * PAGE_SIZE], [0; PAGE_SIZE]);
-/// # let mut pool = pagepool::open(&mut frames, &store)?;
-/// # let root = pagepool::root(&mut pool, &frames, &store)?.handle;
-/// let payload = pagepool::show(&pool, &frames, &store, root)?;
-/// pagepool::settle(&mut pool, &frames, &mut store)?;
+/// # use pagepool::{DIRECTORY_SIZE, PAGE_SIZE, PAYLOAD_SIZE};
+/// # let (mut frames, mut store, mut directory) = ([0; 2 * PAGE_SIZE], [0; PAGE_SIZE], [0; DIRECTORY_SIZE]);
+/// # let mut pool = pagepool::open(&mut frames, &store, &mut directory)?;
+/// # let root = pagepool::root(&mut pool, &frames, &store, &directory)?.handle;
+/// let payload = pagepool::show(&pool, &frames, &store, &directory, root)?;
+/// pagepool::settle(&mut pool, &frames, &mut store, &directory)?;
 /// assert_eq!(payload, [0; PAYLOAD_SIZE]);
 /// # Ok::<(), pagepool::Refusal>(())
 /// ```
-pub fn show<'a>(pool: &Pool, frames: &'a [u8], store: &[u8], handle: Handle) -> Result<&'a [u8], Refusal> {
-    call!(pool_show(*pool, frames.as_ptr, store.as_ptr, handle)).part(frames)
+pub fn show<'a>(
+    pool: &Pool,
+    frames: &'a [u8],
+    store: &[u8],
+    directory: &[u8],
+    handle: Handle,
+) -> Result<&'a [u8], Refusal> {
+    call!(pool_show(*pool, frames.as_ptr, store.as_ptr, directory.as_ptr, handle)).part(frames)
 }
 
 /// The payload of a page, in the frames if it is resident, otherwise in the store. Refused: 1, 2, 6.
@@ -127,9 +170,10 @@ pub fn peek<'a>(
     pool: &Pool,
     frames: &'a [u8],
     store: &'a [u8],
+    directory: &[u8],
     page: PageNumber,
 ) -> Result<&'a [u8], Refusal> {
-    let place = call!(pool_peek(*pool, frames.as_ptr, store.as_ptr, page));
+    let place = call!(pool_peek(*pool, frames.as_ptr, store.as_ptr, directory.as_ptr, page));
     place.part(if place.in_store { store } else { frames })
 }
 
@@ -138,11 +182,12 @@ pub fn word(
     pool: &Pool,
     frames: &[u8],
     store: &[u8],
+    directory: &[u8],
     handle: Handle,
     slot: usize,
 ) -> Result<Option<Named>, Refusal> {
     let raw::Named { refusal, locked, page } =
-        call!(pool_word(*pool, frames.as_ptr, store.as_ptr, handle, slot));
+        call!(pool_word(*pool, frames.as_ptr, store.as_ptr, directory.as_ptr, handle, slot));
     unless_refused(refusal, (page != PageNumber(0)).then_some(Named { page, locked }))
 }
 
@@ -152,12 +197,22 @@ pub fn write(
     pool: &mut Pool,
     frames: &mut [u8],
     store: &[u8],
+    directory: &[u8],
     handle: Handle,
     offset: usize,
     bytes: &[u8],
 ) -> Result<(), Refusal> {
-    call!(pool_write(*pool, frames.as_mut_ptr, store.as_ptr, handle, offset, bytes.as_ptr(), bytes.len()))
-        .answer(pool)
+    call!(pool_write(
+        *pool,
+        frames.as_mut_ptr,
+        store.as_ptr,
+        directory.as_ptr,
+        handle,
+        offset,
+        bytes.as_ptr(),
+        bytes.len()
+    ))
+    .answer(pool)
 }
 
 /// Stores a page number in an empty slot of the handle's page, which is then dirty; with `locked`, the word marks the page of that
@@ -183,16 +238,19 @@ pub fn write(
 /// assert_eq!(pool.write(seven, 0, b"seven"), Err(Refusal::IsLocked));
 /// # Ok::<(), Refusal>(())
 /// ```
+#[allow(clippy::too_many_arguments)]
 pub fn link(
     pool: &mut Pool,
     frames: &mut [u8],
     store: &[u8],
+    directory: &[u8],
     handle: Handle,
     slot: usize,
     page: PageNumber,
     locked: bool,
 ) -> Result<(), Refusal> {
-    call!(pool_link(*pool, frames.as_mut_ptr, store.as_ptr, handle, slot, page, locked)).answer(pool)
+    call!(pool_link(*pool, frames.as_mut_ptr, store.as_ptr, directory.as_ptr, handle, slot, page, locked))
+        .answer(pool)
 }
 
 /// Clears a slot of the handle's page, which is then dirty. A mark there goes with it. Refused: 1, 2, 3, 4, 26, 7, 10.
@@ -200,10 +258,11 @@ pub fn unlink(
     pool: &mut Pool,
     frames: &mut [u8],
     store: &[u8],
+    directory: &[u8],
     handle: Handle,
     slot: usize,
 ) -> Result<(), Refusal> {
-    call!(pool_unlink(*pool, frames.as_mut_ptr, store.as_ptr, handle, slot)).answer(pool)
+    call!(pool_unlink(*pool, frames.as_mut_ptr, store.as_ptr, directory.as_ptr, handle, slot)).answer(pool)
 }
 
 /// Takes a page out of its frame, to the store if it is dirty. A resident page that has to stay is refused by the first of three
@@ -212,22 +271,52 @@ pub fn unlink(
 /// [`IsParent`](Refusal::IsParent) then. After `IsParent` first evict the resident pages that it names: the used records whose
 /// parent is its frame have their numbers. Where one of them is refused by `IsPinned` or `IsParent` in turn, do there what is
 /// said here. Refused: 1, 2, 6, 11, 20, 21, 22.
-pub fn evict(pool: &mut Pool, frames: &mut [u8], store: &mut [u8], page: PageNumber) -> Result<(), Refusal> {
-    call!(pool_evict(*pool, frames.as_mut_ptr, store.as_mut_ptr, page)).answer(pool)
+pub fn evict(
+    pool: &mut Pool,
+    frames: &mut [u8],
+    store: &mut [u8],
+    directory: &mut [u8],
+    page: PageNumber,
+) -> Result<(), Refusal> {
+    call!(pool_evict(*pool, frames.as_mut_ptr, store.as_mut_ptr, directory.as_mut_ptr, page)).answer(pool)
 }
 
 /// Writes each dirty page to the store, and marks it clean. Refused: 1, 2.
-pub fn settle(pool: &mut Pool, frames: &[u8], store: &mut [u8]) -> Result<(), Refusal> {
-    call!(pool_settle(*pool, frames.as_ptr, store.as_mut_ptr)).answer(pool)
+pub fn settle(pool: &mut Pool, frames: &[u8], store: &mut [u8], directory: &[u8]) -> Result<(), Refusal> {
+    call!(pool_settle(*pool, frames.as_ptr, store.as_mut_ptr, directory.as_ptr)).answer(pool)
 }
 
-/// The frame that holds a page, none if it isn't resident, and the frames looked at: from 0 on, empty ones too, and no further
-/// than that one. A page in the last frame and one that isn't resident both take F looks: `frame` tells them apart.
-/// Refused: 1, 2, 6.
-pub fn find(pool: &Pool, frames: &[u8], store: &[u8], page: PageNumber) -> Result<Found, Refusal> {
-    let found = call!(pool_find(*pool, frames.as_ptr, store.as_ptr, page));
+/// The frame that holds a page, none if it isn't resident, and the entries of the page's chain in the directory that were
+/// compared: its place there, from 1, or the chain's length if it isn't resident. That is never more than the resident pages with
+/// its remainder by 67. The last of a chain and an absent page take as many: `frame` tells them apart. Refused: 1, 2, 6.
+///
+/// Pages 5 and 72 share a chain, and the one that was loaded last stands first:
+///
+/// ```
+/// # use pagepool::{Found, FrameIndex, PageNumber, PagePool, PAGE_SIZE};
+/// # let mut pool = PagePool::new([0; 3 * PAGE_SIZE], vec![0; 200 * PAGE_SIZE]);
+/// # pool.open()?;
+/// # let root = pool.root()?.handle;
+/// # pool.link(root, 0, PageNumber(5), false)?;
+/// # pool.link(root, 1, PageNumber(72), false)?;
+/// pool.fix(root, 0)?;
+/// pool.fix(root, 1)?;
+/// assert_eq!(pool.find(PageNumber(72))?, Found { frame: Some(FrameIndex(2)), compared: 1 });
+/// assert_eq!(pool.find(PageNumber(5))?, Found { frame: Some(FrameIndex(1)), compared: 2 });
+/// assert_eq!(pool.find(PageNumber(139))?, Found { frame: None, compared: 2 });
+/// assert_eq!(pool.find(PageNumber(6))?, Found { frame: None, compared: 0 });
+/// # Ok::<(), pagepool::Refusal>(())
+/// ```
+pub fn find(
+    pool: &Pool,
+    frames: &[u8],
+    store: &[u8],
+    directory: &[u8],
+    page: PageNumber,
+) -> Result<Found, Refusal> {
+    let found = call!(pool_find(*pool, frames.as_ptr, store.as_ptr, directory.as_ptr, page));
     let frame = found.present.then_some(found.frame);
-    unless_refused(found.refusal, Found { frame, looks: found.looks })
+    unless_refused(found.refusal, Found { frame, compared: found.compared })
 }
 
 impl Generator {
@@ -261,8 +350,14 @@ impl Generator {
 /// assert_eq!(generator.number, 2916098932);
 /// # Ok::<(), pagepool::Refusal>(())
 /// ```
-pub fn draw(pool: &Pool, frames: &[u8], store: &[u8], generator: &mut Generator) -> Result<Entry, Refusal> {
-    let drawn = call!(pool_draw(*pool, frames.as_ptr, store.as_ptr, *generator));
+pub fn draw(
+    pool: &Pool,
+    frames: &[u8],
+    store: &[u8],
+    directory: &[u8],
+    generator: &mut Generator,
+) -> Result<Entry, Refusal> {
+    let drawn = call!(pool_draw(*pool, frames.as_ptr, store.as_ptr, directory.as_ptr, *generator));
     *generator = drawn.generator;
     unless_refused(drawn.refusal, drawn.entry)
 }

@@ -1,9 +1,20 @@
 //! The page pool for Rust: safe functions over the proved library `pagepool`.
 //!
-//! The host owns the store, the frames and the pool's records, and lends all three to each call. [`PagePool`] holds the three
-//! together and has the calls as methods, with an example; the functions here take them apart. A call that is refused gives
-//! the first broken rule, a [`Refusal`], and changes nothing. What each call does says `include/pagepool.h`. [`draw`] gives the
-//! record of the next call of a workload that anyone can repeat. A [`Tally`] tells from recorded fixes how many frames to buy.
+//! The host owns the store, the frames, the directory and the pool's records, and lends all four to each call. [`PagePool`] holds
+//! the four together and has the calls as methods, with an example; the functions here take them apart. A call that is refused
+//! gives the first broken rule, a [`Refusal`], and changes nothing. What each call does says `include/pagepool.h`. [`draw`] gives
+//! the record of the next call of a workload that anyone can repeat. A [`Tally`] tells from recorded fixes how many frames to buy.
+//!
+//! # Directory
+//!
+//! In its 131 bytes [`find`] and [`peek`] look up the resident pages, each in the chain of its number's remainder by 67. Byte b
+//! below 67 holds 1 plus the frame at the head of chain b, byte 67 + f holds 1 plus the frame after f in its chain, and either 0
+//! where there is none. [`open`] sets it, whatever it held, with page 0 alone in it. Loading a page puts it at its chain's head,
+//! and evicting one takes it out, by [`evict`] or by a sweep of [`fix`]; the others of a chain keep their order. No other call
+//! changes it, and a refused one leaves it byte for byte, [`open`] too. Lend it to the next call as it was left. Another length is
+//! refused by [`WrongLength`](Refusal::WrongLength), and by [`Disagree`](Refusal::Disagree) a directory whose chains don't give
+//! exactly the resident pages of their remainders, each once in any order, or with another byte that isn't 0: that of a frame which
+//! is empty or not below F.
 //!
 //! # Locked pages
 //!

@@ -1,13 +1,13 @@
 //! A pool together with the buffers it works on.
 use crate::calls::{self, Fixed, Found, Named};
-use crate::records::{Entry, Generator, Handle, PageNumber, Pool};
+use crate::records::{Entry, Generator, Handle, PageNumber, Pool, DIRECTORY_SIZE};
 use crate::refusal::Refusal;
 
-/// The records with the frames and the store that each call is lent, and the calls as methods. The buffers are what the host
-/// has: vectors, arrays, or slices of its own memory.
+/// The records with the frames, the store and the directory that each call is lent, and the calls as methods. Frames and store are
+/// what the host has: vectors, arrays, or slices of its own memory.
 ///
 /// ```
-/// use pagepool::{Found, PageNumber, PagePool, Refusal, LOCK_BIT, PAGE_SIZE};
+/// use pagepool::{Found, FrameIndex, PageNumber, PagePool, Refusal, LOCK_BIT, PAGE_SIZE};
 ///
 /// // 4 frames over a store of 16 empty pages.
 /// let mut pool = PagePool::new([0; 4 * PAGE_SIZE], vec![0; 16 * PAGE_SIZE]);
@@ -19,12 +19,13 @@ use crate::refusal::Refusal;
 /// let seven = pool.fix(root, 3)?.handle;
 /// pool.write(seven, 0, b"seven")?;
 /// assert_eq!(&pool.show(seven)?[..5], b"seven");
+/// assert_eq!(pool.find(PageNumber(7))?, Found { frame: Some(FrameIndex(1)), compared: 1 });
 ///
 /// // A pinned page stays where it is. A released one can go to the store, where peek still finds it.
 /// assert_eq!(pool.evict(PageNumber(7)), Err(Refusal::IsPinned));
 /// pool.unfix(seven)?;
 /// pool.evict(PageNumber(7))?;
-/// assert_eq!(pool.find(PageNumber(7))?, Found { frame: None, looks: 4 });
+/// assert_eq!(pool.find(PageNumber(7))?, Found { frame: None, compared: 0 });
 /// assert_eq!(&pool.peek(PageNumber(7))?[..5], b"seven");
 ///
 /// // Linked again with the mark, it is locked: it can be read, and not changed.
@@ -46,73 +47,90 @@ pub struct PagePool<F, S> {
     pub frames: F,
     /// N pages of 256 bytes.
     pub store: S,
+    /// The resident pages by the remainders of their numbers.
+    pub directory: [u8; DIRECTORY_SIZE],
 }
 
 impl<F, S> PagePool<F, S> {
     /// The buffers of a pool that is still to be opened: until then every other call is refused by
     /// [`WrongLength`](Refusal::WrongLength).
     pub const fn new(frames: F, store: S) -> PagePool<F, S> {
-        PagePool { records: Pool::ZERO, frames, store }
+        PagePool { records: Pool::ZERO, frames, store, directory: [0; DIRECTORY_SIZE] }
     }
 }
 
-/// The calls that leave frames and store alone.
+/// The calls that leave frames, store and directory alone.
 impl<F: AsRef<[u8]>, S: AsRef<[u8]>> PagePool<F, S> {
     /// As [`root`](calls::root).
     pub fn root(&mut self) -> Result<Fixed, Refusal> {
-        calls::root(&mut self.records, self.frames.as_ref(), self.store.as_ref())
+        calls::root(&mut self.records, self.frames.as_ref(), self.store.as_ref(), &self.directory)
     }
 
     /// As [`unfix`](calls::unfix).
     pub fn unfix(&mut self, handle: Handle) -> Result<(), Refusal> {
-        calls::unfix(&mut self.records, self.frames.as_ref(), self.store.as_ref(), handle)
+        calls::unfix(&mut self.records, self.frames.as_ref(), self.store.as_ref(), &self.directory, handle)
     }
 
     /// As [`show`](calls::show), which borrows the frames alone and not the whole pool.
     pub fn show(&self, handle: Handle) -> Result<&[u8], Refusal> {
-        calls::show(&self.records, self.frames.as_ref(), self.store.as_ref(), handle)
+        calls::show(&self.records, self.frames.as_ref(), self.store.as_ref(), &self.directory, handle)
     }
 
-    /// As [`peek`](calls::peek), which borrows frames and store and not the records.
+    /// As [`peek`](calls::peek), which borrows frames and store and neither records nor directory.
     pub fn peek(&self, page: PageNumber) -> Result<&[u8], Refusal> {
-        calls::peek(&self.records, self.frames.as_ref(), self.store.as_ref(), page)
+        calls::peek(&self.records, self.frames.as_ref(), self.store.as_ref(), &self.directory, page)
     }
 
     /// As [`word`](calls::word).
     pub fn word(&self, handle: Handle, slot: usize) -> Result<Option<Named>, Refusal> {
-        calls::word(&self.records, self.frames.as_ref(), self.store.as_ref(), handle, slot)
+        calls::word(&self.records, self.frames.as_ref(), self.store.as_ref(), &self.directory, handle, slot)
     }
 
     /// As [`find`](calls::find).
     pub fn find(&self, page: PageNumber) -> Result<Found, Refusal> {
-        calls::find(&self.records, self.frames.as_ref(), self.store.as_ref(), page)
+        calls::find(&self.records, self.frames.as_ref(), self.store.as_ref(), &self.directory, page)
     }
 
     /// As [`draw`](calls::draw).
     pub fn draw(&self, generator: &mut Generator) -> Result<Entry, Refusal> {
-        calls::draw(&self.records, self.frames.as_ref(), self.store.as_ref(), generator)
+        calls::draw(&self.records, self.frames.as_ref(), self.store.as_ref(), &self.directory, generator)
     }
 }
 
-/// The calls that change frames or store.
+/// The calls that change frames, store or directory.
 impl<F, S> PagePool<F, S>
 where
     F: AsRef<[u8]> + AsMut<[u8]>,
     S: AsRef<[u8]> + AsMut<[u8]>,
 {
-    /// Begins with the store as it is, as [`open`](calls::open) does. Refused, the records stay as they were.
+    /// Begins with the store as it is, as [`open`](calls::open) does. Refused, records and directory stay as they were.
     pub fn open(&mut self) -> Result<(), Refusal> {
-        calls::open_into(&mut self.records, self.frames.as_mut(), self.store.as_ref())
+        calls::open_into(&mut self.records, self.frames.as_mut(), self.store.as_ref(), &mut self.directory)
     }
 
     /// As [`fix`](calls::fix).
     pub fn fix(&mut self, handle: Handle, slot: usize) -> Result<Fixed, Refusal> {
-        calls::fix(&mut self.records, self.frames.as_mut(), self.store.as_mut(), handle, slot)
+        calls::fix(
+            &mut self.records,
+            self.frames.as_mut(),
+            self.store.as_mut(),
+            &mut self.directory,
+            handle,
+            slot,
+        )
     }
 
     /// As [`write`](calls::write).
     pub fn write(&mut self, handle: Handle, offset: usize, bytes: &[u8]) -> Result<(), Refusal> {
-        calls::write(&mut self.records, self.frames.as_mut(), self.store.as_ref(), handle, offset, bytes)
+        calls::write(
+            &mut self.records,
+            self.frames.as_mut(),
+            self.store.as_ref(),
+            &self.directory,
+            handle,
+            offset,
+            bytes,
+        )
     }
 
     /// As [`link`](calls::link).
@@ -123,21 +141,37 @@ where
         page: PageNumber,
         locked: bool,
     ) -> Result<(), Refusal> {
-        calls::link(&mut self.records, self.frames.as_mut(), self.store.as_ref(), handle, slot, page, locked)
+        calls::link(
+            &mut self.records,
+            self.frames.as_mut(),
+            self.store.as_ref(),
+            &self.directory,
+            handle,
+            slot,
+            page,
+            locked,
+        )
     }
 
     /// As [`unlink`](calls::unlink).
     pub fn unlink(&mut self, handle: Handle, slot: usize) -> Result<(), Refusal> {
-        calls::unlink(&mut self.records, self.frames.as_mut(), self.store.as_ref(), handle, slot)
+        calls::unlink(
+            &mut self.records,
+            self.frames.as_mut(),
+            self.store.as_ref(),
+            &self.directory,
+            handle,
+            slot,
+        )
     }
 
     /// As [`evict`](calls::evict).
     pub fn evict(&mut self, page: PageNumber) -> Result<(), Refusal> {
-        calls::evict(&mut self.records, self.frames.as_mut(), self.store.as_mut(), page)
+        calls::evict(&mut self.records, self.frames.as_mut(), self.store.as_mut(), &mut self.directory, page)
     }
 
     /// As [`settle`](calls::settle).
     pub fn settle(&mut self) -> Result<(), Refusal> {
-        calls::settle(&mut self.records, self.frames.as_ref(), self.store.as_mut())
+        calls::settle(&mut self.records, self.frames.as_ref(), self.store.as_mut(), &self.directory)
     }
 }

@@ -34,7 +34,7 @@ pub struct Found {
     pub refusal: u8,
     pub present: bool,
     pub frame: FrameIndex,
-    pub looks: u16,
+    pub compared: u16,
 }
 
 #[repr(C)]
@@ -69,9 +69,9 @@ pub struct Share {
     pub all: u64,
 }
 
-/// Declares functions that take the records, frames and store lent as the pointers say, and then their own arguments.
+/// Declares functions that take the records, frames, store and directory lent as the pointers say, and then their own arguments.
 macro_rules! exported {
-    ($frames:ty, $store:ty; $($name:ident($($argument:ident: $kind:ty),*) -> $answer:ty;)*) => {
+    ($frames:ty, $store:ty, $directory:ty; $($name:ident($($argument:ident: $kind:ty),*) -> $answer:ty;)*) => {
         extern "C" {
             $(pub fn $name(
                 pool: Pool,
@@ -79,6 +79,8 @@ macro_rules! exported {
                 frames_size: usize,
                 store: $store,
                 store_size: usize,
+                directory: $directory,
+                directory_size: usize,
                 $($argument: $kind),*
             ) -> $answer;)*
         }
@@ -86,7 +88,7 @@ macro_rules! exported {
 }
 
 exported! {
-    *const u8, *const u8;
+    *const u8, *const u8, *const u8;
     pool_root() -> Fixed;
     pool_unfix(handle: Handle) -> Done;
     pool_show(handle: Handle) -> Place;
@@ -97,25 +99,32 @@ exported! {
 }
 
 exported! {
-    *mut u8, *const u8;
+    *mut u8, *const u8, *const u8;
     pool_write(handle: Handle, offset: usize, bytes: *const u8, bytes_size: usize) -> Done;
     pool_link(handle: Handle, slot: usize, page: PageNumber, locked: bool) -> Done;
     pool_unlink(handle: Handle, slot: usize) -> Done;
 }
 
 exported! {
-    *const u8, *mut u8;
+    *const u8, *mut u8, *const u8;
     pool_settle() -> Done;
 }
 
 exported! {
-    *mut u8, *mut u8;
+    *mut u8, *mut u8, *mut u8;
     pool_fix(handle: Handle, slot: usize) -> Fixed;
     pool_evict(page: PageNumber) -> Done;
 }
 
 extern "C" {
-    pub fn pool_open(frames: *mut u8, frames_size: usize, store: *const u8, store_size: usize) -> Done;
+    pub fn pool_open(
+        frames: *mut u8,
+        frames_size: usize,
+        store: *const u8,
+        store_size: usize,
+        directory: *mut u8,
+        directory_size: usize,
+    ) -> Done;
 
     pub fn pool_seeded(seed: u32) -> Generator;
 

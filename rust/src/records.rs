@@ -1,4 +1,4 @@
-//! The pool's records, laid out as at the C boundary, and the figures of a page and of a frame.
+//! The pool's records, laid out as at the C boundary, and the figures of a page, of a frame and of the directory.
 use std::fmt;
 
 /// The bytes of a page, and of a frame: 16 words of 4 bytes, then 192 payload bytes.
@@ -17,6 +17,10 @@ pub const LEAST_FRAMES: usize = 2;
 pub const MOST_FRAMES: usize = 64;
 /// The largest N.
 pub const MOST_PAGES: usize = 4096;
+/// The chains of the directory: page p is in chain p mod 67.
+pub const BUCKETS: usize = 67;
+/// The bytes of the directory: one for the head of each chain, then one for each of 64 frames.
+pub const DIRECTORY_SIZE: usize = BUCKETS + MOST_FRAMES;
 /// The largest usage count. Document 01: the largest heat.
 pub const MAX_USAGE: u8 = 3;
 /// The most pins of a page.

@@ -35,8 +35,8 @@ macro_rules! rules {
 }
 
 rules! {
-    WrongLength = 1, "Frames, store, counters, hits or recording have a length out of range or other than at opening, or the tally is full.";
-    Disagree = 2, "Records and frames don't agree, or a tally's references with its recordings or its counters.";
+    WrongLength = 1, "Frames, store, directory, counters, hits or recording have a wrong length, or not that of opening, or the tally is full.";
+    Disagree = 2, "Records, frames and directory don't agree, or a tally's references with its recordings or its counters.";
     BadHandle = 3, "The handle's frame isn't below F or doesn't hold its page, or that has no pins.";
     BadSlot = 4, "The slot is above 15.";
     BadRange = 5, "The offset is above 192, or the length above 192 - offset.";

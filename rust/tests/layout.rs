@@ -1,6 +1,9 @@
 //! Reads back every field of the structs that the library fills with values of their own, and compares versions.
 use pagepool::raw;
-use pagepool::{FrameIndex, FrameRecord, Generator, Handle, PageNumber, Pool, TallyHead, MOST_FRAMES};
+use pagepool::{
+    FrameIndex, FrameRecord, Generator, Handle, PageNumber, Pool, TallyHead, BUCKETS, DIRECTORY_SIZE,
+    MOST_FRAMES,
+};
 
 fn expect_pool(pool: Pool) {
     assert_eq!((pool.count, pool.pages, pool.hand), (3001, 3002, FrameIndex(200)));
@@ -46,7 +49,7 @@ fn named() {
 fn found() {
     let found = unsafe { raw::pool_layout_found() };
     assert_eq!((found.refusal, found.present), (205, true));
-    assert_eq!((found.frame, found.looks), (FrameIndex(206), 4004));
+    assert_eq!((found.frame, found.compared), (FrameIndex(206), 4004));
 }
 
 #[test]
@@ -87,9 +90,16 @@ fn version() {
     }
 }
 
-/// And so is the bit that marks a locked page.
+/// And so are the bit that marks a locked page, and the figures of the directory.
 #[test]
-fn lock_bit() {
-    let line = format!("\n#define POOL_LOCK_BIT {:#x}u\n", pagepool::LOCK_BIT);
-    assert!(include_str!("../../include/pagepool.h").contains(&line), "no {}", line.trim());
+fn figures() {
+    let header = include_str!("../../include/pagepool.h");
+    for (name, figure) in [
+        ("LOCK_BIT", format!("{:#x}u", pagepool::LOCK_BIT)),
+        ("BUCKETS", BUCKETS.to_string()),
+        ("DIRECTORY_SIZE", DIRECTORY_SIZE.to_string()),
+    ] {
+        let line = format!("\n#define POOL_{name} {figure}\n");
+        assert!(header.contains(&line), "no {}", line.trim());
+    }
 }

@@ -1,6 +1,6 @@
 /*
- * Tries what the header says of answers, handles, usages, looks, locks, workloads, tallies, payloads and pointers. Names each
- * failing claim.
+ * Tries what the header says of answers, handles, usages, looks, the directory, locks, workloads, tallies, payloads and pointers.
+ * Names each failing claim.
  */
 #include "pagepool.h"
 
@@ -9,12 +9,22 @@
 
 #define FRAMES 3
 #define PAGES 8
+/* The larger pool, whose pages 5, 72, 139 and 206 are of one chain. */
+#define WIDE_FRAMES 5
+#define WIDE_PAGES 210
 
-static uint8_t store[PAGES * POOL_PAGE_SIZE];
-static uint8_t frames[FRAMES * POOL_PAGE_SIZE];
-/* What each call below is lent. */
-#define LENT frames, sizeof frames, store, sizeof store
-#define NOTHING NULL, 0, NULL, 0
+static uint8_t store[WIDE_PAGES * POOL_PAGE_SIZE];
+static uint8_t frames[WIDE_FRAMES * POOL_PAGE_SIZE];
+/* And one byte more. */
+static uint8_t directory[POOL_DIRECTORY_SIZE + 1];
+/* What each call below is lent: of the smaller pool, of the larger, and of the one that has these records. */
+#define BUFFERS frames, FRAMES * POOL_PAGE_SIZE, store, PAGES * POOL_PAGE_SIZE
+#define LENT BUFFERS, directory, POOL_DIRECTORY_SIZE
+#define WIDE frames, sizeof frames, store, sizeof store, directory, POOL_DIRECTORY_SIZE
+#define LENT_TO(pool)                                                                                                  \
+    frames, (size_t)(pool).count * POOL_PAGE_SIZE, store, (size_t)(pool).pages * POOL_PAGE_SIZE, directory,            \
+        POOL_DIRECTORY_SIZE
+#define NOTHING NULL, 0, NULL, 0, NULL, 0
 
 static int failures;
 
@@ -24,6 +34,36 @@ static void claim(const char *words, bool holds)
         printf("fails: %s\n", words);
         failures++;
     }
+}
+
+/* What the three buffers held when they were last noted. */
+static struct {
+    uint8_t frames[sizeof frames], store[sizeof store], directory[sizeof directory];
+} noted;
+
+static void note(void)
+{
+    memcpy(noted.frames, frames, sizeof frames);
+    memcpy(noted.store, store, sizeof store);
+    memcpy(noted.directory, directory, sizeof directory);
+}
+
+static bool is_as_noted(void)
+{
+    return memcmp(noted.frames, frames, sizeof frames) == 0 && memcmp(noted.store, store, sizeof store) == 0 &&
+           memcmp(noted.directory, directory, sizeof directory) == 0;
+}
+
+/* A claim of several about the same, which holds only where the buffers are as noted. Otherwise they are put back for the next. */
+static void claim_of(const char *about, const char *words, bool holds)
+{
+    holds = holds && is_as_noted();
+    if (!holds)
+        printf("of %s, ", about);
+    claim(words, holds);
+    memcpy(frames, noted.frames, sizeof frames);
+    memcpy(store, noted.store, sizeof store);
+    memcpy(directory, noted.directory, sizeof directory);
 }
 
 static bool same_pool(const struct pool *a, const struct pool *b)
@@ -62,7 +102,7 @@ static bool named_refused(struct pool_named answer, uint8_t refusal)
 
 static bool found_refused(struct pool_found answer, uint8_t refusal)
 {
-    return answer.refusal == refusal && !answer.present && answer.frame == 0 && answer.looks == 0;
+    return answer.refusal == refusal && !answer.present && answer.frame == 0 && answer.compared == 0;
 }
 
 static bool drawn_refused(struct pool_drawn answer, uint8_t refusal, struct pool_generator generator)
@@ -74,53 +114,88 @@ static bool drawn_refused(struct pool_drawn answer, uint8_t refusal, struct pool
 
 /* What an accepted find answers. */
 
-static bool is_found(struct pool pool, pool_page_number page, pool_frame_index frame, uint16_t looks)
+static bool is_found(struct pool pool, pool_page_number page, pool_frame_index frame, uint16_t compared)
 {
-    struct pool_found found = pool_find(pool, LENT, page);
-    return found.refusal == POOL_ACCEPTED && found.present && found.frame == frame && found.looks == looks;
+    struct pool_found found = pool_find(pool, LENT_TO(pool), page);
+    return found.refusal == POOL_ACCEPTED && found.present && found.frame == frame && found.compared == compared;
 }
 
-static bool is_absent(struct pool pool, pool_page_number page)
+static bool is_absent(struct pool pool, pool_page_number page, uint16_t compared)
 {
-    struct pool_found found = pool_find(pool, LENT, page);
-    return found.refusal == POOL_ACCEPTED && !found.present && found.frame == 0 && found.looks == FRAMES;
+    struct pool_found found = pool_find(pool, LENT_TO(pool), page);
+    return found.refusal == POOL_ACCEPTED && !found.present && found.frame == 0 && found.compared == compared;
 }
 
-/* A pool over a store whose root names pages 1, 2 and 3 in its slots 1, 2 and 3, with the root pinned. */
-static struct pool begin(void)
+/* Zeros, but that the root names these pages in its slots from 1 on. What is in the directory is for open to set. */
+static void clear(const uint8_t *named, size_t count)
 {
     memset(store, 0, sizeof store);
     memset(frames, 0, sizeof frames);
-    for (uint8_t slot = 1; slot <= 3; slot++)
-        store[4 * slot] = slot;
-    struct pool_done opened = pool_open(LENT);
+    memset(directory, 0xff, sizeof directory);
+    for (size_t i = 0; i < count; i++)
+        store[4 * (i + 1)] = named[i];
+}
+
+/* The opened pool, with the root pinned. */
+static struct pool rooted(struct pool_done opened)
+{
     claim("a sound store opens", opened.refusal == POOL_ACCEPTED);
-    return pool_root(opened.pool, LENT).pool;
+    return pool_root(opened.pool, LENT_TO(opened.pool)).pool;
+}
+
+/* A pool over a store whose root names pages 1, 2 and 3 in its slots 1, 2 and 3. No two of its pages are of one chain. */
+static struct pool begin(void)
+{
+    static const uint8_t named[] = {1, 2, 3};
+    clear(named, sizeof named);
+    return rooted(pool_open(LENT));
+}
+
+/* The larger pool, whose root names pages 5, 72, 139, 6 and 206 in its slots 1 to 5. */
+static struct pool begin_wide(void)
+{
+    static const uint8_t named[] = {5, 72, 139, 6, 206};
+    clear(named, sizeof named);
+    return rooted(pool_open(WIDE));
 }
 
 static const struct pool_handle root = {0, 0};
 static const struct pool_generator generator = {77};
+
+/* Each call but open is refused with these buffers, and changes nothing. */
+static void claim_refused(const char *about, uint8_t refusal, struct pool pool, uint8_t *frame_bytes, size_t frame_size,
+                          uint8_t *pages, size_t pages_size, uint8_t *chains, size_t chains_size)
+{
+#define HANDED frame_bytes, frame_size, pages, pages_size, chains, chains_size
+    note();
+    claim_of(about, "root", fixed_refused(pool_root(pool, HANDED), refusal, pool));
+    claim_of(about, "fix", fixed_refused(pool_fix(pool, HANDED, root, 1), refusal, pool));
+    claim_of(about, "unfix", done_refused(pool_unfix(pool, HANDED, root), refusal, pool));
+    claim_of(about, "show", place_refused(pool_show(pool, HANDED, root), refusal));
+    claim_of(about, "peek", place_refused(pool_peek(pool, HANDED, 1), refusal));
+    claim_of(about, "word", named_refused(pool_word(pool, HANDED, root, 1), refusal));
+    claim_of(about, "write", done_refused(pool_write(pool, HANDED, root, 0, (const uint8_t *)"new", 3), refusal, pool));
+    claim_of(about, "link", done_refused(pool_link(pool, HANDED, root, 0, 4, false), refusal, pool));
+    claim_of(about, "unlink", done_refused(pool_unlink(pool, HANDED, root, 3), refusal, pool));
+    claim_of(about, "evict", done_refused(pool_evict(pool, HANDED, 2), refusal, pool));
+    claim_of(about, "settle", done_refused(pool_settle(pool, HANDED), refusal, pool));
+    claim_of(about, "find", found_refused(pool_find(pool, HANDED, 1), refusal));
+    claim_of(about, "draw", drawn_refused(pool_draw(pool, HANDED, generator), refusal, generator));
+#undef HANDED
+}
 
 static void null_and_0(void)
 {
     struct pool pool = begin(), zero;
     memset(&zero, 0, sizeof zero);
     claim("open", done_refused(pool_open(NOTHING), POOL_WRONG_LENGTH, zero));
-    claim("open, no frames", done_refused(pool_open(NULL, 0, store, sizeof store), POOL_WRONG_LENGTH, zero));
-    claim("open, no store", done_refused(pool_open(frames, sizeof frames, NULL, 0), POOL_WRONG_LENGTH, zero));
-    claim("root", fixed_refused(pool_root(pool, NOTHING), POOL_WRONG_LENGTH, pool));
-    claim("fix", fixed_refused(pool_fix(pool, NOTHING, root, 1), POOL_WRONG_LENGTH, pool));
-    claim("unfix", done_refused(pool_unfix(pool, NOTHING, root), POOL_WRONG_LENGTH, pool));
-    claim("show", place_refused(pool_show(pool, NOTHING, root), POOL_WRONG_LENGTH));
-    claim("peek", place_refused(pool_peek(pool, NOTHING, 1), POOL_WRONG_LENGTH));
-    claim("word", named_refused(pool_word(pool, NOTHING, root, 1), POOL_WRONG_LENGTH));
-    claim("write", done_refused(pool_write(pool, NOTHING, root, 0, NULL, 0), POOL_WRONG_LENGTH, pool));
-    claim("link", done_refused(pool_link(pool, NOTHING, root, 0, 4, false), POOL_WRONG_LENGTH, pool));
-    claim("unlink", done_refused(pool_unlink(pool, NOTHING, root, 1), POOL_WRONG_LENGTH, pool));
-    claim("evict", done_refused(pool_evict(pool, NOTHING, 1), POOL_WRONG_LENGTH, pool));
-    claim("settle", done_refused(pool_settle(pool, NOTHING), POOL_WRONG_LENGTH, pool));
-    claim("find", found_refused(pool_find(pool, NOTHING, 1), POOL_WRONG_LENGTH));
-    claim("draw", drawn_refused(pool_draw(pool, NOTHING, generator), POOL_WRONG_LENGTH, generator));
+    claim("open, no frames",
+          done_refused(pool_open(NULL, 0, store, sizeof store, directory, POOL_DIRECTORY_SIZE), POOL_WRONG_LENGTH, zero));
+    claim("open, no store",
+          done_refused(pool_open(frames, sizeof frames, NULL, 0, directory, POOL_DIRECTORY_SIZE), POOL_WRONG_LENGTH, zero));
+    claim("open, no directory", done_refused(pool_open(BUFFERS, NULL, 0), POOL_WRONG_LENGTH, zero));
+    claim_refused("no buffers", POOL_WRONG_LENGTH, pool, NOTHING);
+    claim_refused("no directory", POOL_WRONG_LENGTH, pool, BUFFERS, NULL, 0);
 
     struct pool_done written = pool_write(pool, LENT, root, POOL_PAYLOAD_SIZE, NULL, 0);
     claim("a write of no bytes changes nothing", written.refusal == 0 && same_pool(&written.pool, &pool));
@@ -210,26 +285,175 @@ static void pages_in_use(void)
     pool = pool_unfix(pool, LENT, three.handle).pool;
     two = pool_fix(pool, LENT, root, 2);
     claim("the page that came in goes first", two.handle.frame == three.handle.frame && two.looks == 6);
-    claim("the one that was held is still there", is_found(two.pool, 1, one.handle.frame, 2));
+    claim("the one that was held is still there", is_found(two.pool, 1, one.handle.frame, 1));
     claim("and is cooler by each look", two.pool.records[1].usage == 1);
 }
 
-/* Find looks at the frames from 0 on, at empty ones too, and ends at the one that holds the page. */
-static void frames_looked_at(void)
+/* A byte of the directory. */
+struct byte {
+    uint8_t at, value;
+};
+#define LINK(frame) (POOL_BUCKETS + (frame))
+
+/* Whether the directory has these bytes, and 0 everywhere else; the byte beyond is as it was. */
+static bool has_bytes(const struct byte *bytes, size_t count)
 {
-    struct pool pool = begin();
-    claim("the root, by one look", is_found(pool, 0, 0, 1));
-    claim("nowhere, past empty frames", is_absent(pool, 1));
-    struct pool_fixed one = pool_fix(pool, LENT, root, 1);
-    struct pool_fixed two = pool_fix(one.pool, LENT, root, 2);
-    claim("a frame in between", is_found(two.pool, 1, 1, 2));
-    claim("the last frame", is_found(two.pool, 2, FRAMES - 1, FRAMES));
-    claim("nowhere, with none empty", is_absent(two.pool, 3));
-    pool = pool_evict(pool_unfix(two.pool, LENT, one.handle).pool, LENT, 1).pool;
-    claim("an empty frame is looked at", is_found(pool, 2, FRAMES - 1, FRAMES));
-    pool = pool_fix(pool, LENT, root, 1).pool;
-    pool = pool_evict(pool_unfix(pool, LENT, two.handle).pool, LENT, 2).pool;
-    claim("but not beyond the page", is_found(pool, 1, 1, 2));
+    uint8_t expected[sizeof directory] = {0};
+    for (size_t i = 0; i < count; i++)
+        expected[bytes[i].at] = bytes[i].value;
+    expected[POOL_DIRECTORY_SIZE] = 0xff;
+    return memcmp(directory, expected, sizeof expected) == 0;
+}
+
+#define HAS(...) has_bytes((const struct byte[]){__VA_ARGS__}, sizeof(const struct byte[]){__VA_ARGS__} / sizeof(struct byte))
+
+static struct pool unfixed(struct pool pool, pool_frame_index frame, pool_page_number page)
+{
+    const struct pool_handle handle = {frame, page};
+    return pool_unfix(pool, LENT_TO(pool), handle).pool;
+}
+
+/* Three pages of one chain, in frames 1 to 3: 139 at its head, then 72, then 5. */
+static struct pool begin_chain(void)
+{
+    struct pool pool = begin_wide();
+    for (size_t slot = 1; slot <= 3; slot++)
+        pool = pool_fix(pool, WIDE, root, slot).pool;
+    return pool;
+}
+
+/* Loading puts a page at its chain's head, evicting takes it out, and the others keep their order. */
+static void chains_kept(void)
+{
+    struct pool pool = begin_wide();
+    claim("open leaves page 0 alone, whatever was there", HAS({0, 1}));
+    pool = pool_fix(pool, WIDE, root, 1).pool;
+    claim("a page is entered", HAS({0, 1}, {5, 2}));
+    pool = pool_fix(pool, WIDE, root, 2).pool;
+    claim("the next of its chain before it", HAS({0, 1}, {5, 3}, {LINK(2), 2}));
+    pool = pool_fix(pool, WIDE, root, 3).pool;
+    claim("and the next before both", HAS({0, 1}, {5, 4}, {LINK(3), 3}, {LINK(2), 2}));
+    pool = pool_fix(pool, WIDE, root, 1).pool;
+    claim("a page that is there stays where it is", HAS({0, 1}, {5, 4}, {LINK(3), 3}, {LINK(2), 2}));
+    pool = pool_evict(unfixed(pool, 2, 72), WIDE, 72).pool;
+    claim("out of the middle", HAS({0, 1}, {5, 4}, {LINK(3), 2}));
+    pool = pool_fix(pool, WIDE, root, 2).pool;
+    claim("back at the head", HAS({0, 1}, {5, 3}, {LINK(2), 4}, {LINK(3), 2}));
+    pool = pool_fix(pool, WIDE, root, 4).pool;
+    claim("a chain of its own", HAS({0, 1}, {5, 3}, {LINK(2), 4}, {LINK(3), 2}, {6, 5}));
+    claim("a denied load changes nothing", pool_fix(pool, WIDE, root, 5).refusal == POOL_NO_FRAME &&
+                                               HAS({0, 1}, {5, 3}, {LINK(2), 4}, {LINK(3), 2}, {6, 5}));
+    struct pool_fixed fixed = pool_fix(unfixed(pool, 3, 139), WIDE, root, 5);
+    claim("a sweep takes one out, and another comes in", fixed.looks > 0 && fixed.handle.frame == 3 &&
+                                                             HAS({0, 1}, {5, 4}, {LINK(3), 3}, {LINK(2), 2}, {6, 5}));
+    pool = pool_evict(unfixed(fixed.pool, 3, 206), WIDE, 206).pool;
+    claim("off the head", HAS({0, 1}, {5, 3}, {LINK(2), 2}, {6, 5}));
+    pool = pool_evict(unfixed(unfixed(pool, 1, 5), 1, 5), WIDE, 5).pool;
+    claim("off the end", HAS({0, 1}, {5, 3}, {6, 5}));
+    pool = pool_evict(unfixed(pool, 2, 72), WIDE, 72).pool;
+    claim("and the last of its chain", HAS({0, 1}, {6, 5}));
+    claim("by calls that were accepted", is_found(pool, 6, 4, 1) && pool_open(WIDE).refusal == POOL_ACCEPTED);
+    claim("open leaves page 0 alone again", HAS({0, 1}));
+}
+
+/* Find gives a page's place in its chain, from 1, or the chain's length where the page is absent. */
+static void entries_compared(void)
+{
+    struct pool pool = begin_chain();
+    claim("the root", is_found(pool, 0, 0, 1));
+    claim("the first of a chain", is_found(pool, 139, 3, 1));
+    claim("the second", is_found(pool, 72, 2, 2));
+    claim("the third", is_found(pool, 5, 1, 3));
+    claim("absent from it", is_absent(pool, 206, 3));
+    claim("absent from the root's", is_absent(pool, 67, 1) && is_absent(pool, 201, 1));
+    claim("absent from an empty one", is_absent(pool, 6, 0) && is_absent(pool, 66, 0));
+    struct pool_place place = pool_peek(pool, WIDE, 5);
+    claim("peek finds the third", !place.in_store && place.start == POOL_PAGE_SIZE + POOL_PAYLOAD_START);
+    place = pool_peek(pool, WIDE, 206);
+    claim("and the absent one in the store", place.in_store && place.start == 206 * POOL_PAGE_SIZE + POOL_PAYLOAD_START);
+    pool = pool_evict(unfixed(pool, 2, 72), WIDE, 72).pool;
+    claim("after the second left", is_found(pool, 139, 3, 1) && is_found(pool, 5, 1, 2) && is_absent(pool, 72, 2));
+
+    /* Any order will do, and the count goes by the one that stands. */
+    pool = begin_chain();
+    directory[5] = 2;
+    directory[LINK(1)] = 4;
+    directory[LINK(3)] = 3;
+    directory[LINK(2)] = 0;
+    claim("in another order", is_found(pool, 5, 1, 1) && is_found(pool, 139, 3, 2) && is_found(pool, 72, 2, 3));
+    pool = pool_evict(unfixed(pool, 3, 139), WIDE, 139).pool;
+    claim("which is kept", is_found(pool, 5, 1, 1) && is_found(pool, 72, 2, 2) && HAS({0, 1}, {5, 2}, {LINK(1), 3}));
+}
+
+/* A directory of another length, which is refused by 1 in every call, open among them. */
+static void directory_lengths(void)
+{
+    static const size_t lengths[] = {0, 1, POOL_BUCKETS, POOL_DIRECTORY_SIZE - 1, POOL_DIRECTORY_SIZE + 1};
+    struct pool pool = pool_fix(begin(), LENT, root, 2).pool, zero, altered;
+    memset(&zero, 0, sizeof zero);
+    pool = unfixed(pool, 1, 2);
+    altered = pool;
+    altered.records[0].usage = POOL_MAX_USAGE + 1;
+    for (size_t i = 0; i < sizeof lengths / sizeof lengths[0]; i++) {
+        const size_t length = lengths[i];
+        claim_refused("another length", POOL_WRONG_LENGTH, pool, BUFFERS, directory, length);
+        claim_refused("1 before 2", POOL_WRONG_LENGTH, altered, BUFFERS, directory, length);
+        struct pool_done opened = pool_open(BUFFERS, directory, length);
+        claim("another length in open", done_refused(opened, POOL_WRONG_LENGTH, zero) && is_as_noted());
+        store[4 * 5] = 1;
+        note();
+        opened = pool_open(BUFFERS, directory, length);
+        claim("1 before 16", done_refused(opened, POOL_WRONG_LENGTH, zero) && is_as_noted());
+        store[4 * 5] = 0;
+    }
+    claim("the right length is accepted", is_found(pool, 2, 1, 1));
+}
+
+/* A directory that doesn't give the resident pages: refused by 2 in every call but open, which sets it. */
+static void damaged_chains(void)
+{
+    struct pool pool = pool_fix(begin(), LENT, root, 2).pool, zero;
+    memset(&zero, 0, sizeof zero);
+    pool = unfixed(pool, 1, 2);
+    uint8_t intact[sizeof directory];
+    memcpy(intact, directory, sizeof intact);
+    directory[2] = 0;
+    claim_refused("a page in no chain", POOL_DISAGREE, pool, LENT);
+    directory[3] = 2;
+    claim_refused("a page in another chain", POOL_DISAGREE, pool, LENT);
+    memcpy(directory, intact, sizeof intact);
+    directory[LINK(1)] = 2;
+    claim_refused("a chain into itself", POOL_DISAGREE, pool, LENT);
+    directory[LINK(1)] = 1;
+    claim_refused("a chain into another", POOL_DISAGREE, pool, LENT);
+    memcpy(directory, intact, sizeof intact);
+    directory[4] = 3;
+    claim_refused("an empty frame in a chain", POOL_DISAGREE, pool, LENT);
+    memcpy(directory, intact, sizeof intact);
+    directory[LINK(2)] = 1;
+    claim_refused("a byte of an empty frame", POOL_DISAGREE, pool, LENT);
+    memcpy(directory, intact, sizeof intact);
+    directory[LINK(63)] = 1;
+    claim_refused("a byte of frame 63", POOL_DISAGREE, pool, LENT);
+    memset(directory, 0xff, sizeof directory);
+    claim_refused("bytes of any kind", POOL_DISAGREE, pool, LENT);
+    store[4 * 5] = 1;
+    note();
+    claim("a refused open leaves them", done_refused(pool_open(LENT), POOL_UNSOUND_STORE, zero) && is_as_noted());
+    store[4 * 5] = 0;
+    claim("an accepted one sets it over them", pool_open(LENT).refusal == POOL_ACCEPTED && HAS({0, 1}));
+
+    /* Each byte of a directory with a chain of three, at each other value. */
+    pool = begin_chain();
+    memcpy(intact, directory, sizeof intact);
+    for (size_t at = 0; at < POOL_DIRECTORY_SIZE; at++) {
+        for (unsigned more = 1; more < 256; more++) {
+            directory[at] = (uint8_t)(intact[at] + more);
+            claim("any other byte", found_refused(pool_find(pool, WIDE, 5), POOL_DISAGREE));
+        }
+        directory[at] = intact[at];
+    }
+    claim("the right ones are accepted", is_found(pool, 5, 1, 3));
 }
 
 /* After 8 an empty slot takes the page, after 9 none does until the word that names it is unlinked. */
@@ -384,14 +608,14 @@ static void marks_kept(void)
     pool = begin_locked(false);
     claim("word tells the mark of a resident page", is_word(pool, root, 1, 1, true));
     claim("and where there is none", is_word(pool, root, 2, 2, false) && is_word(pool, root, 0, 0, false));
-    claim("find goes by the number", is_found(pool, 1, 1, 2));
+    claim("find goes by the number", is_found(pool, 1, 1, 1));
     claim("the locked page is clean", pool.records[1].used == 1 && pool.records[1].dirty == 0);
     claim("and the store has it", memcmp(store + POOL_PAGE_SIZE + POOL_PAYLOAD_START, "kept", 4) == 0);
     claim("the mark comes there with the root", pool.records[0].dirty == 1 && word_in(store, 0, 1) == 1);
     pool = pool_settle(pool, LENT).pool;
     claim("by a settle", word_in(store, 0, 1) == (1 | POOL_LOCK_BIT));
     pool = pool_evict(pool, LENT, 1).pool;
-    claim("evict goes by the number", is_absent(pool, 1));
+    claim("evict goes by the number", is_absent(pool, 1, 0));
     claim("and keeps the mark", is_word(pool, root, 1, 1, true));
 
     struct pool_done opened = pool_open(LENT);
@@ -403,7 +627,7 @@ static void marks_kept(void)
     pool = pool_unfix(one.pool, LENT, one.handle).pool;
     struct pool_fixed two = pool_fix(pool, LENT, root, 2);
     struct pool_fixed three = pool_fix(two.pool, LENT, root, 3);
-    claim("a sweep takes it as any other", three.looks > 0 && is_absent(three.pool, 1));
+    claim("a sweep takes it as any other", three.looks > 0 && is_absent(three.pool, 1, 0));
     claim("and keeps the mark", is_word(three.pool, root, 1, 1, true));
     one = pool_fix(pool_unfix(three.pool, LENT, two.handle).pool, LENT, root, 1);
     claim("and so does one that loads it", one.looks > 0 && is_word(one.pool, root, 1, 1, true));
@@ -506,14 +730,11 @@ static void workloads(void)
     struct pool_fixed one = pool_fix(begin(), LENT, root, 1);
     struct pool pool = pool_unfix(one.pool, LENT, one.handle).pool;
     struct pool_generator along = pool_seeded(344);
-    uint8_t unaltered[sizeof frames + sizeof store];
     for (size_t i = 0; i < sizeof answers; i++) {
-        memcpy(unaltered, frames, sizeof frames);
-        memcpy(unaltered + sizeof frames, store, sizeof store);
+        note();
         struct pool_drawn drawn = pool_draw(pool, LENT, along);
         claim("a record is drawn", drawn.refusal == 0 && memcmp(drawn.entry, entries[i], sizeof entries[i]) == 0);
-        claim("which alters nothing", memcmp(unaltered, frames, sizeof frames) == 0 &&
-                                          memcmp(unaltered + sizeof frames, store, sizeof store) == 0);
+        claim("which alters nothing", is_as_noted());
         along = drawn.generator;
         struct pool_done done = made(pool, drawn.entry);
         claim("and run", done.refusal == answers[i]);
@@ -742,7 +963,10 @@ int main(void)
     handles();
     no_frame();
     pages_in_use();
-    frames_looked_at();
+    chains_kept();
+    entries_compared();
+    directory_lengths();
+    damaged_chains();
     taken_slots();
     staying_pages();
     locked_pages();

@@ -53,7 +53,7 @@ int main(void)
     EXPECT(found.refusal, 205);
     EXPECT(found.present, true);
     EXPECT(found.frame, 206);
-    EXPECT(found.looks, 4004);
+    EXPECT(found.compared, 4004);
 
     struct pool_place place = pool_layout_place();
     EXPECT(place.refusal, 207);

@@ -100,7 +100,7 @@ impl Call {
 }
 
 fn reopen(machine: &impl Machine, state: &mut State) -> Answer {
-    let (opened, records) = machine.open(&mut state.frames, &mut state.store);
+    let (opened, records) = machine.open(&mut state.frames, &mut state.store, &mut state.directory);
     match opened {
         Ok(()) => state.pool = records,
         Err(_) => assert_eq!(records, Pool::ZERO, "the records of a refused open"),

@@ -1,10 +1,11 @@
 //! How often each call met each answer, a link into a taken slot each namer of its page, an evict each reason to stay, a fix what
-//! it can do to usages, a find each place where it can end, a draw what it can show, and any call what it can of marks and locked
-//! pages.
+//! it can do to usages, a find what it can meet in a chain, a draw what it can show, and any call what it can do to chains, and
+//! what it can meet of marks and locked pages.
 use crate::calls::{Answer, Call, DRAW, NAMES};
+use crate::model::chains::Turn;
 use crate::model::drawing::Drawing;
 use crate::model::locks::Lock;
-use crate::model::search::Ended;
+use crate::model::search::Met;
 use crate::model::stays::Stay;
 use crate::model::taken::Namer;
 use crate::model::warmth::Warmth;
@@ -23,7 +24,8 @@ pub struct Coverage {
     namers: BTreeMap<Namer, u64>,
     stays: BTreeMap<Stay, u64>,
     warmths: BTreeMap<Warmth, u64>,
-    ends: BTreeMap<Ended, u64>,
+    mets: BTreeMap<Met, u64>,
+    turns: BTreeMap<Turn, u64>,
     drawings: BTreeMap<Drawing, u64>,
     locks: BTreeMap<Lock, u64>,
     sweeps: u64,
@@ -60,10 +62,17 @@ impl Coverage {
         }
     }
 
-    /// Counts a find: where it ended.
-    pub fn count_end(&mut self, ended: Option<Ended>) {
-        if let Some(ended) = ended {
-            *self.ends.entry(ended).or_default() += 1;
+    /// Counts a find: what it met in the page's chain.
+    pub fn count_met(&mut self, met: Option<Met>) {
+        if let Some(met) = met {
+            *self.mets.entry(met).or_default() += 1;
+        }
+    }
+
+    /// Counts what a call did to the directory's chains.
+    pub fn count_turns(&mut self, turns: BTreeSet<Turn>) {
+        for turn in turns {
+            *self.turns.entry(turn).or_default() += 1;
         }
     }
 
@@ -103,9 +112,14 @@ impl Coverage {
         Warmth::ALL.into_iter().filter(|warmth| !self.warmths.contains_key(warmth)).collect()
     }
 
-    /// Where no find ended.
-    pub fn missing_ends(&self) -> Vec<Ended> {
-        Ended::ALL.into_iter().filter(|ended| !self.ends.contains_key(ended)).collect()
+    /// What no find met in a chain.
+    pub fn missing_mets(&self) -> Vec<Met> {
+        Met::ALL.into_iter().filter(|met| !self.mets.contains_key(met)).collect()
+    }
+
+    /// Those of the wanted ones that no call did to a chain.
+    pub fn missing_turns(&self, wanted: &[Turn]) -> Vec<Turn> {
+        wanted.iter().copied().filter(|turn| !self.turns.contains_key(turn)).collect()
     }
 
     /// Those of the wanted ones that no draw showed.
@@ -153,9 +167,13 @@ impl fmt::Display for Coverage {
         for (warmth, count) in &self.warmths {
             write!(f, " {warmth:?}:{count}")?;
         }
-        write!(f, "\nfinds, by where they ended:")?;
-        for (ended, count) in &self.ends {
-            write!(f, " {ended:?}:{count}")?;
+        write!(f, "\nfinds, by what they met in the page's chain:")?;
+        for (met, count) in &self.mets {
+            write!(f, " {met:?}:{count}")?;
+        }
+        write!(f, "\nwhat came of the directory's chains:")?;
+        for (turn, count) in &self.turns {
+            write!(f, " {turn:?}:{count}")?;
         }
         write!(f, "\ndraws, by what they showed:")?;
         for (drawing, count) in &self.drawings {

@@ -1,5 +1,6 @@
-//! Alterations of records, frames and store from outside.
+//! Alterations of records, frames, store and directory from outside.
 mod buffers;
+pub mod directory;
 mod marks;
 mod records;
 mod shapes;
@@ -10,7 +11,7 @@ use random::Random;
 type Change = fn(&mut Random, &mut State);
 
 /// Changes of any part, most of which break rule 1 or 2.
-const DAMAGES: [Change; 22] = [
+const DAMAGES: [Change; 36] = [
     records::field,
     records::field,
     records::bit,
@@ -33,10 +34,24 @@ const DAMAGES: [Change; 22] = [
     marks::alone,
     marks::other_mark_too,
     marks::swizzled,
+    directory::length,
+    directory::byte,
+    directory::byte,
+    directory::link,
+    directory::whole,
+    directory::cycle,
+    directory::loose_cycle,
+    directory::shared_tail,
+    directory::wrong_bucket,
+    directory::empty_entry,
+    directory::missing_entry,
+    directory::second_entry,
+    directory::loose_byte,
+    directory::reordered,
 ];
 
-/// Changes that leave records and frames in agreement, so that calls go on from there.
-const ALTERATIONS: [Change; 8] = [
+/// Changes that leave records, frames and directory in agreement, so that calls go on from there.
+const ALTERATIONS: [Change; 9] = [
     records::counts,
     records::most_pins,
     buffers::payload,
@@ -45,6 +60,7 @@ const ALTERATIONS: [Change; 8] = [
     shapes::spoilt_load,
     marks::turned,
     marks::turned_in_store,
+    directory::reordered,
 ];
 
 /// Damages a state in one to three places.

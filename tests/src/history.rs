@@ -17,14 +17,13 @@ pub struct History<'a, M> {
 impl<'a, M: Machine> History<'a, M> {
     pub fn open(
         machine: &'a M,
-        frames: Vec<u8>,
-        store: Vec<u8>,
+        (frames, store, directory): (Vec<u8>, Vec<u8>, Vec<u8>),
         coverage: &mut Coverage,
     ) -> Result<Self, String> {
         let mut plain = Plain::open(&store);
         plain.follow_locks(false);
         let pool = Pool::ZERO;
-        let mut state = State { pool, frames, store };
+        let mut state = State { pool, frames, store, directory };
         let answer = step(machine, &mut state, &Call::Open, coverage)?;
         ensure!(answer.accepted(), "open gives {answer:?}");
         Ok(History { machine, state, plain })
@@ -34,6 +33,7 @@ impl<'a, M: Machine> History<'a, M> {
     pub fn call(&mut self, call: &Call, coverage: &mut Coverage) -> Result<Answer, String> {
         let denied = self.plain.foretell_denial(self.machine, &self.state, call)?;
         let locked = self.plain.foretell_lock(self.machine, &self.state, call);
+        let directory = self.state.directory.clone();
         let answer = step(self.machine, &mut self.state, call, coverage)?;
         ensure!((answer == Answer::Refused(15)) == (denied == Some(true)), "{call:?}: {answer:?}");
         ensure!(denied != Some(false) || answer.accepted(), "{call:?}, with room: {answer:?}");
@@ -52,7 +52,10 @@ impl<'a, M: Machine> History<'a, M> {
         }
         let checked = followed
             .and_then(|()| self.plain.check_locked(&self.state))
-            .and_then(|()| self.plain.check_answer(self.machine, &self.state, call, &answer));
+            .and_then(|()| self.plain.check_answer(self.machine, &self.state, call, &answer))
+            .and_then(|()| {
+                self.plain.check_directory(self.machine, &self.state, &directory, answer.accepted())
+            });
         checked.map_err(|fault| format!("{call:?}: {fault}"))?;
         Ok(answer)
     }

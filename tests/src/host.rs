@@ -19,7 +19,9 @@ macro_rules! lend {
                 $state.frames.$pointer(),
                 $state.frames.len(),
                 $state.store.$pointer(),
-                $state.store.len()
+                $state.store.len(),
+                $state.directory.$pointer(),
+                $state.directory.len()
                 $(, $argument)*
             )
         }
@@ -63,10 +65,10 @@ fn named(answer: raw::Named) -> Result<Named, Refusal> {
 
 /// Beside 'absent', too, the frame is 0.
 fn found(answer: raw::Found) -> Result<Found, Refusal> {
-    let raw::Found { refusal, present, frame, looks } = answer;
+    let raw::Found { refusal, present, frame, compared } = answer;
     assert!(present || frame == FrameIndex(0), "frame {frame} beside 'absent'");
-    let zero = !present && looks == 0;
-    unless_refused(refusal, zero, Found { frame: present.then_some(frame), looks })
+    let zero = !present && compared == 0;
+    unless_refused(refusal, zero, Found { frame: present.then_some(frame), compared })
 }
 
 fn drawn(answer: raw::Drawn, generator: &mut Generator) -> Result<Entry, Refusal> {
@@ -78,10 +80,18 @@ fn drawn(answer: raw::Drawn, generator: &mut Generator) -> Result<Entry, Refusal
 pub struct Library;
 
 impl Machine for Library {
-    fn open(&self, frames: &mut [u8], store: &mut [u8]) -> (Result<(), Refusal>, Pool) {
-        let (frames_len, store_len) = (frames.len(), store.len());
+    fn open(&self, frames: &mut [u8], store: &mut [u8], directory: &mut [u8]) -> (Result<(), Refusal>, Pool) {
         // SAFETY: as in `lend`.
-        let done = unsafe { raw::pool_open(frames.as_mut_ptr(), frames_len, store.as_mut_ptr(), store_len) };
+        let done = unsafe {
+            raw::pool_open(
+                frames.as_mut_ptr(),
+                frames.len(),
+                store.as_mut_ptr(),
+                store.len(),
+                directory.as_mut_ptr(),
+                directory.len(),
+            )
+        };
         (unless_refused(done.refusal, true, ()), done.pool)
     }
 

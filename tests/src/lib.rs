@@ -1,7 +1,8 @@
 //! A naive model of document 01, the plain map of demand 3, and what drives them against the pool.
 //!
 //! - `records`, `pool`, `calls`: the pool's data, its thirteen calls and the draw of a record as a trait, a call as a value.
-//! - `model`, `host`, `package`: the machines, document 01 as a program, the linked library, and that through its wrappers.
+//! - `model`, `host`, `package`, `held`: the machines, document 01 as a program, the linked library, and that through its wrappers,
+//!   as functions and as a pool's methods.
 //! - `lockstep`: one call on the machine under test, the wrappers and the model; `history` adds `plain`, the plain map.
 //! - `stores`, `steer`, `draws`, `damage`, `coverage`: what is called and drawn on what, and how often it was met.
 //! - `trial`: a pool for a single case; `listing`: the call that a record makes, and its line.
@@ -11,6 +12,8 @@ pub mod calls;
 pub mod coverage;
 pub mod damage;
 pub mod draws;
+#[cfg(feature = "host")]
+pub mod held;
 pub mod history;
 #[cfg(feature = "host")]
 pub mod host;

@@ -1,9 +1,9 @@
-//! One call, or the draw of a record, on the machine under test, through the package's wrappers and on the model, from the same
-//! state.
+//! One call, or the draw of a record, on the machine under test, through the package's wrappers, both of them, and on the model,
+//! from the same state.
 use crate::calls::{Answer, Call};
 use crate::coverage::Coverage;
 use crate::ensure;
-use crate::model::{drawing, locks, search, stays, taken, warmth, Model};
+use crate::model::{chains, drawing, locks, search, stays, taken, warmth, Model};
 use crate::pool::{Machine, Refusal};
 use crate::records::{Entry, Generator, PageNumber, State};
 
@@ -26,9 +26,9 @@ fn compare(
 
 /// All must answer and leave the same, and a refused call must leave all as found. Link must answer as document 01's order does
 /// but where request A.9 changes it, evict be refused by the reason for which the page stays, fix take the frame that document
-/// 01's sweep takes and leave the usages that request A.5 asks for, and find answer as document 01's does, with the looks of
-/// request A.2. An edit must be refused where request A.8 says so and nowhere else, and every other call leave what words name and
-/// mark.
+/// 01's sweep takes and leave the usages that request A.5 asks for, find and peek answer as document 01's do, with the entries
+/// compared of request A.3, and every call leave the directory's chains as that says. An edit must be refused where request A.8
+/// says so and nowhere else, and every other call leave what words name and mark.
 pub fn step(
     machine: &impl Machine,
     state: &mut State,
@@ -39,8 +39,14 @@ pub fn step(
     let mut expected = state.clone();
     let wanted = call.make(&Model, &mut expected);
     #[cfg(feature = "host")]
-    compare(&crate::package::Package, &mut before.clone(), call, &wanted, &expected)
-        .map_err(|fault| format!("wrapped {fault}"))?;
+    {
+        compare(&crate::package::Package, &mut before.clone(), call, &wanted, &expected)
+            .map_err(|fault| format!("wrapped {fault}"))?;
+        if crate::held::can_hold(&before) {
+            compare(&crate::held::Held, &mut before.clone(), call, &wanted, &expected)
+                .map_err(|fault| format!("held {fault}"))?;
+        }
+    }
     let answer = compare(machine, state, call, &wanted, &expected)?;
     if !answer.accepted() && *state != before {
         return Err(format!("{call:?}, {answer:?}, changes something"));
@@ -66,9 +72,11 @@ fn requests(
             coverage.count_namer(taken::compare(before, *handle, *slot, PageNumber(*page), number)?);
         }
         Call::Evict(page) => coverage.count_stay(stays::compare(before, PageNumber(*page), number)?),
-        Call::Find(page) => coverage.count_end(search::compare(before, PageNumber(*page), answer)?),
+        Call::Find(page) => coverage.count_met(search::compare_find(before, PageNumber(*page), answer)?),
+        Call::Peek(page) => search::compare_peek(before, PageNumber(*page), answer)?,
         _ => (),
     }
+    coverage.count_turns(chains::compare((before, after), call, answer)?);
     coverage.count_locks(locks::compare((before, after), call, answer)?);
     Ok(())
 }
@@ -106,8 +114,14 @@ pub fn draw(
     let before = *generator;
     let wanted = Model.draw(state, generator);
     #[cfg(feature = "host")]
-    compare_draw(&crate::package::Package, state, before, wanted, *generator)
-        .map_err(|fault| format!("wrapped, {fault}"))?;
+    {
+        compare_draw(&crate::package::Package, state, before, wanted, *generator)
+            .map_err(|fault| format!("wrapped, {fault}"))?;
+        if crate::held::can_hold(state) {
+            compare_draw(&crate::held::Held, state, before, wanted, *generator)
+                .map_err(|fault| format!("held, {fault}"))?;
+        }
+    }
     compare_draw(machine, state, before, wanted, *generator)?;
     let shown = drawing::compare(state, (before, *generator), wanted)?;
     coverage.count_draw(wanted.err().unwrap_or(0), shown);

@@ -1,5 +1,7 @@
 //! Document 01 as a program, with document 02's changes, naive on purpose: each rule and each call reads like its sentence.
 mod agreement;
+pub mod chains;
+pub mod directory;
 pub mod drawing;
 pub mod locks;
 mod moves;
@@ -64,22 +66,9 @@ fn occupied(pool: &Pool) -> impl Iterator<Item = FrameIndex> + Clone + '_ {
     (0..pool.count as u8).map(FrameIndex).filter(|frame| pool.record(*frame).is_used())
 }
 
-/// The frame that holds a page.
+/// The frame that holds a page, by the records. Find and peek go by the directory.
 fn frame_of(pool: &Pool, page: PageNumber) -> Option<FrameIndex> {
-    look_for(pool, page).frame
-}
-
-/// Request A.2: "it is to go from frame 0 on and end at the frame that holds it", with a look at each frame on the way.
-fn look_for(pool: &Pool, page: PageNumber) -> Found {
-    let mut looks = 0;
-    for frame in (0..pool.count as u8).map(FrameIndex) {
-        looks += 1;
-        let record = pool.record(frame);
-        if record.is_used() && record.page == page {
-            return Found { frame: Some(frame), looks };
-        }
-    }
-    Found { frame: None, looks }
+    occupied(pool).find(|frame| pool.record(*frame).page == page)
 }
 
 /// The word with a frame replaced by the number of the page in it. The mark stays.
@@ -117,9 +106,11 @@ fn put_link(state: &mut State, handle: Handle, slot: usize, word: u32) {
     state.pool.record_mut(handle.frame).dirty = 1;
 }
 
-fn opened(frames: &mut [u8], store: &[u8]) -> Result<Pool, Refusal> {
+fn opened(frames: &mut [u8], store: &[u8], directory: &mut [u8]) -> Result<Pool, Refusal> {
     rules::lengths_in_range(frames, store)?;
+    rules::directory_length(directory)?;
     rules::sound(store)?;
+    directory::begin(directory);
     page_of_mut(frames, 0).copy_from_slice(page_of(store, 0));
     let mut pool = Pool::ZERO;
     pool.count = (frames.len() / PAGE_SIZE) as u16;
@@ -129,8 +120,8 @@ fn opened(frames: &mut [u8], store: &[u8]) -> Result<Pool, Refusal> {
 }
 
 impl Machine for Model {
-    fn open(&self, frames: &mut [u8], store: &mut [u8]) -> (Result<(), Refusal>, Pool) {
-        match opened(frames, store) {
+    fn open(&self, frames: &mut [u8], store: &mut [u8], directory: &mut [u8]) -> (Result<(), Refusal>, Pool) {
+        match opened(frames, store, directory) {
             Ok(pool) => (Ok(()), pool),
             Err(refusal) => (Err(refusal), Pool::ZERO),
         }
@@ -174,7 +165,7 @@ impl Machine for Model {
     fn peek(&self, state: &State, page: PageNumber) -> Result<Place, Refusal> {
         rules::state(state)?;
         rules::page(&state.pool, page)?;
-        Ok(match frame_of(&state.pool, page) {
+        Ok(match directory::seek(&state.pool, &state.directory, page).0 {
             Some(frame) => payload_in(Buffer::Frames, frame.into()),
             None => payload_in(Buffer::Store, page.into()),
         })
@@ -257,7 +248,8 @@ impl Machine for Model {
     fn find(&self, state: &State, page: PageNumber) -> Result<Found, Refusal> {
         rules::state(state)?;
         rules::page(&state.pool, page)?;
-        Ok(look_for(&state.pool, page))
+        let (frame, compared) = directory::seek(&state.pool, &state.directory, page);
+        Ok(Found { frame, compared })
     }
 
     fn seeded(&self, seed: u32) -> Generator {

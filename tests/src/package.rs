@@ -1,38 +1,31 @@
-//! The linked library through the package's own wrappers, behind the same trait.
+//! The linked library through the package's own functions, behind the same trait.
 use crate::pool::{Buffer, Fixed, Found, Machine, Named, Place, Refusal};
 use crate::records::{Entry, Generator, Handle, PageNumber, Pool, State};
-use pagepool::PagePool;
 
 pub struct Package;
 
-type Answered<T> = Result<T, pagepool::Refusal>;
+pub(crate) type Answered<T> = Result<T, pagepool::Refusal>;
 
-fn numbered<T>(answer: Answered<T>) -> Result<T, Refusal> {
+pub(crate) fn numbered<T>(answer: Answered<T>) -> Result<T, Refusal> {
     answer.map_err(pagepool::Refusal::number)
 }
 
-/// Makes a call that may change a state.
-fn change<T>(
-    state: &mut State,
-    call: impl FnOnce(&mut PagePool<&mut [u8], &mut [u8]>) -> Answered<T>,
-) -> Result<T, Refusal> {
-    let mut pool =
-        PagePool { records: state.pool, frames: &mut state.frames[..], store: &mut state.store[..] };
-    let answer = call(&mut pool);
-    state.pool = pool.records;
-    numbered(answer)
+pub(crate) fn fixed(answer: Answered<pagepool::Fixed>) -> Result<Fixed, Refusal> {
+    numbered(answer).map(|pagepool::Fixed { handle, looks }| Fixed { handle, looks })
 }
 
-fn shared(state: &State) -> PagePool<&[u8], &[u8]> {
-    PagePool { records: state.pool, frames: &state.frames, store: &state.store }
+/// What a word names, page 0 where nothing.
+pub(crate) fn named(answer: Answered<Option<pagepool::Named>>) -> Result<Named, Refusal> {
+    let nothing = Named { page: PageNumber(0), locked: false };
+    Ok(numbered(answer)?.map_or(nothing, |pagepool::Named { page, locked }| Named { page, locked }))
 }
 
-fn fixed(answer: Result<pagepool::Fixed, Refusal>) -> Result<Fixed, Refusal> {
-    answer.map(|pagepool::Fixed { handle, looks }| Fixed { handle, looks })
+pub(crate) fn found(answer: Answered<pagepool::Found>) -> Result<Found, Refusal> {
+    numbered(answer).map(|pagepool::Found { frame, compared }| Found { frame, compared })
 }
 
 /// Where a part of a state's buffers lies.
-fn place(state: &State, part: Answered<&[u8]>) -> Result<Place, Refusal> {
+pub(crate) fn place(state: &State, part: Answered<&[u8]>) -> Result<Place, Refusal> {
     let part = numbered(part)?;
     let buffers = [(Buffer::Frames, &state.frames), (Buffer::Store, &state.store)];
     let within = buffers.into_iter().find(|(_, buffer)| buffer.as_ptr_range().contains(&part.as_ptr()));
@@ -42,40 +35,45 @@ fn place(state: &State, part: Answered<&[u8]>) -> Result<Place, Refusal> {
 
 impl Machine for Package {
     /// A refused open gives no records here.
-    fn open(&self, frames: &mut [u8], store: &mut [u8]) -> (Result<(), Refusal>, Pool) {
-        let mut pool = PagePool::new(frames, store);
-        let opened = pool.open();
-        (numbered(opened), pool.records)
+    fn open(&self, frames: &mut [u8], store: &mut [u8], directory: &mut [u8]) -> (Result<(), Refusal>, Pool) {
+        match numbered(pagepool::open(frames, store, directory)) {
+            Ok(pool) => (Ok(()), pool),
+            Err(refusal) => (Err(refusal), Pool::ZERO),
+        }
     }
 
     fn root(&self, state: &mut State) -> Result<Fixed, Refusal> {
-        fixed(change(state, |pool| pool.root()))
+        fixed(pagepool::root(&mut state.pool, &state.frames, &state.store, &state.directory))
     }
 
     fn fix(&self, state: &mut State, handle: Handle, slot: usize) -> Result<Fixed, Refusal> {
-        fixed(change(state, |pool| pool.fix(handle, slot)))
+        let State { pool, frames, store, directory } = state;
+        fixed(pagepool::fix(pool, frames, store, directory, handle, slot))
     }
 
     fn unfix(&self, state: &mut State, handle: Handle) -> Result<(), Refusal> {
-        change(state, |pool| pool.unfix(handle))
+        let State { pool, frames, store, directory } = state;
+        numbered(pagepool::unfix(pool, frames, store, directory, handle))
     }
 
     fn show(&self, state: &State, handle: Handle) -> Result<Place, Refusal> {
-        place(state, shared(state).show(handle))
+        let State { pool, frames, store, directory } = state;
+        place(state, pagepool::show(pool, frames, store, directory, handle))
     }
 
     fn peek(&self, state: &State, page: PageNumber) -> Result<Place, Refusal> {
-        place(state, shared(state).peek(page))
+        let State { pool, frames, store, directory } = state;
+        place(state, pagepool::peek(pool, frames, store, directory, page))
     }
 
     fn word(&self, state: &State, handle: Handle, slot: usize) -> Result<Named, Refusal> {
-        let nothing = Named { page: PageNumber(0), locked: false };
-        let named = numbered(shared(state).word(handle, slot))?;
-        Ok(named.map_or(nothing, |pagepool::Named { page, locked }| Named { page, locked }))
+        let State { pool, frames, store, directory } = state;
+        named(pagepool::word(pool, frames, store, directory, handle, slot))
     }
 
     fn write(&self, state: &mut State, handle: Handle, offset: usize, bytes: &[u8]) -> Result<(), Refusal> {
-        change(state, |pool| pool.write(handle, offset, bytes))
+        let State { pool, frames, store, directory } = state;
+        numbered(pagepool::write(pool, frames, store, directory, handle, offset, bytes))
     }
 
     fn link(
@@ -86,24 +84,28 @@ impl Machine for Package {
         page: PageNumber,
         locked: bool,
     ) -> Result<(), Refusal> {
-        change(state, |pool| pool.link(handle, slot, page, locked))
+        let State { pool, frames, store, directory } = state;
+        numbered(pagepool::link(pool, frames, store, directory, handle, slot, page, locked))
     }
 
     fn unlink(&self, state: &mut State, handle: Handle, slot: usize) -> Result<(), Refusal> {
-        change(state, |pool| pool.unlink(handle, slot))
+        let State { pool, frames, store, directory } = state;
+        numbered(pagepool::unlink(pool, frames, store, directory, handle, slot))
     }
 
     fn evict(&self, state: &mut State, page: PageNumber) -> Result<(), Refusal> {
-        change(state, |pool| pool.evict(page))
+        let State { pool, frames, store, directory } = state;
+        numbered(pagepool::evict(pool, frames, store, directory, page))
     }
 
     fn settle(&self, state: &mut State) -> Result<(), Refusal> {
-        change(state, |pool| pool.settle())
+        let State { pool, frames, store, directory } = state;
+        numbered(pagepool::settle(pool, frames, store, directory))
     }
 
     fn find(&self, state: &State, page: PageNumber) -> Result<Found, Refusal> {
-        let found = numbered(shared(state).find(page));
-        found.map(|pagepool::Found { frame, looks }| Found { frame, looks })
+        let State { pool, frames, store, directory } = state;
+        found(pagepool::find(pool, frames, store, directory, page))
     }
 
     fn seeded(&self, seed: u32) -> Generator {
@@ -111,6 +113,7 @@ impl Machine for Package {
     }
 
     fn draw(&self, state: &State, generator: &mut Generator) -> Result<Entry, Refusal> {
-        numbered(shared(state).draw(generator))
+        let State { pool, frames, store, directory } = state;
+        numbered(pagepool::draw(pool, frames, store, directory, generator))
     }
 }

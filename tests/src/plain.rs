@@ -1,4 +1,5 @@
 //! Document 01, "The plain map and the words of demand 3": what holds along an unaltered list of calls.
+mod directory;
 mod locks;
 mod point;
 mod residency;

@@ -11,11 +11,11 @@ pub struct Fixed {
     pub looks: u16,
 }
 
-/// The answer of find: the frame, none for 'absent', and the frames looked at.
+/// The answer of find: the frame, none for 'absent', and the entries compared.
 #[derive(Clone, Copy, Debug, PartialEq, Eq)]
 pub struct Found {
     pub frame: Option<FrameIndex>,
-    pub looks: u16,
+    pub compared: u16,
 }
 
 /// The answer of word: the page that the word names, page 0 for none, and whether it marks that page as locked.
@@ -52,7 +52,7 @@ impl Place {
 
 pub trait Machine {
     /// The records handed back too: all zero with a refusal.
-    fn open(&self, frames: &mut [u8], store: &mut [u8]) -> (Result<(), Refusal>, Pool);
+    fn open(&self, frames: &mut [u8], store: &mut [u8], directory: &mut [u8]) -> (Result<(), Refusal>, Pool);
     fn root(&self, state: &mut State) -> Result<Fixed, Refusal>;
     fn fix(&self, state: &mut State, handle: Handle, slot: usize) -> Result<Fixed, Refusal>;
     fn unfix(&self, state: &mut State, handle: Handle) -> Result<(), Refusal>;

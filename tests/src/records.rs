@@ -9,6 +9,12 @@ pub const SWIZZLE_BIT: u32 = 1 << 31;
 /// Request A.8: "Bit 30 of a word marks the page it names as locked".
 pub const LOCK_BIT: u32 = 1 << 30;
 
+/// Request A.3: "bucket p mod 67".
+pub const BUCKETS: usize = 67;
+
+/// Request A.3: "131 bytes".
+pub const DIRECTORY_SIZE: usize = 131;
+
 /// The mark of a word, or none.
 pub const fn mark_of(word: u32) -> u32 {
     word & LOCK_BIT
@@ -32,12 +38,13 @@ pub const fn with_mark(name: u32, locked: bool) -> u32 {
     }
 }
 
-/// All that a call is handed: the records, and the frames and the store that the host lends.
+/// All that a call is handed: the records, and the frames, the store and the directory that the host lends.
 #[derive(Clone, PartialEq, Eq)]
 pub struct State {
     pub pool: Pool,
     pub frames: Vec<u8>,
     pub store: Vec<u8>,
+    pub directory: Vec<u8>,
 }
 
 impl State {
@@ -68,6 +75,9 @@ impl State {
         first_difference(&self.frames, &other.frames)
             .map(|at| format!("frames at {at}"))
             .or_else(|| first_difference(&self.store, &other.store).map(|at| format!("store at {at}")))
+            .or_else(|| {
+                first_difference(&self.directory, &other.directory).map(|at| format!("directory at {at}"))
+            })
     }
 }
 

@@ -1,8 +1,8 @@
 //! Chooses random calls that reach deep into the rules: most arguments fit the state, some break a rule.
 use crate::calls::Call;
 use crate::records::{
-    self, is_marked, unmarked, word_in, FrameIndex, FrameRecord, Handle, PageNumber, State, PAGE_SIZE,
-    PAYLOAD_SIZE, PAYLOAD_START, SLOTS, SWIZZLE_BIT,
+    self, is_marked, unmarked, word_in, FrameIndex, FrameRecord, Handle, PageNumber, State, BUCKETS,
+    PAGE_SIZE, PAYLOAD_SIZE, PAYLOAD_START, SLOTS, SWIZZLE_BIT,
 };
 use random::Random;
 
@@ -256,8 +256,18 @@ fn any_page(random: &mut Random, state: &State) -> u16 {
 fn page(random: &mut Random, state: &State) -> u16 {
     match handle_where(random, state, |_| true) {
         Some(handle) if random.percent(50) => handle.page.0,
-        _ => any_page(random, state),
+        _ => sharing(random, state).unwrap_or_else(|| any_page(random, state)),
     }
+}
+
+/// At times, where N is above 67: a page with the remainder of a resident one, whose bucket it shares.
+fn sharing(random: &mut Random, state: &State) -> Option<u16> {
+    let pages = usize::from(state.pool.pages);
+    if pages <= BUCKETS || random.percent(40) {
+        return None;
+    }
+    let resident = usize::from(handle_where(random, state, |_| true)?.page);
+    random.choose((resident % BUCKETS..pages).step_by(BUCKETS)).map(|page| page as u16)
 }
 
 /// A page other than the root, with no resident child.
@@ -290,6 +300,10 @@ fn evict_page(random: &mut Random, state: &State) -> u16 {
 
 /// A page to link: one that no word seems to name, one that the store alone still names, or any.
 fn link_page(random: &mut Random, state: &State) -> u16 {
+    let sharing = sharing(random, state).filter(|page| *page != 0 && !seems_named(state, *page));
+    if let Some(page) = sharing {
+        return page;
+    }
     let tries: Vec<u16> = (0..4).map(|_| any_page(random, state)).collect();
     let page = match random.below(4) {
         0 | 1 => tries.iter().copied().find(|page| !seems_named(state, *page)),

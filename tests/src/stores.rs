@@ -1,20 +1,42 @@
 //! Random sound stores.
-use crate::records::{page_of_mut, put_word, with_mark, word_in, PAGE_SIZE, PAYLOAD_START, SLOTS};
+use crate::records::{page_of_mut, put_word, with_mark, word_in, BUCKETS, PAGE_SIZE, PAYLOAD_START, SLOTS};
 use random::Random;
 
 /// N pages with random payloads. So many in a hundred are named by a word, most of them in a tree below the root, and so many of
 /// these words are marked, in reach or not.
 pub fn sound_store(random: &mut Random, pages: usize, named: usize, marked: usize) -> Vec<u8> {
-    let mut store = vec![0; PAGE_SIZE * pages];
-    for page in 0..pages {
-        random.fill(&mut page_of_mut(&mut store, page)[PAYLOAD_START..]);
-    }
+    let mut store = unlinked_pages(random, pages);
     for page in 1..pages {
         if random.percent(named) {
             let parent = parent_for(random, page, pages);
             let word = with_mark(page as u32, random.percent(marked));
             name_in(random, page_of_mut(&mut store, parent), word);
         }
+    }
+    store
+}
+
+/// N pages with random payloads. Those with one of up to three remainders by 67 are named, in a tree below the root, so that
+/// resident pages share a bucket; so many in a hundred of the words are marked.
+pub fn sharing_store(random: &mut Random, pages: usize, marked: usize) -> Vec<u8> {
+    let mut store = unlinked_pages(random, pages);
+    let remainders: Vec<usize> = (0..random.pick(&[1, 1, 2, 3])).map(|_| random.below(BUCKETS)).collect();
+    let mut parents = vec![0];
+    for page in (1..pages).filter(|page| remainders.contains(&(page % BUCKETS))) {
+        let parent = if random.percent(60) { 0 } else { random.pick(&parents) };
+        let word = with_mark(page as u32, random.percent(marked));
+        if name_in(random, page_of_mut(&mut store, parent), word) {
+            parents.push(page);
+        }
+    }
+    store
+}
+
+/// N pages with random payloads, of which none names another.
+fn unlinked_pages(random: &mut Random, pages: usize) -> Vec<u8> {
+    let mut store = vec![0; PAGE_SIZE * pages];
+    for page in 0..pages {
+        random.fill(&mut page_of_mut(&mut store, page)[PAYLOAD_START..]);
     }
     store
 }
@@ -29,9 +51,12 @@ fn parent_for(random: &mut Random, page: usize, pages: usize) -> usize {
 }
 
 /// Puts a word into an empty slot, if the one tried is: the first more often than any other, since the root's parent fields are 0.
-fn name_in(random: &mut Random, parent: &mut [u8], word: u32) {
+/// Gives whether it was.
+fn name_in(random: &mut Random, parent: &mut [u8], word: u32) -> bool {
     let slot = if random.percent(15) { 0 } else { random.below(SLOTS) };
-    if word_in(parent, slot) == 0 {
+    let free = word_in(parent, slot) == 0;
+    if free {
         put_word(parent, slot, word);
     }
+    free
 }

@@ -2,10 +2,10 @@
 use crate::calls::{Answer, Call};
 use crate::coverage::Coverage;
 use crate::lockstep::{draw, step};
-use crate::pool::{Refusal, UnderTest};
+use crate::pool::{Buffer, Place, Refusal, UnderTest};
 use crate::records::{
     page_of, page_of_mut, put_word, word_in, Entry, FrameIndex, FrameRecord, Generator, Handle, Pool, State,
-    PAGE_SIZE,
+    DIRECTORY_SIZE, PAGE_SIZE,
 };
 
 /// A word of a stored page: the page, the slot, and the word, which is the page that it names, with the mark or without.
@@ -21,6 +21,11 @@ pub fn three_children(frames: usize) -> (Trial, Handle) {
         trial.accept(Call::Unfix(child));
     }
     (trial, root)
+}
+
+/// The payload of the page at an index of a buffer.
+pub fn payload(buffer: Buffer, index: usize) -> Answer {
+    Answer::Place(Place { buffer, start: 256 * index + 64, size: 192 })
 }
 
 #[derive(Clone)]
@@ -42,7 +47,8 @@ impl Trial {
         for (page, slot, word) in links {
             put_word(page_of_mut(&mut store, *page), *slot, *word);
         }
-        Trial { state: State { pool: Pool::ZERO, frames: vec![0; PAGE_SIZE * frames], store } }
+        let (frames, directory) = (vec![0; PAGE_SIZE * frames], vec![0; DIRECTORY_SIZE]);
+        Trial { state: State { pool: Pool::ZERO, frames, store, directory } }
     }
 
     pub fn call(&mut self, call: Call) -> Answer {
@@ -82,10 +88,10 @@ impl Trial {
         }
     }
 
-    /// The frame of a page, none if it is absent, and the frames that find looks at.
+    /// The frame of a page, none if it is absent, and the entries that find compares.
     pub fn find(&mut self, page: u16) -> (Option<u8>, u16) {
         match self.call(Call::Find(page)) {
-            Answer::Found(found) => (found.frame.map(|frame| frame.0), found.looks),
+            Answer::Found(found) => (found.frame.map(|frame| frame.0), found.compared),
             other => panic!("find {page}: {other:?}"),
         }
     }

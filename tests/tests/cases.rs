@@ -15,7 +15,7 @@ fn word_bytes(trial: &Trial, slot: usize) -> [u8; 4] {
 fn a_word_names_a_frame() {
     let (mut trial, root) = three_children(4);
     assert_eq!(word_bytes(&trial, 3), [0x03, 0x00, 0x00, 0x80]);
-    assert_eq!(trial.find(7), (Some(3), 4));
+    assert_eq!(trial.find(7), (Some(3), 1));
     assert_eq!(trial.word(root, 3), (7, false));
     assert_eq!(trial.fix(root, 3), handle(3, 7));
 }
@@ -108,8 +108,8 @@ fn pins_end_at_65535() {
 #[test]
 fn pins_rise_to_65535_by_calls() -> Result<(), String> {
     let coverage = &mut Coverage::default();
-    let State { frames, store, .. } = Trial::closed(2, 4, &[(0, 1, 3)]).state;
-    let mut history = History::open(&UnderTest, frames, store, coverage)?;
+    let State { frames, store, directory, .. } = Trial::closed(2, 4, &[(0, 1, 3)]).state;
+    let mut history = History::open(&UnderTest, (frames, store, directory), coverage)?;
     for call in [Call::Root, Call::Fix(handle(0, 0), 1)] {
         for _ in 0..65_535 {
             assert!(history.call(&call, coverage)?.accepted());

@@ -9,7 +9,7 @@ use pool_tests::lockstep::step;
 use pool_tests::pool::{Named, UnderTest};
 use pool_tests::records::{
     handle, is_marked, page_of_mut, put_word, unmarked, with_mark, word_in, Handle, PageNumber, State,
-    LOCK_BIT, PAGE_SIZE, SLOTS, SWIZZLE_BIT,
+    DIRECTORY_SIZE, LOCK_BIT, PAGE_SIZE, SLOTS, SWIZZLE_BIT,
 };
 use pool_tests::runs;
 use pool_tests::steer::{self, Steer};
@@ -126,13 +126,13 @@ fn calls(state: &State) -> Vec<Call> {
 /// A state, to be told from others.
 fn key(state: &State) -> Vec<u8> {
     let records = format!("{:?}", state.pool).into_bytes();
-    [&records[..], &state.frames, &state.store].concat()
+    [&records[..], &state.frames, &state.store, &state.directory].concat()
 }
 
 /// Every list of so many of these calls on a pool of two frames, each state once, beside the plain map. Gives how many states.
 fn lists(pages: usize, words: &[Link], depth: usize, coverage: &mut Coverage) -> Result<usize, String> {
-    let State { frames, store, .. } = Trial::closed(2, pages, words).state;
-    let mut at = vec![History::open(&UnderTest, frames, store, coverage)?];
+    let State { frames, store, directory, .. } = Trial::closed(2, pages, words).state;
+    let mut at = vec![History::open(&UnderTest, (frames, store, directory), coverage)?];
     let mut seen = HashSet::new();
     for _ in 0..depth {
         let mut next = Vec::new();
@@ -228,7 +228,8 @@ fn reached(random: &mut Random, coverage: &mut Coverage) -> Result<State, String
     let (frames, pages) = (random.between(2, 6), random.between(2, 24));
     let (named, marked) = (random.pick(&[70, 95]), random.pick(&[10, 40]));
     let store = sound_store(random, pages, named, marked);
-    let mut history = History::open(&UnderTest, random.bytes(PAGE_SIZE * frames), store, coverage)?;
+    let lent = (random.bytes(PAGE_SIZE * frames), store, random.bytes(DIRECTORY_SIZE));
+    let mut history = History::open(&UnderTest, lent, coverage)?;
     let mut steer = Steer::new(random, &history.state);
     for _ in 0..random.between(10, 80) {
         let call = steer.next(random, &history.state);

@@ -6,13 +6,14 @@ use pool_tests::damage::{alter, damage};
 use pool_tests::draws::Draws;
 use pool_tests::history::History;
 use pool_tests::lockstep::step;
+use pool_tests::model::chains::Turn;
 use pool_tests::model::drawing::Drawing;
 use pool_tests::model::locks::Lock;
 use pool_tests::pool::UnderTest;
-use pool_tests::records::{put_word, State, LOCK_BIT, PAGE_SIZE, SLOTS};
+use pool_tests::records::{put_word, State, BUCKETS, DIRECTORY_SIZE, LOCK_BIT, PAGE_SIZE, SLOTS};
 use pool_tests::runs;
 use pool_tests::steer::{self, Steer};
-use pool_tests::stores::sound_store;
+use pool_tests::stores::{sharing_store, sound_store};
 use random::Random;
 use words::rules::Table;
 
@@ -41,23 +42,25 @@ fn run(
 }
 
 /// A link into a taken slot must have met every namer of its page, an evict every reason to stay, a fix have done everything that
-/// it can do to usages, a find have ended wherever it can, a draw have shown all that it can but for some, and calls have met all
-/// that they can of marks and locked pages.
-fn met_every_case(coverage: &Coverage, never_drawn: &[Drawing]) {
+/// it can do to usages, a find have met all that it can in a chain, a draw have shown all that it can but for some, and calls have
+/// done all that they can to chains, but for some, and met all that they can of marks and locked pages.
+fn met_every_case(coverage: &Coverage, never_drawn: &[Drawing], never_done: &[Turn]) {
     assert_eq!(coverage.missing_namers(), [], "namers that no link into a taken slot met");
     assert_eq!(coverage.missing_stays(), [], "reasons to stay that no evict met");
     assert_eq!(coverage.missing_warmths(), [], "what no fix did to usages");
-    assert_eq!(coverage.missing_ends(), [], "where no find ended");
+    assert_eq!(coverage.missing_mets(), [], "what no find met in a chain");
+    assert_eq!(coverage.missing_turns(&Turn::ALL), never_done, "what no call did to a chain");
     assert_eq!(coverage.missing_drawings(&Drawing::ALL), never_drawn, "what no draw showed");
     assert_eq!(coverage.missing_locks(&Lock::ALL), [], "what no call met of marks and locked pages");
 }
 
-/// F and N, most of them small, so that frames are few and words meet.
+/// F and N, most of them small, so that frames are few and words meet. Some N are above 67, so that pages share buckets.
 fn sizes(random: &mut Random) -> (usize, usize) {
     match random.below(100) {
         0..10 => (random.between(2, 8), random.between(1, 4)),
-        10..70 => (random.between(2, 8), random.between(5, 16)),
-        70..98 => (random.between(2, 8), random.between(17, 64)),
+        10..60 => (random.between(2, 8), random.between(5, 16)),
+        60..78 => (random.between(2, 8), random.between(17, 64)),
+        78..98 => (random.between(3, 14), random.between(BUCKETS + 1, 6 * BUCKETS)),
         _ => (random.between(9, 63), random.between(65, 400)),
     }
 }
@@ -72,7 +75,16 @@ fn free_bytes(random: &mut Random, frames: usize) -> Vec<u8> {
     bytes
 }
 
-/// Opens a pool over a random store; the frames' bytes before it are free.
+/// Bytes for a directory before an open: none but 0, or any.
+fn free_directory(random: &mut Random) -> Vec<u8> {
+    let mut bytes = vec![0; DIRECTORY_SIZE];
+    if random.percent(70) {
+        random.fill(&mut bytes);
+    }
+    bytes
+}
+
+/// Opens a pool over a random store; the frames' bytes before it are free, and so are the directory's.
 fn begin<'a>(
     random: &mut Random,
     (frames, pages): (usize, usize),
@@ -80,8 +92,13 @@ fn begin<'a>(
 ) -> Result<History<'a, UnderTest>, String> {
     let named = random.pick(&[0, 40, 70, 95]);
     let marked = random.pick(&[0, 10, 30, 70]);
-    let store = sound_store(random, pages, named, marked);
-    History::open(&UnderTest, free_bytes(random, frames), store, coverage)
+    let store = if pages > BUCKETS && random.percent(75) {
+        sharing_store(random, pages, marked)
+    } else {
+        sound_store(random, pages, named, marked)
+    };
+    let lent = (free_bytes(random, frames), store, free_directory(random));
+    History::open(&UnderTest, lent, coverage)
 }
 
 /// Makes so many calls, draws records between them, and checks every so many points whole.
@@ -118,7 +135,7 @@ fn unaltered_lists() {
         let mut history = begin(random, (frames, pages), coverage)?;
         go_on(random, &mut history, 1000, every, coverage)
     });
-    met_every_case(&coverage, &[Drawing::Refused(1), Drawing::Refused(2)]);
+    met_every_case(&coverage, &[Drawing::Refused(1), Drawing::Refused(2)], &[Turn::OpenedWrong]);
     assert_eq!(coverage.missing_locks(&Lock::ALTERED), Lock::ALTERED, "what no unaltered list meets");
 }
 
@@ -170,7 +187,7 @@ fn altered_states() {
         }
         damaged_states(random, &history.state, 110, coverage)
     });
-    met_every_case(&coverage, &[]);
+    met_every_case(&coverage, &[], &[]);
     let altered = [&Lock::ALTERED[..], &[Lock::BadNumber(16)]].concat();
     assert_eq!(coverage.missing_locks(&altered), [], "what no altered state met of marks and locked pages");
 }

@@ -1,11 +1,11 @@
 //! Single consequences of document 01 and of the requests, each with the figures that show it.
 use pool_tests::calls::{Answer, Call, NAMES};
-use pool_tests::pool::{Buffer, Fixed, Machine, Place, UnderTest};
+use pool_tests::pool::{Buffer, Fixed, Machine, UnderTest};
 use pool_tests::records::{
     handle, with_mark, Entry, FrameIndex, FrameRecord, Generator, Handle, PageNumber, Pool, LOCK_BIT,
     PAGE_SIZE, SWIZZLE_BIT,
 };
-use pool_tests::trial::{three_children, Link, Trial};
+use pool_tests::trial::{payload, three_children, Link, Trial};
 use words::rules::Table;
 
 /// The store lags behind the map: a page that moved can stand in two stored words.
@@ -51,7 +51,7 @@ fn open_takes_whole_pages_alone() {
 fn a_refused_open_gives_zero_records() {
     let Trial { mut state } = Trial::closed(2, 4, &[(0, 0, 2), (3, 5, 2)]);
     state.frames.fill(7);
-    let (opened, records) = UnderTest.open(&mut state.frames, &mut state.store);
+    let (opened, records) = UnderTest.open(&mut state.frames, &mut state.store, &mut state.directory);
     assert_eq!((opened, records), (Err(16), Pool::ZERO));
     assert!(state.frames.iter().all(|byte| *byte == 7));
 }
@@ -276,11 +276,6 @@ fn page_0_is_refused_in_link_alone() {
     for call in [Call::Peek(16), Call::Find(16), Call::Evict(16), Call::Link(root, 5, 16, false)] {
         assert_eq!(trial.number(call), 6);
     }
-}
-
-/// The payload of the page at an index of a buffer.
-fn payload(buffer: Buffer, index: usize) -> Answer {
-    Answer::Place(Place { buffer, start: 256 * index + 64, size: 192 })
 }
 
 #[test]
@@ -607,76 +602,6 @@ fn a_page_that_was_held_outlives_one_that_was_not() {
     assert_eq!(formerly.fix(root, 1).frame, held.frame);
 }
 
-/// A.2: "that frame's index plus 1, or F if absent".
-#[test]
-fn find_ends_at_the_frame_that_holds_the_page() {
-    let (mut trial, _) = three_children(5);
-    let found = [(Some(0), 1), (Some(1), 2), (Some(2), 3), (Some(3), 4), (None, 5)];
-    assert_eq!([0, 5, 6, 7, 8].map(|page| trial.find(page)), found);
-}
-
-/// A.2, "go from frame 0 on": an empty frame on the way is looked at too, and one beyond the page isn't.
-#[test]
-fn an_empty_frame_is_looked_at_on_the_way_alone() {
-    for (evicted, found) in [
-        (vec![5], [(None, 5), (Some(2), 3), (Some(3), 4)]),
-        (vec![6], [(Some(1), 2), (None, 5), (Some(3), 4)]),
-        (vec![7], [(Some(1), 2), (Some(2), 3), (None, 5)]),
-        (vec![5, 6], [(None, 5), (None, 5), (Some(3), 4)]),
-        (vec![6, 7], [(Some(1), 2), (None, 5), (None, 5)]),
-    ] {
-        let (mut trial, _) = three_children(5);
-        for page in &evicted {
-            trial.accept(Call::Evict(*page));
-        }
-        assert_eq!([5, 6, 7].map(|page| trial.find(page)), found, "without {evicted:?}");
-    }
-}
-
-/// A.2: as many looks for the page in the last frame as for one that is absent.
-#[test]
-fn the_last_frame_takes_as_many_looks_as_none() {
-    for frames in [2, 3, 63, 64] {
-        let mut trial = Trial::open(frames.into(), 16, &[(0, 1, 5)]);
-        let root = trial.root();
-        assert_eq!(trial.find(5), (None, frames.into()));
-        trial.state.pool.hand = FrameIndex(frames - 1);
-        trial.fix(root, 1);
-        assert_eq!(trial.find(5), (Some(frames - 1), frames.into()));
-        assert_eq!(trial.find(6), (None, frames.into()));
-    }
-}
-
-/// A.2, "A page sits in one frame at most": where it sits in two, find is refused and gives neither.
-#[test]
-fn a_page_in_two_frames_is_refused() {
-    let (mut trial, _) = three_children(5);
-    trial.record(3).page = PageNumber(5);
-    assert_eq!([0, 5, 6, 7, 8].map(|page| trial.number(Call::Find(page))), [2; 5]);
-}
-
-/// A.2: a refused find answers its number alone, however far a walk would have gone (`host` asserts the zeros beside the number).
-#[test]
-fn a_refused_find_has_no_looks() {
-    let (mut trial, _) = three_children(5);
-    assert_eq!(trial.call(Call::Find(16)), Answer::Refused(6));
-    trial.record(0).usage = 4;
-    assert_eq!([0, 7, 8, 16].map(|page| trial.call(Call::Find(page))), [Answer::Refused(2); 4]);
-    trial.state.store.pop();
-    assert_eq!([0, 7, 8, 16].map(|page| trial.call(Call::Find(page))), [Answer::Refused(1); 4]);
-}
-
-/// A.2, "Its answer": peek and evict look for the page too, past an empty frame and to the end, and answer as before.
-#[test]
-fn peek_and_evict_answer_as_before() {
-    let (mut trial, _) = three_children(5);
-    trial.accept(Call::Evict(5));
-    let peeked = [0, 7, 5].map(|page| trial.call(Call::Peek(page)));
-    assert_eq!(peeked, [payload(Buffer::Frames, 0), payload(Buffer::Frames, 3), payload(Buffer::Store, 5)]);
-    let evicted = [0, 5, 7, 7].map(|page| trial.call(Call::Evict(page)));
-    assert_eq!(evicted, [Answer::Refused(20), Answer::Refused(11), Answer::Done, Answer::Refused(11)]);
-}
-
 /// The record that a number draws, and the generator's number after it.
 fn drawn(trial: &Trial, number: u32) -> (Entry, u32) {
     let mut generator = Generator { number };
@@ -849,7 +774,7 @@ fn link_takes_the_mark_apart() {
     assert_eq!([0, 1, 2].map(|slot| trial.word(root, slot)), [(7, true), (8, false), (0, false)]);
     assert_eq!(trial.number(Call::Link(root, 2, 0x4009, false)), 6);
     let seven = trial.fix(root, 0);
-    assert_eq!((seven, trial.find(7)), (handle(1, 7), (Some(1), 2)));
+    assert_eq!((seven, trial.find(7)), (handle(1, 7), (Some(1), 1)));
     assert_eq!(trial.record(1).page, PageNumber(7));
     assert_eq!([0, 1, 2].map(|slot| trial.word(root, slot)), [(7, true), (8, false), (0, false)]);
     assert_eq!(trial.call(Call::Peek(7)), payload(Buffer::Frames, 1));

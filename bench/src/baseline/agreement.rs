@@ -1,6 +1,7 @@
 //! Rule 2 in one pass over the frames. Where each record's parent word is swizzled to its frame, and there are no more words
 //! of N or above than such records, every swizzled word points back and every other word is a number below N. Marks aside, but
 //! that one alone is no word at all.
+use super::directory::Pages;
 use super::page::{
     has_mark_alone, is_marked, name, overlaid, stored_words, swizzled_to, unmarked, word, Page, StoredWords,
 };
@@ -8,12 +9,17 @@ use super::seen::Seen;
 use pagepool::{FrameIndex, FrameRecord, PageNumber, Pool, MAX_USAGE, SLOTS};
 
 /// How many frames are occupied, where records and frames agree. Adds the resident pages but the root, and the numbers in their
-/// words, to an empty table.
-pub fn occupied<const MOST: usize>(pool: &Pool, frames: &[Page], seen: &mut Seen<MOST>) -> Option<usize> {
+/// words, to an empty table, and puts each page into its frame's place.
+pub fn occupied<const MOST: usize>(
+    pool: &Pool,
+    frames: &[Page],
+    seen: &mut Seen<MOST>,
+    pages: &mut Pages,
+) -> Option<usize> {
     let (records, rest) = pool.records.split_at(frames.len());
     let fits = usize::from(pool.hand) < frames.len() && root_fits(&records[0]) && are_empty(rest);
     if fits {
-        occupied_below(records, frames, pool.pages.into(), seen)
+        occupied_below(records, frames, pool.pages.into(), seen, pages)
     } else {
         None
     }
@@ -59,20 +65,22 @@ fn root_fits(root: &FrameRecord) -> bool {
 fn occupied_below<const MOST: usize>(
     records: &[FrameRecord],
     frames: &[Page],
-    pages: u32,
+    end: u32,
     seen: &mut Seen<MOST>,
+    pages: &mut Pages,
 ) -> Option<usize> {
     let mut tally = Tally::default();
-    tally.add_page(&frames[0], pages, seen);
+    tally.add_page(&frames[0], end, seen);
     let (mut others, mut empties, mut in_order) = (0, Empties::default(), true);
     for (frame, record) in records.iter().enumerate().skip(1) {
         if record.is_used() {
-            if !in_range(record, frames.len(), pages) || !is_linked(record, frame, records, frames) {
+            if !in_range(record, frames.len(), end) || !is_linked(record, frame, records, frames) {
                 return None;
             }
             in_order &= usize::from(record.parent) < frame;
             tally.repeated |= seen.add(record.page.into());
-            tally.add_page(&frames[frame], pages, seen);
+            tally.add_page(&frames[frame], end, seen);
+            pages[frame] = record.page.0;
             others += 1;
         } else {
             empties.add(record);

@@ -1,6 +1,7 @@
 //! The thirteen calls of document 01, as the requests have them, and request A.10's draw, in safe Rust, on records lent by `&mut`.
 //! Each answers what the method of the same name of `PagePool` does. `tally` has request A.12's.
 mod agreement;
+pub mod directory;
 mod drawing;
 mod moves;
 mod naming;
@@ -18,19 +19,20 @@ use rules::rule;
 use seen::{Seen, FEW};
 
 #[inline(never)]
-pub fn open(pool: &mut Pool, frames: &mut [u8], store: &[u8]) -> Result<(), Refusal> {
+pub fn open(pool: &mut Pool, frames: &mut [u8], store: &[u8], directory: &mut [u8]) -> Result<(), Refusal> {
     let (count, pages) = (frames.len() / PAGE_SIZE, store.len() / PAGE_SIZE);
-    rule(Refusal::WrongLength, rules::lengths_fit(count, pages, frames, store))?;
+    rule(Refusal::WrongLength, rules::lengths_fit(count, pages, frames, store, directory))?;
     rule(Refusal::UnsoundStore, naming::is_sound(pages_of(store)))?;
     frames[..PAGE_SIZE].copy_from_slice(&store[..PAGE_SIZE]);
+    directory::begin(directory);
     *pool = Pool { count: count as u16, pages: pages as u16, ..Pool::ZERO };
     pool.records[0].used = 1;
     Ok(())
 }
 
 #[inline(never)]
-pub fn root(pool: &mut Pool, frames: &[u8], store: &[u8]) -> Result<Fixed, Refusal> {
-    rules::state(pool, frames, store)?;
+pub fn root(pool: &mut Pool, frames: &[u8], store: &[u8], directory: &[u8]) -> Result<Fixed, Refusal> {
+    rules::state(pool, frames, store, directory)?;
     pin(pool, FrameIndex(0))
 }
 
@@ -39,13 +41,14 @@ pub fn fix(
     pool: &mut Pool,
     frames: &mut [u8],
     store: &mut [u8],
+    directory: &mut [u8],
     handle: Handle,
     slot: usize,
 ) -> Result<Fixed, Refusal> {
     if usize::from(pool.pages) <= FEW {
-        fix_with(pool, frames, store, handle, slot, &mut Seen::<FEW>::new())
+        fix_with(pool, frames, store, directory, handle, slot, &mut Seen::<FEW>::new())
     } else {
-        fix_with(pool, frames, store, handle, slot, &mut Seen::<MOST_PAGES>::new())
+        fix_with(pool, frames, store, directory, handle, slot, &mut Seen::<MOST_PAGES>::new())
     }
 }
 
@@ -53,11 +56,12 @@ fn fix_with<const MOST: usize>(
     pool: &mut Pool,
     frames: &mut [u8],
     store: &mut [u8],
+    directory: &mut [u8],
     handle: Handle,
     slot: usize,
     seen: &mut Seen<MOST>,
 ) -> Result<Fixed, Refusal> {
-    let occupied = rules::state_with(pool, frames, store, seen)?;
+    let occupied = rules::state_with(pool, frames, store, directory, seen)?;
     rules::handle(pool, handle)?;
     rules::slot(slot)?;
     let word = page::word(&pages_of(frames)[usize::from(handle.frame)], slot);
@@ -70,22 +74,35 @@ fn fix_with<const MOST: usize>(
         Refusal::BadStoredPage,
         naming::may_come_in(&pages_of(store)[usize::from(page)], PageNumber(pool.pages), seen),
     )?;
-    let (frame, looks) = moves::frame_for_load(pool, frames, store, occupied)?;
+    let (frame, looks) = moves::frame_for_load(pool, frames, store, directory, occupied)?;
     moves::load(pool, frames, store, handle.frame, slot, frame, page);
+    directory::enter(directory, frame, page);
     Ok(Fixed { handle: Handle { frame, page }, looks })
 }
 
 #[inline(never)]
-pub fn unfix(pool: &mut Pool, frames: &[u8], store: &[u8], handle: Handle) -> Result<(), Refusal> {
-    rules::state(pool, frames, store)?;
+pub fn unfix(
+    pool: &mut Pool,
+    frames: &[u8],
+    store: &[u8],
+    directory: &[u8],
+    handle: Handle,
+) -> Result<(), Refusal> {
+    rules::state(pool, frames, store, directory)?;
     rules::handle(pool, handle)?;
     pool.record_mut(handle.frame).pins -= 1;
     Ok(())
 }
 
 #[inline(never)]
-pub fn show<'a>(pool: &Pool, frames: &'a [u8], store: &[u8], handle: Handle) -> Result<&'a [u8], Refusal> {
-    rules::state(pool, frames, store)?;
+pub fn show<'a>(
+    pool: &Pool,
+    frames: &'a [u8],
+    store: &[u8],
+    directory: &[u8],
+    handle: Handle,
+) -> Result<&'a [u8], Refusal> {
+    rules::state(pool, frames, store, directory)?;
     rules::handle(pool, handle)?;
     Ok(payload(frames, handle.frame.into()))
 }
@@ -95,11 +112,12 @@ pub fn peek<'a>(
     pool: &Pool,
     frames: &'a [u8],
     store: &'a [u8],
+    directory: &[u8],
     page: PageNumber,
 ) -> Result<&'a [u8], Refusal> {
-    rules::state(pool, frames, store)?;
+    rules::state(pool, frames, store, directory)?;
     rules::page(pool, page)?;
-    Ok(match frame_of(pool, page) {
+    Ok(match directory::seek(&pool.records, directory, page).0 {
         Some(frame) => payload(frames, frame.into()),
         None => payload(store, page.into()),
     })
@@ -110,10 +128,11 @@ pub fn word(
     pool: &Pool,
     frames: &[u8],
     store: &[u8],
+    directory: &[u8],
     handle: Handle,
     slot: usize,
 ) -> Result<Option<Named>, Refusal> {
-    rules::state(pool, frames, store)?;
+    rules::state(pool, frames, store, directory)?;
     rules::handle(pool, handle)?;
     rules::slot(slot)?;
     let word = page::word(&pages_of(frames)[usize::from(handle.frame)], slot);
@@ -126,11 +145,12 @@ pub fn write(
     pool: &mut Pool,
     frames: &mut [u8],
     store: &[u8],
+    directory: &[u8],
     handle: Handle,
     offset: usize,
     bytes: &[u8],
 ) -> Result<(), Refusal> {
-    rules::state(pool, frames, store)?;
+    rules::state(pool, frames, store, directory)?;
     rules::handle(pool, handle)?;
     rule(Refusal::BadRange, offset <= PAYLOAD_SIZE && bytes.len() <= PAYLOAD_SIZE - offset)?;
     rules::unlocked(pool, frames, handle)?;
@@ -142,11 +162,13 @@ pub fn write(
     Ok(())
 }
 
+#[allow(clippy::too_many_arguments)]
 #[inline(never)]
 pub fn link(
     pool: &mut Pool,
     frames: &mut [u8],
     store: &[u8],
+    directory: &[u8],
     handle: Handle,
     slot: usize,
     page: PageNumber,
@@ -154,23 +176,25 @@ pub fn link(
 ) -> Result<(), Refusal> {
     let word = u32::from(page) | if locked { LOCK_BIT } else { 0 };
     if usize::from(pool.pages) <= FEW {
-        link_with(pool, frames, store, handle, slot, word, &mut Seen::<FEW>::new())
+        link_with(pool, frames, store, directory, handle, slot, word, &mut Seen::<FEW>::new())
     } else {
-        link_with(pool, frames, store, handle, slot, word, &mut Seen::<MOST_PAGES>::new())
+        link_with(pool, frames, store, directory, handle, slot, word, &mut Seen::<MOST_PAGES>::new())
     }
 }
 
+#[allow(clippy::too_many_arguments)]
 fn link_with<const MOST: usize>(
     pool: &mut Pool,
     frames: &mut [u8],
     store: &[u8],
+    directory: &[u8],
     handle: Handle,
     slot: usize,
     word: u32,
     seen: &mut Seen<MOST>,
 ) -> Result<(), Refusal> {
     let page = PageNumber(page::name(word) as u16);
-    rules::state_with(pool, frames, store, seen)?;
+    rules::state_with(pool, frames, store, directory, seen)?;
     rules::handle(pool, handle)?;
     rules::slot(slot)?;
     rules::unlocked(pool, frames, handle)?;
@@ -186,10 +210,11 @@ pub fn unlink(
     pool: &mut Pool,
     frames: &mut [u8],
     store: &[u8],
+    directory: &[u8],
     handle: Handle,
     slot: usize,
 ) -> Result<(), Refusal> {
-    rules::state(pool, frames, store)?;
+    rules::state(pool, frames, store, directory)?;
     rules::handle(pool, handle)?;
     rules::slot(slot)?;
     rules::unlocked(pool, frames, handle)?;
@@ -201,36 +226,53 @@ pub fn unlink(
 }
 
 #[inline(never)]
-pub fn evict(pool: &mut Pool, frames: &mut [u8], store: &mut [u8], page: PageNumber) -> Result<(), Refusal> {
-    rules::state(pool, frames, store)?;
+pub fn evict(
+    pool: &mut Pool,
+    frames: &mut [u8],
+    store: &mut [u8],
+    directory: &mut [u8],
+    page: PageNumber,
+) -> Result<(), Refusal> {
+    rules::state(pool, frames, store, directory)?;
     rules::page(pool, page)?;
     let frame = frame_of(pool, page).ok_or(Refusal::NotResident)?;
     rule(Refusal::IsRoot, frame != FrameIndex(0))?;
     rule(Refusal::IsPinned, pool.record(frame).pins == 0)?;
     rule(Refusal::IsParent, !page::has_swizzled(&pages_of(frames)[usize::from(frame)]))?;
-    moves::evict(pool, frames, store, frame);
+    moves::evict(pool, frames, store, directory, frame);
     Ok(())
 }
 
 #[inline(never)]
-pub fn settle(pool: &mut Pool, frames: &[u8], store: &mut [u8]) -> Result<(), Refusal> {
-    rules::state(pool, frames, store)?;
+pub fn settle(pool: &mut Pool, frames: &[u8], store: &mut [u8], directory: &[u8]) -> Result<(), Refusal> {
+    rules::state(pool, frames, store, directory)?;
     moves::settle(pool, pages_of(frames), pages_of_mut(store));
     Ok(())
 }
 
 #[inline(never)]
-pub fn find(pool: &Pool, frames: &[u8], store: &[u8], page: PageNumber) -> Result<Found, Refusal> {
-    rules::state(pool, frames, store)?;
+pub fn find(
+    pool: &Pool,
+    frames: &[u8],
+    store: &[u8],
+    directory: &[u8],
+    page: PageNumber,
+) -> Result<Found, Refusal> {
+    rules::state(pool, frames, store, directory)?;
     rules::page(pool, page)?;
-    let frame = frame_of(pool, page);
-    let looks = frame.map_or(pool.count, |frame| u16::from(frame.0) + 1);
-    Ok(Found { frame, looks })
+    let (frame, compared) = directory::seek(&pool.records, directory, page);
+    Ok(Found { frame, compared })
 }
 
 #[inline(never)]
-pub fn draw(pool: &Pool, frames: &[u8], store: &[u8], generator: &mut Generator) -> Result<Entry, Refusal> {
-    rules::state(pool, frames, store)?;
+pub fn draw(
+    pool: &Pool,
+    frames: &[u8],
+    store: &[u8],
+    directory: &[u8],
+    generator: &mut Generator,
+) -> Result<Entry, Refusal> {
+    rules::state(pool, frames, store, directory)?;
     Ok(drawing::record(pool, generator))
 }
 
@@ -239,7 +281,7 @@ fn records(pool: &Pool) -> &[FrameRecord] {
     &pool.records[..usize::from(pool.count)]
 }
 
-/// The frame that holds a page: the walk from frame 0 on ends there.
+/// The frame that holds a page, by the records.
 fn frame_of(pool: &Pool, page: PageNumber) -> Option<FrameIndex> {
     let holds = |record: &FrameRecord| record.is_used() & (record.page == page);
     records(pool).iter().position(holds).map(|frame| FrameIndex(frame as u8))

@@ -1,4 +1,5 @@
 //! A page leaving its frame, coming into one, and settling; and the frame that a load takes.
+use super::directory;
 use super::page::{pages_of, pages_of_mut, put_name, put_word, swizzled_to, word, Page, SWIZZLE_BIT};
 use super::records;
 use pagepool::{FrameIndex, FrameRecord, PageNumber, Pool, Refusal, LOCK_BIT, MAX_USAGE, SLOTS};
@@ -18,13 +19,14 @@ pub fn plain(records: &[FrameRecord], word: u32) -> u32 {
 }
 
 /// Takes a page without swizzled words out of its frame. Its bytes are then its image.
-pub fn evict(pool: &mut Pool, frames: &mut [u8], store: &mut [u8], frame: FrameIndex) {
+pub fn evict(pool: &mut Pool, frames: &mut [u8], store: &mut [u8], directory: &mut [u8], frame: FrameIndex) {
     let record = std::mem::replace(pool.record_mut(frame), FrameRecord::EMPTY);
     let frames = pages_of_mut(frames);
     if record.is_dirty() {
         pages_of_mut(store)[usize::from(record.page)] = frames[usize::from(frame)];
     }
     put_name(&mut frames[usize::from(record.parent)], record.slot.into(), record.page.into());
+    directory::take_out(directory, frame, record.page);
 }
 
 /// Loads a page into an empty frame, for a slot of its parent's frame.
@@ -77,13 +79,14 @@ pub fn frame_for_load(
     pool: &mut Pool,
     frames: &mut [u8],
     store: &mut [u8],
+    directory: &mut [u8],
     occupied: usize,
 ) -> Result<(FrameIndex, u16), Refusal> {
     if occupied < usize::from(pool.count) {
         return Ok((first_empty(pool), 0));
     }
     let (victim, looks) = sweep(pool).ok_or(Refusal::NoFrame)?;
-    evict(pool, frames, store, victim);
+    evict(pool, frames, store, directory, victim);
     Ok((victim, looks))
 }
 

@@ -1,9 +1,10 @@
 //! The rules that calls share.
-use super::agreement;
 use super::page::{is_marked, pages_of, word};
 use super::seen::{Seen, FEW};
+use super::{agreement, directory};
 use pagepool::{
-    FrameIndex, Handle, PageNumber, Pool, Refusal, LEAST_FRAMES, MOST_FRAMES, MOST_PAGES, PAGE_SIZE, SLOTS,
+    FrameIndex, Handle, PageNumber, Pool, Refusal, DIRECTORY_SIZE, LEAST_FRAMES, MOST_FRAMES, MOST_PAGES,
+    PAGE_SIZE, SLOTS,
 };
 
 /// Refuses where a rule isn't kept.
@@ -15,19 +16,20 @@ pub fn rule(refusal: Refusal, kept: bool) -> Result<(), Refusal> {
     }
 }
 
-pub fn lengths_fit(count: usize, pages: usize, frames: &[u8], store: &[u8]) -> bool {
+pub fn lengths_fit(count: usize, pages: usize, frames: &[u8], store: &[u8], directory: &[u8]) -> bool {
     (LEAST_FRAMES..=MOST_FRAMES).contains(&count)
         && (1..=MOST_PAGES).contains(&pages)
         && frames.len() == PAGE_SIZE * count
         && store.len() == PAGE_SIZE * pages
+        && directory.len() == DIRECTORY_SIZE
 }
 
 /// Rules 1 and 2.
-pub fn state(pool: &Pool, frames: &[u8], store: &[u8]) -> Result<(), Refusal> {
+pub fn state(pool: &Pool, frames: &[u8], store: &[u8], directory: &[u8]) -> Result<(), Refusal> {
     if usize::from(pool.pages) <= FEW {
-        state_with(pool, frames, store, &mut Seen::<FEW>::new())?;
+        state_with(pool, frames, store, directory, &mut Seen::<FEW>::new())?;
     } else {
-        state_with(pool, frames, store, &mut Seen::<MOST_PAGES>::new())?;
+        state_with(pool, frames, store, directory, &mut Seen::<MOST_PAGES>::new())?;
     }
     Ok(())
 }
@@ -38,10 +40,15 @@ pub fn state_with<const MOST: usize>(
     pool: &Pool,
     frames: &[u8],
     store: &[u8],
+    directory: &[u8],
     seen: &mut Seen<MOST>,
 ) -> Result<usize, Refusal> {
-    rule(Refusal::WrongLength, lengths_fit(pool.count.into(), pool.pages.into(), frames, store))?;
-    agreement::occupied(pool, pages_of(frames), seen).ok_or(Refusal::Disagree)
+    let lengths_fit = lengths_fit(pool.count.into(), pool.pages.into(), frames, store, directory);
+    rule(Refusal::WrongLength, lengths_fit)?;
+    let mut pages = [0; MOST_FRAMES];
+    let occupied = agreement::occupied(pool, pages_of(frames), seen, &mut pages).ok_or(Refusal::Disagree)?;
+    let agrees = directory::of(directory).is_some_and(|directory| directory::agrees(&pages, directory));
+    rule(Refusal::Disagree, agrees).map(|()| occupied)
 }
 
 /// Rule 3.

@@ -1,6 +1,7 @@
-//! The forms of counting depths, side by side.
+//! The forms of counting depths, side by side, and those of the directory's test.
 use super::{machine, nanoseconds};
-use crate::contest::Figure;
+use crate::contest::{Figure, Tested};
+use pool_bench::chains;
 use pool_bench::forms::FORMS;
 
 /// A column for each form, with the bytes of its tables; the times in microseconds.
@@ -20,4 +21,16 @@ fn line(figure: &Figure) -> String {
     let cells: String =
         figure.times.iter().map(|time| format!(" {} |", nanoseconds(time / 1000.0))).collect();
     format!("| {} | {} |{cells}\n", figure.added.name(), figure.added.length)
+}
+
+/// A column for each form of the directory's test, a row for each state.
+pub fn chains_text(rows: &[Tested]) -> String {
+    let names: String = chains::FORMS.iter().map(|form| format!(" {} |", form.name)).collect();
+    let lines: String = rows.iter().map(tested_line).collect();
+    format!("\n| ns, by shape | F | N |{names}\n|---|--:|--:|{}\n{lines}", "--:|".repeat(chains::FORMS.len()))
+}
+
+fn tested_line(row: &Tested) -> String {
+    let cells: String = row.times.iter().map(|time| format!(" {} |", nanoseconds(*time))).collect();
+    format!("| {} | {} | {} |{cells}\n", row.shape.name(), row.count, row.pages)
 }

@@ -21,7 +21,7 @@ use Rattle.residents.specs.Residents.{Residents, inTable, inFrames}
 use Rattle.residents.specs.ResidentLaws.{in-table, table-in, held-of, of-held, by-table}
 use Rattle.residents.specs.Handed.{Handed}
 use Rattle.agreement.specs.Sizes.{Sizes}
-use Rattle.agreement.specs.Deciding.{Decides}
+use Rattle.rules.specs.Deciding.{Decides}
 use Rattle.agreement.specs.Twice.{PassedRow}
 use Rattle.agreement.specs.Fit.{perFrame, numbersInFrames, entry, AllLead, Settled, Decided}
 use Rattle.agreement.specs.FitLaws.{below-low, numbers-page, numbers-word}
@@ -30,7 +30,7 @@ use Rattle.agreement.specs.Same.{nothing, page, loose, at, end-lead}
 module _ (p : Pool) (fs : List ℕ) (S : Sizes (p .count) (p .pages) fs) (A : Agreed p fs) (residents : List ℕ) (T : Residents (p .records) residents)
     (seen : Seen) (P : PassedRow (numbersInFrames nameOf (p .records) fs (p .pages)) (perFrame * p .count) seen) where
   abbrev s : State
-  s = state p fs []
+  s = state p fs [] []
 
   -- ---- what is in the row of the numbers
 

@@ -1,5 +1,4 @@
 pub mod Sizes
-pub mod Deciding
 pub mod Counting
 pub mod Twice
 pub mod Fit

@@ -9,7 +9,7 @@ use native.Mathlib.Decide.{ℕ-discrete}
 use lib.ListN.{length, set, length-set}
 use lib.Seq.{getD-set-same, getD-set-other}
 use Rattle.machine.specs.Laws.Parents.{climb, climb-add, climb-below, climb-more, climb-few}
-use Rattle.agreement.specs.Deciding.{Decides, decided, decide-flag}
+use Rattle.rules.specs.Deciding.{Decides, decided, decide-flag}
 use Rattle.agreement.specs.Fit.{entry, AllLead}
 
 -- the entry of f is where at least s steps lead from f

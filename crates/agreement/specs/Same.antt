@@ -22,7 +22,7 @@ use Rattle.machine.specs.Laws.AgreementFacts.{occupied-lt, occupied-used, make-
 use Rattle.machine.specs.Laws.Parents.{climb-zero, climb-suc, climb-reach, reach-climb}
 use Rattle.seen.specs.Seen.{Seen}
 use Rattle.agreement.specs.Sizes.{Sizes}
-use Rattle.agreement.specs.Deciding.{Decides, decided, fails}
+use Rattle.rules.specs.Deciding.{Decides, decided, fails}
 use Rattle.agreement.specs.Counting.{countIf, without, without-of, without-other, count-without, Into, into-le, into-all}
 use Rattle.agreement.specs.Fit.{Blank, RootFits, ResidentFits, Linked, Fits, RestBlank, perFrame, numbersInFrames, numberBelow, isOver, usedIn, aboveUsed, FramesFit, parentAt, entry, AllLead, Settled, Decided}
 use Rattle.agreement.specs.FitLaws.{blank-of, of-blank, below-low, below-high, numbers-page, numbers-word, numbers-empty}

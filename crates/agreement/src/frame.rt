@@ -9,7 +9,7 @@ ghost use lib.ListN.{length};
 ghost use Rattle.page.specs.Figures.{pageSize, slotCount, mostFrames, mostPages};
 ghost use Rattle.seen.specs.Seen.{Table};
 ghost use Rattle.agreement.specs.Sizes.{Sizes};
-ghost use Rattle.agreement.specs.Deciding.{Decides};
+ghost use Rattle.rules.specs.Deciding.{Decides};
 ghost use Rattle.agreement.specs.Fit.{Linked, Fits, FrameNoted};
 
 // Is the frame's parent occupied (`above`), and its word swizzled to the frame, with a mark or, as most, without.

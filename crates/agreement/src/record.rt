@@ -3,7 +3,7 @@ use machine::FrameRecord;
 use page::FrameIndex;
 use page::PageNumber;
 ghost use mathlib.Core.Path.{_≡_};
-ghost use Rattle.agreement.specs.Deciding.{Decides};
+ghost use Rattle.rules.specs.Deciding.{Decides};
 ghost use Rattle.agreement.specs.Fit.{Blank, firstFields, lastFields, RootFits, ResidentFits};
 
 // The largest value of a flag.

@@ -4,7 +4,7 @@ ghost use mathlib.Core.Path.{_≡_};
 ghost use mathlib.Core.Bool.{true};
 ghost use Prim.Native.Nat.{_≤_};
 ghost use Rattle.page.specs.Figures.{mostFrames};
-ghost use Rattle.agreement.specs.Deciding.{Decides};
+ghost use Rattle.rules.specs.Deciding.{Decides};
 ghost use Rattle.agreement.specs.Fit.{entry, AllLead};
 ghost use Rattle.agreement.specs.ParentSteps.{Below, Round, InOrder};
 

@@ -53,8 +53,8 @@ unlinkable s h k e z = edit-parts s h k (rule7 (wordOf s h k) ∷ rule10 (wordOf
 
 -- ---- what is left
 
-same-state : {p q : Pool} {fs gs : List ℕ} (st : List ℕ) → p ≡ q → fs ≡ gs → state p fs st ≡ state q gs st
-same-state st e h = cc
+same-state : {p q : Pool} {fs gs : List ℕ} (st d : List ℕ) → p ≡ q → fs ≡ gs → state p fs st d ≡ state q gs st d
+same-state st d e h = cc
 
 -- a record put at the handle's place, where its frame is one of F: it is that frame's record, now dirty
 put-dirty : (p : Pool) (h : Handle) {at : ℕ} {r : FrameRecord} → p .count ≤ mostFrames → h .frame .0 < p .count → at ≡ recordPlace h → r ≡ dirtied (recordAt (p .records) at) → withRecord p at r ≡ madeDirty p (h .frame .0)
@@ -76,14 +76,14 @@ put-back fs f start offset ys bytes s e =
 nothing-written : (s : State) (f offset : ℕ) (bytes : List ℕ) → length bytes ≡ 0 → s ≡ written s f offset bytes
 nothing-written s f offset bytes e =
     let r = recordAt (s .pool .records) f in
-    same-state (s .store)
+    same-state (s .store) (s .directory)
     (ap (withRecords (s .pool)) (sym (set-getD (s .pool .records) f blank)) ∙ ap (withRecord (s .pool) f) (pick-yes (dirtied r) (eq-eqb (length bytes) 0 e) refl))
     (sym (putPayload-none (s .frames) f offset bytes e))
 
-bytes-written : (s : State) (f offset : ℕ) (bytes : List ℕ) {p : Pool} {fs : List ℕ} → (length bytes ≡ 0 → ⊥) → p ≡ madeDirty (s .pool) f → fs ≡ putPayload (s .frames) f offset bytes → state p fs (s .store) ≡ written s f offset bytes
+bytes-written : (s : State) (f offset : ℕ) (bytes : List ℕ) {p : Pool} {fs : List ℕ} → (length bytes ≡ 0 → ⊥) → p ≡ madeDirty (s .pool) f → fs ≡ putPayload (s .frames) f offset bytes → state p fs (s .store) (s .directory) ≡ written s f offset bytes
 bytes-written s f offset bytes n e h =
     let r = recordAt (s .pool .records) f in
-    same-state (s .store) (e ∙ ap (withRecord (s .pool) f) (pick-no r (ne-eqb (length bytes) 0 n) refl)) h
+    same-state (s .store) (s .directory) (e ∙ ap (withRecord (s .pool) f) (pick-no r (ne-eqb (length bytes) 0 n) refl)) h
 
 -- ---- the accepted calls, where m is the refusal that the code computed, and r the record that it put at the handle's place
 
@@ -94,22 +94,22 @@ module _ (s : State) (h : Handle) (offset : ℕ) (bytes : List ℕ) {m : ℕ} wh
 
   pub write-bytes : {at : ℕ} {r : FrameRecord} {fs : List ℕ} → m ≡ firstBroken (writeRules s h offset (length bytes)) → m ≡ 0 → (length bytes ≡ 0 → ⊥)
       → at ≡ recordPlace h → r ≡ dirtied (recordAt (s .pool .records) at) → fs ≡ putPayload (s .frames) (h .frame .0) offset bytes
-      → out (doneAnswer 0) (state (withRecord (s .pool) at r) fs (s .store)) ≡ writeCall s h offset bytes
+      → out (doneAnswer 0) (state (withRecord (s .pool) at r) fs (s .store) (s .directory)) ≡ writeCall s h offset bytes
   unfolding writeCall
   write-bytes e z n i d j =
       let k = write-kept s h offset (length bytes) e z .kept in
       done-yes s (writeRules s h offset (length bytes)) e z (bytes-written s (h .frame .0) offset bytes n (put-dirty (s .pool) h (k .kept .sized .most) (k .held .below) i d) j)
 
 module _ (s : State) (h : Handle) (k : ℕ) {at : ℕ} {r : FrameRecord} {fs : List ℕ} where
-  slot-put : (w : ℕ) → EditKept s h k → at ≡ recordPlace h → r ≡ dirtied (recordAt (s .pool .records) at) → fs ≡ putSlot (s .frames) (h .frame .0) k w → state (withRecord (s .pool) at r) fs (s .store) ≡ relinked s (h .frame .0) k w
-  slot-put w a i d j = same-state (s .store) (put-dirty (s .pool) h (a .kept .sized .most) (a .held .below) i d) j
+  slot-put : (w : ℕ) → EditKept s h k → at ≡ recordPlace h → r ≡ dirtied (recordAt (s .pool .records) at) → fs ≡ putSlot (s .frames) (h .frame .0) k w → state (withRecord (s .pool) at r) fs (s .store) (s .directory) ≡ relinked s (h .frame .0) k w
+  slot-put w a i d j = same-state (s .store) (s .directory) (put-dirty (s .pool) h (a .kept .sized .most) (a .held .below) i d) j
 
   pub link-done : (q : PageNumber) (l : Bool) {m w : ℕ} → m ≡ firstBroken (linkRules s h k q) → m ≡ 0 → at ≡ recordPlace h → r ≡ dirtied (recordAt (s .pool .records) at) → fs ≡ putSlot (s .frames) (h .frame .0) k w → w ≡ marked l (numberWord (q .0))
-      → out (doneAnswer 0) (state (withRecord (s .pool) at r) fs (s .store)) ≡ linkCall s h k q l
+      → out (doneAnswer 0) (state (withRecord (s .pool) at r) fs (s .store) (s .directory)) ≡ linkCall s h k q l
   unfolding linkCall
   link-done q l e z i d j n = done-yes s (linkRules s h k q) e z (slot-put (marked l (numberWord (q .0))) (linkable s h k q e z) i d (j ∙ ap (putSlot (s .frames) (h .frame .0) k) n))
 
   pub unlink-done : {m : ℕ} → m ≡ firstBroken (unlinkRules s h k) → m ≡ 0 → at ≡ recordPlace h → r ≡ dirtied (recordAt (s .pool .records) at) → fs ≡ putSlot (s .frames) (h .frame .0) k 0
-      → out (doneAnswer 0) (state (withRecord (s .pool) at r) fs (s .store)) ≡ unlinkCall s h k
+      → out (doneAnswer 0) (state (withRecord (s .pool) at r) fs (s .store) (s .directory)) ≡ unlinkCall s h k
   unfolding unlinkCall
   unlink-done e z i d j = done-yes s (unlinkRules s h k) e z (slot-put 0 (unlinkable s h k e z) i d j)

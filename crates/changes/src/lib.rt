@@ -16,11 +16,12 @@ pub fn write(
     pool: Pool,
     frames: &mut [u8],
     store: &[u8],
+    directory: &[u8],
     handle: Handle,
     offset: usize,
     bytes: &[u8],
 ) -> Done
-    ensures { λ r. ⌜ out (doneAnswer (r .refusal)) (state (r .pool) (now (frames .exit)) (now (store .entry))) ≡ writeCall (state pool (now (frames .entry)) (now (store .entry))) handle offset (now (bytes .entry)) ⌝ }
+    ensures { λ r. ⌜ out (doneAnswer (r .refusal)) (state (r .pool) (now (frames .exit)) (now (store .entry)) (now (directory .entry))) ≡ writeCall (state pool (now (frames .entry)) (now (store .entry)) (now (directory .entry))) handle offset (now (bytes .entry)) ⌝ }
 {
     let n = bytes.len();
     let mut residents = residents::NONE;
@@ -33,6 +34,7 @@ pub fn write(
         held,
         frames,
         store,
+        directory,
         handle,
         offset,
         n,
@@ -59,12 +61,13 @@ pub fn link(
     pool: Pool,
     frames: &mut [u8],
     store: &[u8],
+    directory: &[u8],
     handle: Handle,
     slot: usize,
     page: PageNumber,
     locked: bool,
 ) -> Done
-    ensures { λ r. ⌜ out (doneAnswer (r .refusal)) (state (r .pool) (now (frames .exit)) (now (store .entry))) ≡ linkCall (state pool (now (frames .entry)) (now (store .entry))) handle slot page locked ⌝ }
+    ensures { λ r. ⌜ out (doneAnswer (r .refusal)) (state (r .pool) (now (frames .exit)) (now (store .entry)) (now (directory .entry))) ≡ linkCall (state pool (now (frames .entry)) (now (store .entry)) (now (directory .entry))) handle slot page locked ⌝ }
 {
     let mut residents = residents::NONE;
     let mut seen = seen::NONE;
@@ -76,6 +79,7 @@ pub fn link(
         held,
         frames,
         store,
+        directory,
         handle,
         slot,
         page,
@@ -95,8 +99,15 @@ pub fn link(
 }
 
 // Clears a slot of the handle's page.
-pub fn unlink(pool: Pool, frames: &mut [u8], store: &[u8], handle: Handle, slot: usize) -> Done
-    ensures { λ r. ⌜ out (doneAnswer (r .refusal)) (state (r .pool) (now (frames .exit)) (now (store .entry))) ≡ unlinkCall (state pool (now (frames .entry)) (now (store .entry))) handle slot ⌝ }
+pub fn unlink(
+    pool: Pool,
+    frames: &mut [u8],
+    store: &[u8],
+    directory: &[u8],
+    handle: Handle,
+    slot: usize,
+) -> Done
+    ensures { λ r. ⌜ out (doneAnswer (r .refusal)) (state (r .pool) (now (frames .exit)) (now (store .entry)) (now (directory .entry))) ≡ unlinkCall (state pool (now (frames .entry)) (now (store .entry)) (now (directory .entry))) handle slot ⌝ }
 {
     let mut residents = residents::NONE;
     let mut seen = seen::NONE;
@@ -108,6 +119,7 @@ pub fn unlink(pool: Pool, frames: &mut [u8], store: &[u8], handle: Handle, slot:
         held,
         frames,
         store,
+        directory,
         handle,
         slot,
         &mut residents,

@@ -29,6 +29,7 @@ pub fn write_refusal(
     held: FrameRecord,
     frames: &[u8],
     store: &[u8],
+    directory: &[u8],
     handle: Handle,
     offset: usize,
     n: usize,
@@ -36,9 +37,18 @@ pub fn write_refusal(
     seen: &mut Seen,
 ) -> u8
     requires { ⌜ (held ≡ recordAt (pool .records) (recordPlace handle)) × Clear (now residents) (now seen) ⌝ }
-    ensures { λ r. ⌜ r ≡ firstBroken (writeRules (state pool (now (frames .entry)) (now (store .entry))) handle offset n) ⌝ }
+    ensures { λ r. ⌜ r ≡ firstBroken (writeRules (state pool (now (frames .entry)) (now (store .entry)) (now (directory .entry))) handle offset n) ⌝ }
 {
-    let refusal = guard::handle_refusal(pool, held, frames, store, handle, residents, seen);
+    let refusal = guard::handle_refusal(
+        pool,
+        held,
+        frames,
+        store,
+        directory,
+        handle,
+        residents,
+        seen,
+    );
     if refusal != 0 {
         return refusal;
     }
@@ -57,6 +67,7 @@ pub fn link_refusal(
     held: FrameRecord,
     frames: &[u8],
     store: &[u8],
+    directory: &[u8],
     handle: Handle,
     slot: usize,
     page: PageNumber,
@@ -64,9 +75,19 @@ pub fn link_refusal(
     seen: &mut Seen,
 ) -> u8
     requires { ⌜ (held ≡ recordAt (pool .records) (recordPlace handle)) × Clear (now residents) (now seen) ⌝ }
-    ensures { λ r. ⌜ r ≡ firstBroken (linkRules (state pool (now (frames .entry)) (now (store .entry))) handle slot page) ⌝ }
+    ensures { λ r. ⌜ r ≡ firstBroken (linkRules (state pool (now (frames .entry)) (now (store .entry)) (now (directory .entry))) handle slot page) ⌝ }
 {
-    let refusal = guard::edit_refusal(pool, held, frames, store, handle, slot, residents, seen);
+    let refusal = guard::edit_refusal(
+        pool,
+        held,
+        frames,
+        store,
+        directory,
+        handle,
+        slot,
+        residents,
+        seen,
+    );
     if refusal != 0 {
         return refusal;
     }
@@ -92,15 +113,26 @@ pub fn unlink_refusal(
     held: FrameRecord,
     frames: &[u8],
     store: &[u8],
+    directory: &[u8],
     handle: Handle,
     slot: usize,
     residents: &mut Residents,
     seen: &mut Seen,
 ) -> u8
     requires { ⌜ (held ≡ recordAt (pool .records) (recordPlace handle)) × Clear (now residents) (now seen) ⌝ }
-    ensures { λ r. ⌜ r ≡ firstBroken (unlinkRules (state pool (now (frames .entry)) (now (store .entry))) handle slot) ⌝ }
+    ensures { λ r. ⌜ r ≡ firstBroken (unlinkRules (state pool (now (frames .entry)) (now (store .entry)) (now (directory .entry))) handle slot) ⌝ }
 {
-    let refusal = guard::edit_refusal(pool, held, frames, store, handle, slot, residents, seen);
+    let refusal = guard::edit_refusal(
+        pool,
+        held,
+        frames,
+        store,
+        directory,
+        handle,
+        slot,
+        residents,
+        seen,
+    );
     if refusal != 0 {
         return refusal;
     }

@@ -15,9 +15,9 @@ use Rattle.machine.specs.declared.Handle.{Handle}
 use Rattle.machine.specs.declared.Place.{Place}
 use Rattle.rules.specs.Tests.{Rule, firstBroken}
 use Rattle.rules.specs.TestLaws.{clash, pick-yes, pick-no, verdict-no, verdict-yes, case, on, off}
-use Rattle.machine.specs.Machine.{State, found}
+use Rattle.machine.specs.Machine.{State}
 use Rattle.machine.specs.Answers.{Answer, payload, inStore, out, placeOf, Lent, cut, Shown, lentIf, handedAt}
-use Rattle.machine.specs.Calls.{decide, handleRules, pageRules, payloadPlace, showCall, peekCall}
+use Rattle.machine.specs.Calls.{decide, handleRules, pageRules, sought, payloadPlace, showCall, peekCall}
 use Rattle.machine.specs.Laws.RuleLaws.{handle-kept, page-kept, answer-no, answer-yes}
 
 -- the payload of page p of the store, or of the frames
@@ -54,7 +54,7 @@ pub peek-within : (s : State) (q : PageNumber) {r : Place} → r ≡ placeOf (pe
 unfolding peekCall payloadPlace
 peek-within s q e = rw e (decided s (pageRules s q) _ (λ z.
     let k = page-kept s q z in
-    let f = found (s .pool) (q .0) in
+    let f = sought s (q .0) .frame in
     elim (case (ltb f (s .pool .count))) [
       | on t ↦ let l : f < s .pool .count = ltb-true f (s .pool .count) t in subst (Placed s) (pick-yes _ t refl) (in-frames (s .frames) (s .store) 0 (omega arith))
       | off t ↦ subst (Placed s) (pick-no _ t refl) (in-store (s .frames) (s .store) (omega arith))

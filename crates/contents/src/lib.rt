@@ -18,8 +18,14 @@ ghost use Rattle.residents.specs.Residents.{pageBy};
 ghost use Rattle.contents.specs.Words.{Resolvable};
 
 // Where the payload of the handle's page lies.
-pub fn show_place(pool: Pool, frames: &[u8], store: &[u8], handle: Handle) -> Place
-    ensures { λ r. ⌜ r ≡ placeOf (showCall (state pool (now (frames .entry)) (now (store .entry))) handle .answer) ⌝ }
+pub fn show_place(
+    pool: Pool,
+    frames: &[u8],
+    store: &[u8],
+    directory: &[u8],
+    handle: Handle,
+) -> Place
+    ensures { λ r. ⌜ r ≡ placeOf (showCall (state pool (now (frames .entry)) (now (store .entry)) (now (directory .entry))) handle .answer) ⌝ }
 {
     let mut residents = residents::NONE;
     let mut seen = seen::NONE;
@@ -30,6 +36,7 @@ pub fn show_place(pool: Pool, frames: &[u8], store: &[u8], handle: Handle) -> Pl
         held,
         frames,
         store,
+        directory,
         handle,
         &mut residents,
         &mut seen,
@@ -41,17 +48,31 @@ pub fn show_place(pool: Pool, frames: &[u8], store: &[u8], handle: Handle) -> Pl
 }
 
 // Where the payload of a page lies: in its frame if it is resident, otherwise in the store.
-pub fn peek_place(pool: Pool, frames: &[u8], store: &[u8], page: PageNumber) -> Place
-    ensures { λ r. ⌜ r ≡ placeOf (peekCall (state pool (now (frames .entry)) (now (store .entry))) page .answer) ⌝ }
+pub fn peek_place(
+    pool: Pool,
+    frames: &[u8],
+    store: &[u8],
+    directory: &[u8],
+    page: PageNumber,
+) -> Place
+    ensures { λ r. ⌜ r ≡ placeOf (peekCall (state pool (now (frames .entry)) (now (store .entry)) (now (directory .entry))) page .answer) ⌝ }
 {
     let mut residents = residents::NONE;
     let mut seen = seen::NONE;
-    let refusal = guard::page_refusal(pool, frames, store, page, &mut residents, &mut seen);
+    let refusal = guard::page_refusal(
+        pool,
+        frames,
+        store,
+        directory,
+        page,
+        &mut residents,
+        &mut seen,
+    );
     if refusal != 0 {
         return part::refused(refusal);
     }
     let count = frames.len() / PageNumber::SIZE;
-    let frame = scan::find_frame(&residents, count, page).frame;
+    let frame = directory::seek(&residents, directory, count, page).frame;
     if frame < count {
         return part::in_frame(FrameIndex(frame as u8));
     }
@@ -63,12 +84,13 @@ pub fn show<'a>(
     pool: Pool,
     frames: &'a [u8],
     store: &'a [u8],
+    directory: &[u8],
     handle: Handle,
     number: &mut u8,
 ) -> &'a [u8]
-    ensures { λ r. ⌜ record { part = lent r; number = now (number .exit) } ≡ handedBack (lent (frames .entry)) (lent (store .entry)) (showCall (state pool (now (frames .entry)) (now (store .entry))) handle .answer) ⌝ }
+    ensures { λ r. ⌜ record { part = lent r; number = now (number .exit) } ≡ handedBack (lent (frames .entry)) (lent (store .entry)) (showCall (state pool (now (frames .entry)) (now (store .entry)) (now (directory .entry))) handle .answer) ⌝ }
 {
-    let place = show_place(pool, frames, store, handle);
+    let place = show_place(pool, frames, store, directory, handle);
     part::part_at(place, frames, store, number)
 }
 
@@ -77,12 +99,13 @@ pub fn peek<'a>(
     pool: Pool,
     frames: &'a [u8],
     store: &'a [u8],
+    directory: &[u8],
     page: PageNumber,
     number: &mut u8,
 ) -> &'a [u8]
-    ensures { λ r. ⌜ record { part = lent r; number = now (number .exit) } ≡ handedBack (lent (frames .entry)) (lent (store .entry)) (peekCall (state pool (now (frames .entry)) (now (store .entry))) page .answer) ⌝ }
+    ensures { λ r. ⌜ record { part = lent r; number = now (number .exit) } ≡ handedBack (lent (frames .entry)) (lent (store .entry)) (peekCall (state pool (now (frames .entry)) (now (store .entry)) (now (directory .entry))) page .answer) ⌝ }
 {
-    let place = peek_place(pool, frames, store, page);
+    let place = peek_place(pool, frames, store, directory, page);
     part::part_at(place, frames, store, number)
 }
 
@@ -100,8 +123,15 @@ fn page_named(residents: &Residents, name: u32) -> PageNumber
 }
 
 // The page number in a slot of the handle's page, 0 for none, and whether that page is locked.
-pub fn word(pool: Pool, frames: &[u8], store: &[u8], handle: Handle, slot: usize) -> WordAnswer
-    ensures { λ r. ⌜ wordAnswer r ≡ wordCall (state pool (now (frames .entry)) (now (store .entry))) handle slot .answer ⌝ }
+pub fn word(
+    pool: Pool,
+    frames: &[u8],
+    store: &[u8],
+    directory: &[u8],
+    handle: Handle,
+    slot: usize,
+) -> WordAnswer
+    ensures { λ r. ⌜ wordAnswer r ≡ wordCall (state pool (now (frames .entry)) (now (store .entry)) (now (directory .entry))) handle slot .answer ⌝ }
 {
     let mut residents = residents::NONE;
     let mut seen = seen::NONE;
@@ -112,6 +142,7 @@ pub fn word(pool: Pool, frames: &[u8], store: &[u8], handle: Handle, slot: usize
         held,
         frames,
         store,
+        directory,
         handle,
         slot,
         &mut residents,
@@ -125,21 +156,35 @@ pub fn word(pool: Pool, frames: &[u8], store: &[u8], handle: Handle, slot: usize
     WordAnswer::Names(page, page::word::is_marked(word))
 }
 
-// The frame that holds a page, and how many frames were looked at.
-pub fn find(pool: Pool, frames: &[u8], store: &[u8], page: PageNumber) -> FindAnswer
-    ensures { λ r. ⌜ findAnswer r ≡ findCall (state pool (now (frames .entry)) (now (store .entry))) page .answer ⌝ }
+// The frame that holds a page, and how many entries of the directory were compared.
+pub fn find(
+    pool: Pool,
+    frames: &[u8],
+    store: &[u8],
+    directory: &[u8],
+    page: PageNumber,
+) -> FindAnswer
+    ensures { λ r. ⌜ findAnswer r ≡ findCall (state pool (now (frames .entry)) (now (store .entry)) (now (directory .entry))) page .answer ⌝ }
 {
     let mut residents = residents::NONE;
     let mut seen = seen::NONE;
-    let refusal = guard::page_refusal(pool, frames, store, page, &mut residents, &mut seen);
+    let refusal = guard::page_refusal(
+        pool,
+        frames,
+        store,
+        directory,
+        page,
+        &mut residents,
+        &mut seen,
+    );
     if refusal != 0 {
         return FindAnswer::Refused(refusal);
     }
     let count = frames.len() / PageNumber::SIZE;
-    let search = scan::find_frame(&residents, count, page);
-    let looks = search.looks as u16;
-    if search.frame < count {
-        return FindAnswer::At(FrameIndex(search.frame as u8), looks);
+    let sought = directory::seek(&residents, directory, count, page);
+    let compared = sought.compared as u16;
+    if sought.frame < count {
+        return FindAnswer::At(FrameIndex(sought.frame as u8), compared);
     }
-    FindAnswer::Absent(looks)
+    FindAnswer::Absent(compared)
 }

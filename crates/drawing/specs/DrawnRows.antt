@@ -5,7 +5,7 @@ use mathlib.Core.List.{List, [], _∷_, _++_}
 use Prim.Native.Nat.{ℕ}
 use lib.ListN.{replicate}
 use Rattle.machine.specs.Machine.{State, state}
-use Rattle.machine.specs.Tables.Rows.{empty, resident, names, swizzledTo, page, machine, Case, is, allHold}
+use Rattle.machine.specs.Tables.Rows.{empty, resident, names, swizzledTo, page, machine, withDirectory, Case, is, allHold}
 use Rattle.generator.specs.declared.Generator.{Generator}
 use Rattle.generator.specs.Generator.{xorLeft, xorRight, numberAfter}
 use Rattle.drawing.specs.Drawing.{fieldsFrom, parentPage, entryFrom, refusedDraw, drawnOut}
@@ -19,7 +19,11 @@ sparse hand =
 
 -- the same with a byte less of the store
 abbrev short : State
-short = let s = sparse 1 in state (s .pool) (s .frames) (page (names 1 ∷ []) 20 ++ page [] 21 ++ replicate 255 0)
+short = let s = sparse 1 in state (s .pool) (s .frames) (page (names 1 ∷ []) 20 ++ page [] 21 ++ replicate 255 0) (s .directory)
+
+-- and with so many bytes of 0 for the directory
+abbrev unlisted : ℕ → State
+unlisted n = withDirectory (sparse 1) (replicate n 0)
 
 abbrev at : ℕ → Generator
 at n = record { number = n }
@@ -43,9 +47,11 @@ drawTable =
     ∷ draws (sparse 1) 97 (0 ∷ 773620837 ∷ 5 ∷ 3 ∷ 2 ∷ 0 ∷ 10 ∷ 23 ∷ 0 ∷ replicate 9 0)
     -- no other call has a parent's page: a write, by frame 2
     ∷ draws (sparse 1) 17 (0 ∷ 689350324 ∷ 4 ∷ 2 ∷ 1 ∷ 0 ∷ 5 ∷ 65 ∷ 0 ∷ replicate 9 0)
-    -- refused by 1, the store being a byte short, and by 2, the hand being no frame's: 16 zeros, and the number stays
+    -- refused by 1, the store or the directory being a byte short, and by 2, the hand being no frame's or no page in a chain: 16 zeros, and the number stays
     ∷ draws short 100 (1 ∷ 100 ∷ replicate 16 0)
+    ∷ draws (unlisted 130) 100 (1 ∷ 100 ∷ replicate 16 0)
     ∷ draws (sparse 4) 100 (2 ∷ 100 ∷ replicate 16 0)
+    ∷ draws (unlisted 131) 100 (2 ∷ 100 ∷ replicate 16 0)
     ∷ []
 
 pub drawn-rows : allHold drawTable ≡ true

@@ -49,12 +49,18 @@ fn parent_page(residents: &Residents, call: u8, frame: FrameIndex) -> PageNumber
 }
 
 // The next record of a workload on the pool as it stands.
-pub fn draw_record(pool: Pool, frames: &[u8], store: &[u8], generator: Generator) -> Drawn
-    ensures { λ r. ⌜ r ≡ drawnOut (state pool (now (frames .entry)) (now (store .entry))) generator ⌝ }
+pub fn draw_record(
+    pool: Pool,
+    frames: &[u8],
+    store: &[u8],
+    directory: &[u8],
+    generator: Generator,
+) -> Drawn
+    ensures { λ r. ⌜ r ≡ drawnOut (state pool (now (frames .entry)) (now (store .entry)) (now (directory .entry))) generator ⌝ }
 {
     let mut residents = residents::NONE;
     let mut seen = seen::NONE;
-    let refusal = guard::table_refusal(pool, frames, store, &mut residents, &mut seen);
+    let refusal = guard::table_refusal(pool, frames, store, directory, &mut residents, &mut seen);
     if refusal != 0 {
         return refused(refusal, generator);
     }

@@ -26,6 +26,13 @@ fn after(looks: u16) {
     text(b" looks\n");
 }
 
+// Ends a line with the entries compared.
+fn compared(entries: u16) {
+    text(b", entries compared: ");
+    number(entries);
+    text(b"\n");
+}
+
 // A call without an answer of its own.
 pub fn done(call: &[u8], refusal: u8) {
     if refusal != 0 {
@@ -54,14 +61,14 @@ pub fn fixed(call: &[u8], answer: FixAnswer) {
 // Find.
 pub fn found(answer: FindAnswer) {
     match answer {
-        FindAnswer::At(frame, looks) => {
+        FindAnswer::At(frame, entries) => {
             text(b"find: in frame ");
             number(frame.0 as u16);
-            after(looks);
+            compared(entries);
         }
-        FindAnswer::Absent(looks) => {
+        FindAnswer::Absent(entries) => {
             text(b"find: absent");
-            after(looks);
+            compared(entries);
         }
         FindAnswer::Refused(refusal) => refused(b"find", refusal),
     }

@@ -18,8 +18,8 @@ refusedFix p n = record { answer = Refused n; pool = p }
 abbrev pub givenFix : Pool → ℕ → ℕ → ℕ → Fix
 givenFix p f q looks = record { answer = Fixed (record { frame = frameIndex f; page = pageNumber q }) looks; pool = p }
 
-abbrev pub fixOut : Fix → List ℕ → List ℕ → Out
-fixOut r fs st = out (fixAnswer (r .answer)) (state (r .pool) fs st)
+abbrev pub fixOut : Fix → List ℕ → List ℕ → List ℕ → Out
+fixOut r fs st d = out (fixAnswer (r .answer)) (state (r .pool) fs st d)
 
 -- ---- the steps
 

@@ -19,6 +19,7 @@ use Rattle.rules.specs.Tests.{pick, Rule, firstBroken, verdict}
 use Rattle.rules.specs.TestLaws.{pick-yes, pick-no, or-left, or-skip, kept-then, broken-here, none-broken}
 use Rattle.machine.specs.Machine.{State, state, withPool, recordAt, pageIn, withRecords, withRecord, withUsage, pinned, loadedRecord}
 use Rattle.machine.specs.Answers.{refused, handle, Out, out}
+use Rattle.chains.specs.Chain.{directorySize, bucketOf, entered}
 use Rattle.machine.specs.Sweep.{Swept, childless, firstEmpty, kind, sweep, withSwept}
 use Rattle.machine.specs.Moves.{vacate, evicted}
 use Rattle.machine.specs.Naming.{loadable}
@@ -29,13 +30,14 @@ use Rattle.machine.specs.Laws.RuleLaws.{SlotKept, held-occupied, decide-no, dec
 use Rattle.machine.specs.Laws.SweepLaws.{sweep-sound, swept-ready}
 use Rattle.machine.specs.Laws.Standings.{open-childless}
 use Rattle.machine.specs.Laws.MoveLaws.{evicted-sized}
+use Rattle.chains.specs.ChainLaws.{taken-length}
 use Rattle.seen.specs.Seen.{Seen}
 use Rattle.residents.specs.Handed.{Handed}
 use Rattle.naming.specs.NamedByTables.{loadableBy, loadable-by}
 use Rattle.scan.specs.declared.Walk.{Walk}
 use Rattle.scan.specs.FoundByTable.{emptyBy, empty-by}
 use Rattle.scan.specs.Walk.{cooledTo, Sees, Walked, Cools, Few, cools-none, cools-next, same-end, same-sweep}
-use Rattle.moves.specs.InAndOut.{Removable, TakenOut, Fitting, broughtIn, removable, is-evicted, fitting, is-loaded}
+use Rattle.moves.specs.InAndOut.{Followed, Removable, TakenOut, Fitting, broughtIn, removable, is-evicted, fitting, is-loaded}
 use Rattle.fixing.specs.FixSteps.{refusedFix, givenFix, fixOut, pinDecided, missDecided, sweptDecided}
 
 -- ---- rules
@@ -54,21 +56,21 @@ one-broken n h = sym (broken-here n [] h)
 -- ---- a resident page
 
 module _ (s : State) (f : ℕ) {r : Fix} where
-  pub pin-denied : recordAt (s .pool .records) f .pins ≡ maxPins → r ≡ refusedFix (s .pool) 13 → fixOut r (s .frames) (s .store) ≡ pinDecided s f
+  pub pin-denied : recordAt (s .pool .records) f .pins ≡ maxPins → r ≡ refusedFix (s .pool) 13 → fixOut r (s .frames) (s .store) (s .directory) ≡ pinDecided s f
   unfolding pinDecided
   pin-denied h e = rw e (decide-no s _ _ (one-broken 13 (ap not (eq-eqb _ maxPins h))) (λ z. omega arith))
 
   pub pin-given : {q : FrameRecord} → recordAt (s .pool .records) f .pins ≢ maxPins → q ≡ pinned (recordAt (s .pool .records) f) → r ≡ givenFix (withRecord (s .pool) f q) f (pageIn (s .pool .records) f) 0
-      → fixOut r (s .frames) (s .store) ≡ pinDecided s f
+      → fixOut r (s .frames) (s .store) (s .directory) ≡ pinDecided s f
   unfolding pinDecided
   pin-given h i e = rw (e, i) (decide-yes s _ (one-kept 13 (ap not (ne-eqb _ maxPins h))) refl refl)
 
 -- ---- a page that comes in
 
 -- into frame e after so many looks, where a is the record that the code put
-pub load-given : (s : State) (f k e q looks : ℕ) {a : FrameRecord} {gs : List ℕ} {r : Fix} → a ≡ loadedRecord q f k → gs ≡ broughtIn (s .frames) (s .store) f k e q
-    → r ≡ givenFix (withRecord (s .pool) e a) e q looks → fixOut r gs (s .store) ≡ loadedOut s f k e q looks
-load-given s f k e q looks i b g = rw (g, i) (ap (out (handle e q looks)) (is-loaded s f k e q refl b))
+pub load-given : (s : State) (f k e q looks : ℕ) {a : FrameRecord} {gs d : List ℕ} {r : Fix} → a ≡ loadedRecord q f k → gs ≡ broughtIn (s .frames) (s .store) f k e q
+    → d ≡ entered (s .directory) (bucketOf q) e → r ≡ givenFix (withRecord (s .pool) e a) e q looks → fixOut r gs (s .store) d ≡ loadedOut s f k e q looks
+load-given s f k e q looks i b c g = rw (g, i) (ap (out (handle e q looks)) (is-loaded s f k e q refl b c))
 
 -- ---- a sweep over what it sees of the frames
 
@@ -92,6 +94,7 @@ sweptAs r ts = record { taken = r .taken; frame = r .frame; looks = r .looks; re
 -- the sweep ended as r with a frame taken, and m is the pool with the records that it leaves
 pub record Took (s : State) (r : Walk) (m : Pool) : Type 0 where
   pub ready : Ready s
+  pub chains : Followed (s .directory)
   pub taken : r .taken ≡ true
   pub rest : m ≡ withRecords (s .pool) (m .records)
   pub swept : sweptAs r (m .records) ≡ sweep (s .pool) (s .frames)
@@ -103,15 +106,15 @@ module _ (s : State) (R : Ready s) {us vs : List ℕ} {r : Walk} (S : Sees (kind
   swept-as : {ts : List FrameRecord} → Cools (s .pool .records) ts vs (s .pool .count) → sweptAs r ts ≡ sweep (s .pool) (s .frames)
   swept-as {ts} C = sym (same-sweep (s .pool) (s .frames) us vs ts r (R .sized .most) (R .hand) few S W C)
 
-  pub swept-denied : (f k q : ℕ) {x : Fix} → r .taken ≡ false → x ≡ refusedFix (s .pool) 15 → fixOut x (s .frames) (s .store) ≡ sweptDecided s f k q
+  pub swept-denied : (f k q : ℕ) {x : Fix} → r .taken ≡ false → x ≡ refusedFix (s .pool) 15 → fixOut x (s .frames) (s .store) (s .directory) ≡ sweptDecided s f k q
   unfolding sweptDecided
   swept-denied f k q t h =
       let e = same-end (s .pool) (s .frames) us vs r (R .sized .most) (R .hand) few S W in
       let u : sweep (s .pool) (s .frames) .taken ≡ false = sym (ap (λ (x : Walk). x .taken) e) ∙ t in
       rw h (decide-no s _ _ (one-broken 15 u) (λ z. omega arith))
 
-  pub took : {m : Pool} → r .taken ≡ true → Cooling (s .pool) m vs (s .pool .count) → Took s r m
-  took t C = record { ready = R; taken = t; rest = C .rest; swept = swept-as (C .cools) }
+  pub took : {m : Pool} → Followed (s .directory) → r .taken ≡ true → Cooling (s .pool) m vs (s .pool .count) → Took s r m
+  took d t C = record { ready = R; chains = d; taken = t; rest = C .rest; swept = swept-as (C .cools) }
 
 -- the page of the frame taken is taken out, and page q is loaded for slot k of frame f
 module _ (s : State) {r : Walk} {m : Pool} (T : Took s r m) where
@@ -133,27 +136,30 @@ module _ (s : State) {r : Walk} {m : Pool} (T : Took s r m) where
   pub victim-below : r .frame .0 < mostFrames
   victim-below = let l = victim-open .0 in omega (arith, T .ready .sized .most)
 
-  pub victim-removable : Removable (recordAt (m .records) (r .frame .0)) (s .frames) (s .store) (r .frame .0)
-  victim-removable = let h = victim-open in removable swept (r .frame .0) ready-still (h .0) (h .1)
+  pub victim-removable : Removable (recordAt (m .records) (r .frame .0)) (s .frames) (s .store) (s .directory) (r .frame .0)
+  victim-removable = let h = victim-open in removable swept (r .frame .0) ready-still (T .chains) (h .0) (h .1)
 
-  module _ {gs ts : List ℕ} (o : TakenOut (recordAt (m .records) (r .frame .0)) (s .frames) (s .store) (r .frame .0) gs ts) where
+  module _ {gs ts d : List ℕ} (o : TakenOut (recordAt (m .records) (r .frame .0)) (s .frames) (s .store) (s .directory) (r .frame .0) gs ts d) where
     abbrev left : State
-    left = state (vacate (withSwept (s .pool) ended) (r .frame .0)) gs ts
+    left = state (vacate (withSwept (s .pool) ended) (r .frame .0)) gs ts d
 
     left-is : left ≡ evicted swept (r .frame .0)
     left-is = is-evicted swept (r .frame .0) refl o
 
-    pub victim-fitting : {f k q : ℕ} → f < s .pool .count → k < slotCount → q < s .pool .pages → Fitting gs ts f k (r .frame .0) q
+    left-length : length d ≡ directorySize
+    left-length = ap length (o .entry) ∙ taken-length (s .directory) (r .frame .0) mostFrames _ ∙ T .chains .size
+
+    pub victim-fitting : {f k q : ℕ} → f < s .pool .count → k < slotCount → q < s .pool .pages → Fitting gs ts d f k (r .frame .0) q
     victim-fitting {f} {k} {q} lf lk lq =
-        fitting left f k (r .frame .0) q (subst (λ (x : State). Sized x) (sym left-is) (evicted-sized swept (r .frame .0) ready-still (victim-open .0))) lf lk (victim-open .0) lq
+        fitting left f k (r .frame .0) q (subst (λ (x : State). Sized x) (sym left-is) (evicted-sized swept (r .frame .0) ready-still (victim-open .0))) left-length lf lk (victim-open .0) lq
 
     -- the record is put once, over that of the page taken out
-    pub swept-given : (f k q : ℕ) {hs : List ℕ} {a : FrameRecord} {x : Fix} → a ≡ loadedRecord q f k → hs ≡ broughtIn gs ts f k (r .frame .0) q
-        → x ≡ givenFix (withRecord (withSwept m ended) (r .frame .0) a) (r .frame .0) q (r .looks) → fixOut x hs ts ≡ sweptDecided s f k q
+    pub swept-given : (f k q : ℕ) {hs e : List ℕ} {a : FrameRecord} {x : Fix} → a ≡ loadedRecord q f k → hs ≡ broughtIn gs ts f k (r .frame .0) q → e ≡ entered d (bucketOf q) (r .frame .0)
+        → x ≡ givenFix (withRecord (withSwept m ended) (r .frame .0) a) (r .frame .0) q (r .looks) → fixOut x hs ts e ≡ sweptDecided s f k q
     unfolding sweptDecided
-    swept-given f k q {a = a} i b g =
+    swept-given f k q {a = a} i b c g =
         let p : withRecord (withSwept m ended) (r .frame .0) a ≡ withRecord (left .pool) (r .frame .0) a = ap (λ (x : Pool). withRecord (withSwept x ended) (r .frame .0) a) (T .rest) ∙ rw set-set in
-        let l = load-given left f k (r .frame .0) q (r .looks) i b (g ∙ rw p) in
+        let l = load-given left f k (r .frame .0) q (r .looks) i b c (g ∙ rw p) in
         rw (← T .swept) (decide-yes s _ (one-kept 15 (T .taken)) refl (l ∙ rw left-is))
 
 -- what the tables tell, N by the store's length
@@ -167,7 +173,7 @@ module _ (s : State) (K : Kept s) {residents : List ℕ} {seen : Seen} (H : Hand
   empty-told h = h ∙ empty-by s K H
 
 module _ (s : State) (f k q : ℕ) where
-  pub miss-denied : {r : Fix} → loadable s q ≡ false → r ≡ refusedFix (s .pool) 14 → fixOut r (s .frames) (s .store) ≡ missDecided s f k q
+  pub miss-denied : {r : Fix} → loadable s q ≡ false → r ≡ refusedFix (s .pool) 14 → fixOut r (s .frames) (s .store) (s .directory) ≡ missDecided s f k q
   unfolding missDecided
   miss-denied l h = rw h (decide-no s _ _ (sym (broken-here 14 _ l)) (λ z. omega arith))
 
@@ -187,7 +193,7 @@ module _ (s : State) (f k q : ℕ) where
 -- ---- the two calls, where n is the refusal that the code computed first
 
 module _ (s : State) {n : ℕ} (e : n ≡ firstBroken (poolRules s)) where
-  pub root-denied : {r : Fix} → n ≢ 0 → r ≡ refusedFix (s .pool) n → fixOut r (s .frames) (s .store) ≡ rootCall s
+  pub root-denied : {r : Fix} → n ≢ 0 → r ≡ refusedFix (s .pool) n → fixOut r (s .frames) (s .store) (s .directory) ≡ rootCall s
   unfolding rootCall
   root-denied h i = rw i (decide-no s _ _ (pool-stops s (rule13 s 0 ∷ []) e h) h)
 
@@ -200,12 +206,12 @@ module _ (s : State) (h : Handle) (k : ℕ) {n : ℕ} (e : n ≡ firstBroken (wo
   rest : List Rule
   rest = let w = wordOf s h k in rule7 w ∷ pick (isNumber w) (rule14 s w ∷ rule15 s ∷ []) (rule13 s (frameIn w) ∷ [])
 
-  pub fix-denied : {r : Fix} → n ≢ 0 → r ≡ refusedFix (s .pool) n → fixOut r (s .frames) (s .store) ≡ fixCall s h k
+  pub fix-denied : {r : Fix} → n ≢ 0 → r ≡ refusedFix (s .pool) n → fixOut r (s .frames) (s .store) (s .directory) ≡ fixCall s h k
   unfolding fixCall rest
   fix-denied z i = rw i (decide-no s _ _ (slot-stops s h k rest e z) z)
 
   module _ (z : n ≡ 0) {w : ℕ} (i : w ≡ wordOf s h k) where
-    pub fix-nothing : {r : Fix} → w ≡ 0 → r ≡ refusedFix (s .pool) 7 → fixOut r (s .frames) (s .store) ≡ fixCall s h k
+    pub fix-nothing : {r : Fix} → w ≡ 0 → r ≡ refusedFix (s .pool) 7 → fixOut r (s .frames) (s .store) (s .directory) ≡ fixCall s h k
     unfolding fixCall rest
     fix-nothing a j = rw j (decide-no s _ _ (slot-passes s h k rest e z (sym (broken-here 7 _ (rw (← i) (ap not (eq-eqb w 0 a)))))) (λ y. omega arith))
 

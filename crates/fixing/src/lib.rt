@@ -14,10 +14,10 @@ ghost use Rattle.machine.specs.Answers.{out, fixAnswer};
 ghost use Rattle.machine.specs.Calls.{rootCall, fixCall};
 
 // Pins page 0.
-pub fn root(pool: Pool, frames: &[u8], store: &[u8]) -> Fix
-    ensures { λ r. ⌜ out (fixAnswer (r .answer)) (state (r .pool) (now (frames .entry)) (now (store .entry))) ≡ rootCall (state pool (now (frames .entry)) (now (store .entry))) ⌝ }
+pub fn root(pool: Pool, frames: &[u8], store: &[u8], directory: &[u8]) -> Fix
+    ensures { λ r. ⌜ out (fixAnswer (r .answer)) (state (r .pool) (now (frames .entry)) (now (store .entry)) (now (directory .entry))) ≡ rootCall (state pool (now (frames .entry)) (now (store .entry)) (now (directory .entry))) ⌝ }
 {
-    let refusal = guard::pool_refusal(pool, frames, store);
+    let refusal = guard::pool_refusal(pool, frames, store, directory);
     if refusal != 0 {
         return answer::refused(pool, refusal);
     }
@@ -32,8 +32,15 @@ pub fn root(pool: Pool, frames: &[u8], store: &[u8]) -> Fix
 }
 
 // Pins the page that a slot of a handle's page names.
-pub fn fix(pool: Pool, frames: &mut [u8], store: &mut [u8], handle: Handle, slot: usize) -> Fix
-    ensures { λ r. ⌜ out (fixAnswer (r .answer)) (state (r .pool) (now (frames .exit)) (now (store .exit))) ≡ fixCall (state pool (now (frames .entry)) (now (store .entry))) handle slot ⌝ }
+pub fn fix(
+    pool: Pool,
+    frames: &mut [u8],
+    store: &mut [u8],
+    directory: &mut [u8],
+    handle: Handle,
+    slot: usize,
+) -> Fix
+    ensures { λ r. ⌜ out (fixAnswer (r .answer)) (state (r .pool) (now (frames .exit)) (now (store .exit)) (now (directory .exit))) ≡ fixCall (state pool (now (frames .entry)) (now (store .entry)) (now (directory .entry))) handle slot ⌝ }
 {
     let mut residents = residents::NONE;
     let mut seen = seen::NONE;
@@ -45,6 +52,7 @@ pub fn fix(pool: Pool, frames: &mut [u8], store: &mut [u8], handle: Handle, slot
         held,
         frames,
         store,
+        directory,
         handle,
         slot,
         &mut residents,
@@ -64,6 +72,7 @@ pub fn fix(pool: Pool, frames: &mut [u8], store: &mut [u8], handle: Handle, slot
             pool,
             frames,
             store,
+            directory,
             parent,
             slot,
             page,

@@ -19,14 +19,15 @@ pub fn bring_in(
     pool: Pool,
     frames: &mut [u8],
     store: &mut [u8],
+    directory: &mut [u8],
     parent: FrameIndex,
     slot: usize,
     page: PageNumber,
     residents: &Residents,
     seen: &mut Seen,
 ) -> Fix
-    requires { ⌜ Kept (state pool (now frames) (now store)) × Handed pool (now frames) (now residents) (now seen) × (parent .0 < pool .count) × (slot < slotCount) × (page .0 < pool .pages) ⌝ }
-    ensures { λ r. ⌜ fixOut r (now (frames .exit)) (now (store .exit)) ≡ missDecided (state pool (now (frames .entry)) (now (store .entry))) (parent .0) slot (page .0) ⌝ }
+    requires { ⌜ Kept (state pool (now frames) (now store) (now directory)) × Handed pool (now frames) (now residents) (now seen) × (parent .0 < pool .count) × (slot < slotCount) × (page .0 < pool .pages) ⌝ }
+    ensures { λ r. ⌜ fixOut r (now (frames .exit)) (now (store .exit)) (now (directory .exit)) ≡ missDecided (state pool (now (frames .entry)) (now (store .entry)) (now (directory .entry))) (parent .0) slot (page .0) ⌝ }
 {
     let mut next = pool;
     let n = store.len() / PageNumber::SIZE;
@@ -39,7 +40,7 @@ pub fn bring_in(
     let empty = scan::first_empty(residents, count, hand);
     if empty < most {
         let frame = FrameIndex(empty as u8);
-        next.records[empty] = moves::load_page(frames, store, parent, slot, frame, page);
+        next.records[empty] = moves::load_page(frames, store, directory, parent, slot, frame, page);
         return answer::given(next, frame, page, 0);
     }
     // No frame is empty: the sweep, over what it sees of the frames.
@@ -66,7 +67,7 @@ pub fn bring_in(
     let victim = walk.frame;
     let v = victim.0 as usize;
     let evicted = next.records[v];
-    moves::take_out(evicted, frames, store, victim);
-    next.records[v] = moves::load_page(frames, store, parent, slot, victim, page);
+    moves::take_out(evicted, frames, store, directory, victim);
+    next.records[v] = moves::load_page(frames, store, directory, parent, slot, victim, page);
     answer::given(next, victim, page, walk.looks)
 }

@@ -82,30 +82,37 @@ pub fn table_refusal(
     pool: Pool,
     frames: &[u8],
     store: &[u8],
+    directory: &[u8],
     residents: &mut Residents,
     seen: &mut Seen,
 ) -> u8
     requires { ⌜ Clear (now residents) (now seen) ⌝ }
-    ensures { λ r. ⌜ (r ≡ firstBroken (poolRules (state pool (now (frames .entry)) (now (store .entry))))) × (r ≡ 0 → Handed pool (now (frames .entry)) (now (residents .exit)) (now (seen .exit))) ⌝ }
+    ensures { λ r. ⌜ (r ≡ firstBroken (poolRules (state pool (now (frames .entry)) (now (store .entry)) (now (directory .entry))))) × (r ≡ 0 → Handed pool (now (frames .entry)) (now (residents .exit)) (now (seen .exit))) ⌝ }
 {
     let count = pool.count as usize;
     let n = pool.pages as usize;
     if !lengths_fit(count, n, frames, store) {
         return 1;
     }
+    if directory.len() != directory::SIZE {
+        return 1;
+    }
     if !agreement::agrees(pool, frames, residents, seen) {
+        return 2;
+    }
+    if !directory::chains_agree(residents, directory) {
         return 2;
     }
     0
 }
 
 // Rules 1 and 2, for a call that asks nothing of the tables.
-pub fn pool_refusal(pool: Pool, frames: &[u8], store: &[u8]) -> u8
-    ensures { λ r. ⌜ r ≡ firstBroken (poolRules (state pool (now (frames .entry)) (now (store .entry)))) ⌝ }
+pub fn pool_refusal(pool: Pool, frames: &[u8], store: &[u8], directory: &[u8]) -> u8
+    ensures { λ r. ⌜ r ≡ firstBroken (poolRules (state pool (now (frames .entry)) (now (store .entry)) (now (directory .entry)))) ⌝ }
 {
     let mut residents = residents::NONE;
     let mut seen = seen::NONE;
-    table_refusal(pool, frames, store, &mut residents, &mut seen)
+    table_refusal(pool, frames, store, directory, &mut residents, &mut seen)
 }
 
 // Rules 1 to 3, with the record at the handle's place, and the tables.
@@ -114,14 +121,15 @@ pub fn handle_refusal(
     held: FrameRecord,
     frames: &[u8],
     store: &[u8],
+    directory: &[u8],
     handle: Handle,
     residents: &mut Residents,
     seen: &mut Seen,
 ) -> u8
     requires { ⌜ (held ≡ recordAt (pool .records) (recordPlace handle)) × Clear (now residents) (now seen) ⌝ }
-    ensures { λ r. ⌜ (r ≡ firstBroken (handleRules (state pool (now (frames .entry)) (now (store .entry))) handle)) × (r ≡ 0 → Handed pool (now (frames .entry)) (now (residents .exit)) (now (seen .exit))) ⌝ }
+    ensures { λ r. ⌜ (r ≡ firstBroken (handleRules (state pool (now (frames .entry)) (now (store .entry)) (now (directory .entry))) handle)) × (r ≡ 0 → Handed pool (now (frames .entry)) (now (residents .exit)) (now (seen .exit))) ⌝ }
 {
-    let refusal = table_refusal(pool, frames, store, residents, seen);
+    let refusal = table_refusal(pool, frames, store, directory, residents, seen);
     if refusal != 0 {
         return refusal;
     }
@@ -137,15 +145,25 @@ pub fn slot_refusal(
     held: FrameRecord,
     frames: &[u8],
     store: &[u8],
+    directory: &[u8],
     handle: Handle,
     slot: usize,
     residents: &mut Residents,
     seen: &mut Seen,
 ) -> u8
     requires { ⌜ (held ≡ recordAt (pool .records) (recordPlace handle)) × Clear (now residents) (now seen) ⌝ }
-    ensures { λ r. ⌜ (r ≡ firstBroken (wordRules (state pool (now (frames .entry)) (now (store .entry))) handle slot)) × (r ≡ 0 → Handed pool (now (frames .entry)) (now (residents .exit)) (now (seen .exit))) ⌝ }
+    ensures { λ r. ⌜ (r ≡ firstBroken (wordRules (state pool (now (frames .entry)) (now (store .entry)) (now (directory .entry))) handle slot)) × (r ≡ 0 → Handed pool (now (frames .entry)) (now (residents .exit)) (now (seen .exit))) ⌝ }
 {
-    let refusal = handle_refusal(pool, held, frames, store, handle, residents, seen);
+    let refusal = handle_refusal(
+        pool,
+        held,
+        frames,
+        store,
+        directory,
+        handle,
+        residents,
+        seen,
+    );
     if refusal != 0 {
         return refusal;
     }
@@ -161,15 +179,26 @@ pub fn edit_refusal(
     held: FrameRecord,
     frames: &[u8],
     store: &[u8],
+    directory: &[u8],
     handle: Handle,
     slot: usize,
     residents: &mut Residents,
     seen: &mut Seen,
 ) -> u8
     requires { ⌜ (held ≡ recordAt (pool .records) (recordPlace handle)) × Clear (now residents) (now seen) ⌝ }
-    ensures { λ r. ⌜ (r ≡ firstBroken (editRules (state pool (now (frames .entry)) (now (store .entry))) handle slot)) × (r ≡ 0 → Handed pool (now (frames .entry)) (now (residents .exit)) (now (seen .exit))) ⌝ }
+    ensures { λ r. ⌜ (r ≡ firstBroken (editRules (state pool (now (frames .entry)) (now (store .entry)) (now (directory .entry))) handle slot)) × (r ≡ 0 → Handed pool (now (frames .entry)) (now (residents .exit)) (now (seen .exit))) ⌝ }
 {
-    let refusal = slot_refusal(pool, held, frames, store, handle, slot, residents, seen);
+    let refusal = slot_refusal(
+        pool,
+        held,
+        frames,
+        store,
+        directory,
+        handle,
+        slot,
+        residents,
+        seen,
+    );
     if refusal != 0 {
         return refusal;
     }
@@ -184,14 +213,15 @@ pub fn page_refusal(
     pool: Pool,
     frames: &[u8],
     store: &[u8],
+    directory: &[u8],
     page: PageNumber,
     residents: &mut Residents,
     seen: &mut Seen,
 ) -> u8
     requires { ⌜ Clear (now residents) (now seen) ⌝ }
-    ensures { λ r. ⌜ (r ≡ firstBroken (pageRules (state pool (now (frames .entry)) (now (store .entry))) page)) × (r ≡ 0 → Handed pool (now (frames .entry)) (now (residents .exit)) (now (seen .exit))) ⌝ }
+    ensures { λ r. ⌜ (r ≡ firstBroken (pageRules (state pool (now (frames .entry)) (now (store .entry)) (now (directory .entry))) page)) × (r ≡ 0 → Handed pool (now (frames .entry)) (now (residents .exit)) (now (seen .exit))) ⌝ }
 {
-    let refusal = table_refusal(pool, frames, store, residents, seen);
+    let refusal = table_refusal(pool, frames, store, directory, residents, seen);
     if refusal != 0 {
         return refusal;
     }

@@ -32,12 +32,13 @@ pub fn list_records(
     pool: Pool,
     frames: &mut [u8],
     store: &mut [u8],
+    directory: &mut [u8],
     block: &[u8],
     text: &mut [u8],
 ) -> Run
     requires { ⌜ 24 * (length (now block) / 16) ≤ length (now text) ⌝ }
     ensures { λ r. ⌜ Counts (r .end) (now (text .exit)) ⌝ }
-    ensures { λ r. ⌜ printed (take (r .end) (now (text .exit))) (state (r .pool) (now (frames .exit)) (now (store .exit))) ≡ listedFrom (length (now (block .entry)) / 16) (now (block .entry)) 0 (printed [] (state pool (now (frames .entry)) (now (store .entry)))) ⌝ }
+    ensures { λ r. ⌜ printed (take (r .end) (now (text .exit))) (state (r .pool) (now (frames .exit)) (now (store .exit)) (now (directory .exit))) ≡ listedFrom (length (now (block .entry)) / 16) (now (block .entry)) 0 (printed [] (state pool (now (frames .entry)) (now (store .entry)) (now (directory .entry)))) ⌝ }
 {
     let count = block.len() / RECORD;
     let mut pool = pool;
@@ -48,7 +49,7 @@ pub fn list_records(
         let mut entry = [0u8; RECORD];
         let at = RECORD * i;
         copy::copy_into(&mut entry, &block[at..at + RECORD]);
-        let line = recording::list_record(pool, frames, store, &entry);
+        let line = recording::list_record(pool, frames, store, directory, &entry);
         odd = std::num::wrapping_add_u64(odd, oddity(line.refusal));
         end = printing::put_line(text, end, line);
         pool = line.pool;

@@ -8,10 +8,12 @@ use page::PageNumber;
 use pool::Pool;
 ghost use Prim.Native.Nat.{_≤_};
 
-// 4 frames, and a store of 16 pages.
+// 4 frames, a store of 16 pages, and the directory.
 const FRAMES: usize = 4 * PageNumber::SIZE;
 
 const STORE: usize = 16 * PageNumber::SIZE;
+
+const DIRECTORY: usize = directory::SIZE;
 
 // The bytes of a block, and of the lines of as many records as it can hold: a line has at most 24.
 const BLOCK: usize = 4096;
@@ -46,6 +48,7 @@ fn list_next(
     turn: Turn,
     frames: &mut [u8; FRAMES],
     store: &mut [u8; STORE],
+    directory: &mut [u8; DIRECTORY],
     block: &mut [u8; BLOCK],
 ) -> Turn
     requires { ⌜ turn .part ≤ 15 ⌝ }
@@ -66,7 +69,7 @@ fn list_next(
     let end = part + n;
     let mut text = [0u8; TEXT];
     let pool = turn.pool;
-    let run = block::list_records(pool, frames, store, &bytes[..end], &mut text);
+    let run = block::list_records(pool, frames, store, directory, &bytes[..end], &mut text);
     let to = run.end;
     if !io::write_all(STDOUT_FILENO, &text[..to]) {
         message::unwritten();
@@ -87,8 +90,9 @@ fn list_next(
 fn main() {
     let mut frames = [0u8; FRAMES];
     let mut store = [0u8; STORE];
+    let mut directory = [0u8; DIRECTORY];
     let mut block = [0u8; BLOCK];
-    let opened = pool::open(&mut frames, &store);
+    let opened = pool::open(&mut frames, &store, &mut directory);
     let pool = opened.pool;
     let mut turn = Turn {
         more: true,
@@ -99,7 +103,7 @@ fn main() {
     };
     let mut turns = u64::MAX;
     while turns > 0 {
-        turn = list_next(turn, &mut frames, &mut store, &mut block);
+        turn = list_next(turn, &mut frames, &mut store, &mut directory, &mut block);
         if !turn.more {
             return;
         }

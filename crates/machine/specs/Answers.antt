@@ -30,7 +30,7 @@ pub data Answer : Type 0 where
   payload : Buffer → ℕ → ℕ → Answer
   -- word: the page number, and whether that page is locked
   number : ℕ → Bool → Answer
-  -- find: the frame, or 'absent', and the frames looked at
+  -- find: the frame, or 'absent', and the entries compared
   frame : ℕ → ℕ → Answer
   nowhere : ℕ → Answer
 
@@ -57,8 +57,8 @@ wordAnswer (Names p l) = number (p .0) l
 wordAnswer (RefusedWord n) = refused n
 
 abbrev pub findAnswer : FindAnswer → Answer
-findAnswer (At f looks) = frame (f .0) looks
-findAnswer (Absent looks) = nowhere looks
+findAnswer (At f compared) = frame (f .0) compared
+findAnswer (Absent compared) = nowhere compared
 findAnswer (RefusedFind n) = refused n
 
 abbrev pub isStore : Buffer → Bool

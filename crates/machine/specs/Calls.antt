@@ -1,5 +1,5 @@
 -- The thirteen calls: each names its rules in checking order, and says what it answers and leaves where none is broken.
-use Prim.Native.Nat.{ℕ, _+_, _-_, _/_}
+use Prim.Native.Nat.{ℕ, _-_, _/_}
 use mathlib.Core.Bool.{Bool}
 use mathlib.Core.List.{List, [], _∷_, _++_}
 use lib.Dec.{eqb, ltb}
@@ -12,6 +12,7 @@ use Rattle.machine.specs.declared.FrameRecord.{FrameRecord}
 use Rattle.machine.specs.declared.Handle.{Handle}
 use Rattle.rules.specs.Tests.{pick, firstBroken, verdict, Rule}
 use Rattle.machine.specs.Machine.{State, state, withPool, recordAt, pageIn, withRecord, pinned, unpinned, dirtied, zeroPool, openedPool, found}
+use Rattle.chains.specs.Chain.{Sought, soughtIn, openedDirectory}
 use Rattle.machine.specs.Moves.{plain, settled, evicted, loaded}
 use Rattle.machine.specs.Sweep.{Swept, firstEmpty, sweep, withSwept}
 use Rattle.machine.specs.Rules.{wordOf, markOf, rule1, rule1-open, rule2, rule3, rule4, rule5, rule6, rule6-link, rule7, rule8, rule9, rule10, rule11, rule13, rule14, rule15, rule16, rule20, rule21, rule22, rule26}
@@ -45,15 +46,16 @@ pageRules s q = poolRules s ++ (rule6 s (q .0) ∷ [])
 
 -- ---- open: "copies page 0 to frame 0 with pins 0, heat 0, clean; all other frames are empty, their bytes kept; the hand is 0"
 
-abbrev pub openRules : List ℕ → List ℕ → List Rule
-openRules fs st = rule1-open fs st ∷ rule16 (length st / pageSize) st ∷ []
+abbrev pub openRules : List ℕ → List ℕ → List ℕ → List Rule
+openRules fs st d = rule1-open fs st d ∷ rule16 (length st / pageSize) st ∷ []
 
+-- request A.3: "Open leaves page 0 alone in it", whatever stood there
 abbrev pub opened : List ℕ → List ℕ → State
-opened fs st = state (openedPool (length fs / pageSize) (length st / pageSize)) (putPage fs 0 (pageOf st 0)) st
+opened fs st = state (openedPool (length fs / pageSize) (length st / pageSize)) (putPage fs 0 (pageOf st 0)) st openedDirectory
 
 -- "Refused, it hands back all-zero records"
-unfoldable pub openCall : List ℕ → List ℕ → Out
-openCall fs st = decide (state zeroPool fs st) (openRules fs st) (out done (opened fs st))
+unfoldable pub openCall : List ℕ → List ℕ → List ℕ → Out
+openCall fs st d = decide (state zeroPool fs st d) (openRules fs st d) (out done (opened fs st))
 
 -- ---- root: "pins page 0"
 
@@ -110,9 +112,13 @@ showCall s h = decide s (handleRules s h) (out (payload inFrames (payloadAt (h .
 
 -- ---- peek: "by page number, hands back the payload from the frame if resident, otherwise from the store"
 
+-- request A.3: "Find and peek use it", the directory
+abbrev pub sought : State → ℕ → Sought
+sought s q = soughtIn (pageIn (s .pool .records)) (s .pool .count) (s .directory) q
+
 unfoldable pub payloadPlace : State → ℕ → Answer
 payloadPlace s q =
-    let f = found (s .pool) q in
+    let f = sought s q .frame in
     pick (ltb f (s .pool .count)) (payload inFrames (payloadAt f) payloadSize) (payload inStore (payloadAt q) payloadSize)
 
 unfoldable pub peekCall : State → PageNumber → Out
@@ -133,7 +139,7 @@ dirtiedBy n r = pick (eqb n 0) r (dirtied r)
 
 abbrev pub written : State → ℕ → ℕ → List ℕ → State
 written s f offset bytes =
-    state (withRecord (s .pool) f (dirtiedBy (length bytes) (recordAt (s .pool .records) f))) (putPayload (s .frames) f offset bytes) (s .store)
+    state (withRecord (s .pool) f (dirtiedBy (length bytes) (recordAt (s .pool .records) f))) (putPayload (s .frames) f offset bytes) (s .store) (s .directory)
 
 unfoldable pub writeCall : State → Handle → ℕ → List ℕ → Out
 writeCall s h offset bytes = decide s (writeRules s h offset (length bytes)) (out done (written s (h .frame .0) offset bytes))
@@ -146,7 +152,7 @@ linkRules s h k q = editRules s h k ++ (rule6-link s (q .0) ∷ rule9 s (q .0) �
 
 -- the word w in slot k of frame f, whose page is then dirty
 abbrev pub relinked : State → ℕ → ℕ → ℕ → State
-relinked s f k w = state (withRecord (s .pool) f (dirtied (recordAt (s .pool .records) f))) (putSlot (s .frames) f k w) (s .store)
+relinked s f k w = state (withRecord (s .pool) f (dirtied (recordAt (s .pool .records) f))) (putSlot (s .frames) f k w) (s .store) (s .directory)
 
 unfoldable pub linkCall : State → Handle → ℕ → PageNumber → Bool → Out
 linkCall s h k q l = decide s (linkRules s h k q) (out done (relinked s (h .frame .0) k (marked l (numberWord (q .0)))))
@@ -176,12 +182,11 @@ settleCall s = decide s (poolRules s) (out done (settled s))
 
 -- ---- find: "by page number, gives the frame or 'absent', which counts as accepted"
 
--- request A.2: "it is to go from frame 0 on and end at the frame that holds it", as `found` does. "Its answer gains the frames looked at: that frame's index plus 1, or F if absent."
+-- request A.3: "Find's answer gains, in place of A.2's count, the entries compared"
 unfoldable pub foundAnswer : State → ℕ → Answer
 foundAnswer s q =
-    let f = found (s .pool) q in
-    let F = s .pool .count in
-    pick (ltb f F) (frame f (f + 1)) (nowhere F)
+    let a = sought s q in
+    pick (ltb (a .frame) (s .pool .count)) (frame (a .frame) (a .compared)) (nowhere (a .compared))
 
 unfoldable pub findCall : State → PageNumber → Out
 findCall s q = decide s (pageRules s q) (out (foundAnswer s (q .0)) s)

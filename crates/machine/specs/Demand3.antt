@@ -16,9 +16,9 @@ use Rattle.machine.specs.Rules.{rule14}
 use Rattle.machine.specs.Calls.{openCall, rootCall, fixCall, showCall, peekCall, wordCall, settleCall, findCall, fixEntryRules}
 use Rattle.machine.specs.History.{Call, root, fix, Point, isPinned, accepted, row, next, start, run, AllBytes}
 
--- "A page is resident where find would give a frame, and that is its frame.", whatever count stands beside it (request A.2)
+-- "A page is resident where find would give a frame, and that is its frame.", whatever count stands beside it (request A.3)
 abbrev pub InFrame : Point → ℕ → ℕ → Type 0
-InFrame x p f = (looks : ℕ) × (findCall (x .now) (pageNumber p) .answer ≡ frame f looks)
+InFrame x p f = (compared : ℕ) × (findCall (x .now) (pageNumber p) .answer ≡ frame f compared)
 
 abbrev pub Resident : Point → ℕ → Type 0
 Resident x p = (f : ℕ) × InFrame x p f
@@ -93,8 +93,8 @@ pub record Holds (x : Point) : Type 0 where
   -- 1, 2 and 14 are never answered, so that 'no rule tested before 15' hides nothing
   pub neverRefused : (c : Call) (n : ℕ) → row c .out (x .now) .answer ≡ refused n → (n ≢ 1) × (n ≢ 2) × (n ≢ 14)
 
--- from an open that is accepted, over any frames and store of bytes, after any list of calls
+-- from an open that is accepted, over any frames and store of bytes and any directory, after any list of calls
 abbrev pub Demand3 : Type 0
 Demand3 =
-    (frames store : List ℕ) → Octets frames → Octets store → openCall frames store .answer ≡ done
-    → (cs : List Call) → AllBytes cs → Holds (run cs (start (openCall frames store .left)))
+    (frames store directory : List ℕ) → Octets frames → Octets store → openCall frames store directory .answer ≡ done
+    → (cs : List Call) → AllBytes cs → Holds (run cs (start (openCall frames store directory .left)))

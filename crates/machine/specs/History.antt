@@ -13,7 +13,7 @@ use Rattle.machine.specs.Machine.{State, state}
 use Rattle.machine.specs.Answers.{Answer, refused, done, handle, payload, number, frame, nowhere, Out}
 use Rattle.machine.specs.Calls.{openCall, rootCall, fixCall, unfixCall, showCall, peekCall, wordCall, writeCall, linkCall, unlinkCall, evictCall, settleCall, findCall}
 
--- ---- a call with its arguments apart from records, frames and store. Calls added later join here.
+-- ---- a call with its arguments apart from records, frames, store and directory. Calls added later join here.
 pub data Call : Type 0 where
   -- open, on the buffers as they then stand
   reopen : Call
@@ -76,7 +76,7 @@ abbrev pub quiet : (State → Out) → Row
 quiet call = record { out = call; onMap = λ m. m; onBalance = λ b. b; anew = false; bytes = [] }
 
 abbrev pub row : Call → Row
-row reopen = record { out = λ s. openCall (s .frames) (s .store); onMap = λ m. m; onBalance = λ b. b; anew = true; bytes = [] }
+row reopen = record { out = λ s. openCall (s .frames) (s .store) (s .directory); onMap = λ m. m; onBalance = λ b. b; anew = true; bytes = [] }
 row root = quiet rootCall
 row (fix h k) = quiet (λ s. fixCall s h k)
 row (unfix h) = record { out = λ s. unfixCall s h; onMap = λ m. m; onBalance = unfixed (h .page .0); anew = false; bytes = [] }
@@ -134,7 +134,7 @@ continued r o x = record {
 abbrev pub reopened : Out → Point → Point
 reopened o x =
     pick (accepted (o .answer)) (start (o .left))
-    (record { now = state (x .now .pool) (o .left .frames) (o .left .store); map = x .map; balance = x .balance })
+    (record { now = state (x .now .pool) (o .left .frames) (o .left .store) (o .left .directory); map = x .map; balance = x .balance })
 
 unfoldable pub next : Call → Point → Point
 next c x = let o = row c .out (x .now) in pick (row c .anew) (reopened o x) (continued (row c) o x)

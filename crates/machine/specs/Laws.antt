@@ -4,6 +4,7 @@ pub mod AgreementFacts
 pub mod Flags
 pub mod Parents
 pub mod FoundLaws
+pub mod DirectoryFacts
 pub mod Standings
 pub mod SweepLaws
 pub mod Turns
@@ -15,5 +16,5 @@ pub mod ResidentWords
 pub mod LinkOrder
 pub mod EvictReasons
 pub mod WarmPages
-pub mod FindWalk
+pub mod FindByChain
 pub mod BitThirty

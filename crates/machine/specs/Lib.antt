@@ -1,6 +1,7 @@
 -- Document 01 and the requests as definitions: what a reader needs to know what is promised.
 pub mod Machine
 pub mod Agreement
+pub mod Directory
 pub mod Soundness
 pub mod Moves
 pub mod Sweep
@@ -11,7 +12,8 @@ pub mod Calls
 pub mod History
 pub mod Demand3
 pub mod LockedPages
--- Cases computed from them, laws of them for the code and the theorem, and the proofs of demand 3 and of what is said of locked pages.
+pub mod ByChain
+-- Cases computed from them, laws of them for the code and the theorem, and the proofs of demand 3 and of what is said of locked pages and of the directory.
 pub mod Tables
 pub mod Laws
 pub mod Theorem

@@ -73,11 +73,11 @@ pub record LocksHold (x : Point) : Type 0 where
   -- the root is never locked, since no word names it
   pub rootFree : Locked x 0 → ⊥
 
--- from an open that is accepted, over any frames and store of bytes, after any list of calls
+-- from an open that is accepted, over any frames and store of bytes and any directory, after any list of calls
 abbrev pub LockedPages : Type 0
 LockedPages =
-    (frames store : List ℕ) → Octets frames → Octets store → openCall frames store .answer ≡ done
-    → (cs : List Call) → AllBytes cs → LocksHold (run cs (start (openCall frames store .left)))
+    (frames store directory : List ℕ) → Octets frames → Octets store → openCall frames store directory .answer ≡ done
+    → (cs : List Call) → AllBytes cs → LocksHold (run cs (start (openCall frames store directory .left)))
 
 -- ---- "in the listing never"
 
@@ -112,5 +112,5 @@ pub record NoneLocked (x : Point) : Type 0 where
 
 abbrev pub NeverLocked : Type 0
 NeverLocked =
-    (frames store : List ℕ) → Octets frames → Octets store → openCall frames store .answer ≡ done → Unmarked store
-    → (cs : List Call) → AllBytes cs → WithoutMarks cs → NoneLocked (run cs (start (openCall frames store .left)))
+    (frames store directory : List ℕ) → Octets frames → Octets store → openCall frames store directory .answer ≡ done → Unmarked store
+    → (cs : List Call) → AllBytes cs → WithoutMarks cs → NoneLocked (run cs (start (openCall frames store directory .left)))

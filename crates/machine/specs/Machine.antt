@@ -1,4 +1,4 @@
--- The machine: records, frames and store as values.
+-- The machine: records, frames, store and directory as values.
 use Prim.Native.Nat.{ℕ, zero, suc, _+_, _-_, min}
 use mathlib.Core.Bool.{Bool}
 use mathlib.Core.List.{List}
@@ -15,12 +15,13 @@ pub record State : Type 0 where
   pub pool : Pool
   pub frames : List ℕ
   pub store : List ℕ
+  pub directory : List ℕ
 
-abbrev pub state : Pool → List ℕ → List ℕ → State
-state p fs st = record { pool = p; frames = fs; store = st }
+abbrev pub state : Pool → List ℕ → List ℕ → List ℕ → State
+state p fs st d = record { pool = p; frames = fs; store = st; directory = d }
 
 abbrev pub withPool : State → Pool → State
-withPool s p = state p (s .frames) (s .store)
+withPool s p = state p (s .frames) (s .store) (s .directory)
 
 -- ---- kinds of count
 

@@ -8,6 +8,7 @@ use Rattle.page.specs.Page.{slot, putSlot, pageOf, putPage}
 use Rattle.machine.specs.declared.FrameRecord.{FrameRecord}
 use Rattle.machine.specs.declared.Pool.{Pool}
 use Rattle.rules.specs.Tests.{pick}
+use Rattle.chains.specs.Chain.{bucketOf, entered, takenOut}
 use Rattle.machine.specs.Machine.{State, state, blank, loadedRecord, cleaned, isDirty, recordAt, pageIn, withRecord, withRecords}
 
 -- ---- "The image of a resident page is its bytes with each swizzled word replaced by the number of the page in that frame." Request A.8: "settling .. carry it", the mark
@@ -50,7 +51,7 @@ cleanedTo rs (suc n) = set (cleanedTo rs n) n (cleaned (recordAt (cleanedTo rs n
 unfoldable pub settled : State → State
 settled s =
     state (withRecords (s .pool) (cleanedTo (s .pool .records) (s .pool .count))) (s .frames)
-    (writtenOutTo (s .pool .records) (s .frames) (s .store) (s .pool .count))
+    (writtenOutTo (s .pool .records) (s .frames) (s .store) (s .pool .count)) (s .directory)
 
 -- ---- the two changes of which frame holds what
 
@@ -60,17 +61,17 @@ vacate p f = withRecord p f blank
 abbrev pub occupy : Pool → ℕ → FrameRecord → Pool
 occupy p e r = withRecord p e r
 
--- "a dirty page's image goes to the store; the parent's word becomes the page number without dirtying the parent; the frame is empty, its bytes kept, and the hand stays"; request A.8: "eviction .. carry it"
+-- "a dirty page's image goes to the store; the parent's word becomes the page number without dirtying the parent; the frame is empty, its bytes kept, and the hand stays"; request A.8: "eviction .. carry it". Request A.3: "an entry .. taken out on eviction"
 unfoldable pub evicted : State → ℕ → State
 evicted s f =
     let r = recordAt (s .pool .records) f in
     state (vacate (s .pool) f)
     (putSlot (s .frames) (r .parent .0) (r .slot) (renamed (slot (s .frames) (r .parent .0) (r .slot)) (numberWord (r .page .0))))
-    (writtenOut (s .pool .records) (s .frames) (s .store) f)
+    (writtenOut (s .pool .records) (s .frames) (s .store) f) (takenOut (s .directory) (bucketOf (r .page .0)) f)
 
--- "the page is loaded with pins 1, heat 1, clean, its parent recorded and the parent's word swizzled": page q into frame e, for slot k of frame f. Request A.8: "Loading .. carry it"
+-- "the page is loaded with pins 1, heat 1, clean, its parent recorded and the parent's word swizzled": page q into frame e, for slot k of frame f. Request A.8: "Loading .. carry it". Request A.3: "an entry added at its chain's head on loading"
 unfoldable pub loaded : State → ℕ → ℕ → ℕ → ℕ → State
 loaded s f k e q =
     state (occupy (s .pool) e (loadedRecord q f k))
     (putSlot (putPage (s .frames) e (pageOf (s .store) q)) f k (renamed (slot (s .frames) f k) (frameWord e)))
-    (s .store)
+    (s .store) (entered (s .directory) (bucketOf q) e)

@@ -11,6 +11,8 @@ use Rattle.machine.specs.declared.Pool.{Pool}
 use Rattle.machine.specs.declared.Handle.{Handle}
 use Rattle.rules.specs.Tests.{_and_, _or_, Rule}
 use Rattle.machine.specs.Machine.{State, isUsed, recordAt, isRoot, found}
+use Rattle.chains.specs.Chain.{directorySize}
+use Rattle.machine.specs.Directory.{chainsAgree}
 use Rattle.machine.specs.Agreement.{parentOf, parentSlotOf, agree}
 use Rattle.machine.specs.Soundness.{sound}
 use Rattle.machine.specs.Sweep.{firstEmpty, childless, sweep}
@@ -20,6 +22,10 @@ use Rattle.machine.specs.Naming.{named, loadable}
 unfoldable pub lengthsFit : ℕ → ℕ → List ℕ → List ℕ → Bool
 lengthsFit F N fs st =
     leb leastFrames F and leb F mostFrames and leb 1 N and leb N mostPages and eqb (length fs) (pageSize * F) and eqb (length st) (pageSize * N)
+
+-- request A.3: "a further buffer of 131 bytes"
+unfoldable pub directoryFits : List ℕ → Bool
+directoryFits d = eqb (length d) directorySize
 
 -- the handle's frame is below F and holds its page, and its pins are not 0
 unfoldable pub handleFits : Pool → Handle → Bool
@@ -44,17 +50,17 @@ locked s f = not (isRoot f) and lock (s .frames) (parentOf (s .pool) f) (parentS
 
 -- ---- the table
 
--- 1. "Frames or store have a length other than those above, or other than at opening."
+-- 1. "Frames or store have a length other than those above, or other than at opening." Request A.3: "A directory of wrong length falls under refusal 1"
 abbrev pub rule1 : State → Rule
-rule1 s = (1, lengthsFit (s .pool .count) (s .pool .pages) (s .frames) (s .store))
+rule1 s = (1, lengthsFit (s .pool .count) (s .pool .pages) (s .frames) (s .store) and directoryFits (s .directory))
 
 -- 1 for open, which is handed no records: F and N are the lengths over 256
-abbrev pub rule1-open : List ℕ → List ℕ → Rule
-rule1-open fs st = (1, lengthsFit (length fs / pageSize) (length st / pageSize) fs st)
+abbrev pub rule1-open : List ℕ → List ℕ → List ℕ → Rule
+rule1-open fs st d = (1, lengthsFit (length fs / pageSize) (length st / pageSize) fs st and directoryFits d)
 
--- 2. "Records and frames don't agree (every call but open)." Request A.8: so where bit 30 stands alone in an occupied frame
+-- 2. "Records and frames don't agree (every call but open)." Request A.8: so where bit 30 stands alone in an occupied frame. Request A.3: a directory "whose chains don't give exactly the resident pages of their remainders .. under 2"
 abbrev pub rule2 : State → Rule
-rule2 s = (2, agree (s .pool) (s .frames))
+rule2 s = (2, agree (s .pool) (s .frames) and chainsAgree (s .pool) (s .directory))
 
 -- 3. "The handle's frame index isn't below F, that frame doesn't hold its page, or its pins are 0."
 abbrev pub rule3 : State → Handle → Rule

@@ -13,3 +13,4 @@ pub mod AgreeRows
 pub mod RuleRows
 pub mod OrderRows
 pub mod LockRows
+pub mod DirectoryRows

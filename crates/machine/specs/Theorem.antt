@@ -1,4 +1,4 @@
--- The proof of demand 3: the machine as functions and the invariant; each effect keeps it; what it makes of the calls' tests; what holds at a point; the theorem; and, from the same invariant, what is said of locked pages.
+-- The proof of demand 3: the machine as functions and the invariant; each effect keeps it; what it makes of the calls' tests; what holds at a point; the theorem; and, from the same invariant, what is said of locked pages and of the directory.
 pub mod View
 pub mod Invariant
 pub mod KeepEffect
@@ -9,6 +9,7 @@ pub mod PinsEffect
 pub mod ImageOut
 pub mod RecordChange
 pub mod SlotChange
+pub mod Chains
 pub mod Holders
 pub mod Reads
 pub mod StateFit
@@ -39,3 +40,4 @@ pub mod LocksLast
 pub mod LockedHolds
 pub mod NeverLockedHolds
 pub mod PinsBalance
+pub mod DirectoryHolds

@@ -57,7 +57,7 @@ pub enum WordAnswer {
     Refused(u8),
 }
 
-// The answer of find: the frame, or that there is none, each with the frames looked at; or the refusal's number.
+// The answer of find: the frame, or that there is none, each with the entries of the directory compared; or the refusal's number.
 pub enum FindAnswer {
     At(FrameIndex, u16),
     Absent(u16),

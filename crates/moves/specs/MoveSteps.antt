@@ -2,7 +2,7 @@
 use Prim.Native.Nat.{ℕ, _+_, _*_, _-_, _<_, _≤_}
 use mathlib.Core.Path.{_≡_, refl, sym, ap, _∙_}
 use mathlib.Core.Bool.{true, false}
-use mathlib.Core.List.{List}
+use mathlib.Core.List.{List, []}
 use native.Mathlib.Omega.{arith}
 use native.Mathlib.Numerals.{add-one}
 use lib.ListN.{length, take, drop}
@@ -69,7 +69,15 @@ writable s f h l =
     let r = h .inRange f l in
     record { placed = record { frame = omega arith; bytes = omega arith; place = omega arith }; words = λ d k. h .words f k l (h .dirtyUsed f l d) }
 
--- ---- settling, frame by frame
+-- ---- settling, frame by frame. It leaves the directory as it is, and asks nothing of it.
+
+-- what is ready is so with another directory
+pub ready-with : (s : State) (d : List ℕ) → Ready s → Ready (state (s .pool) (s .frames) (s .store) d)
+ready-with s d h = record { sized = h .sized; hand = h .hand; inRange = h .inRange; dirtyUsed = h .dirtyUsed; words = h .words }
+
+-- the pool p with the frames fs and the store st was settled, whatever the directory, which made n and ts of it
+abbrev pub SettledAs : Pool → List ℕ → List ℕ → Pool → List ℕ → Type 0
+SettledAs p fs st n ts = (d : List ℕ) → state n fs ts d ≡ settled (state p fs st d)
 
 -- of the pool p and the store st, the first f frames were settled, which made n and ts of them
 pub record Settling (p n : Pool) (fs st ts : List ℕ) (f : ℕ) : Type 0 where
@@ -84,20 +92,20 @@ module _ {p n : Pool} {fs st ss : List ℕ} {f : ℕ} (S : Settling p n fs st ss
   same-record : recordAt (n .records) f ≡ recordAt (p .records) f
   same-record = ap (λ (m : Pool). recordAt (m .records) f) (S .clean) ∙ cleanedTo-above (p .records) f f (omega arith)
 
-  pub settling-writable : Ready (state p fs st) → f < p .count → length ss ≡ length st → Writable (recordAt (n .records) f) fs ss f
+  pub settling-writable : Ready (state p fs st []) → f < p .count → length ss ≡ length st → Writable (recordAt (n .records) f) fs ss f
   settling-writable h l k =
-      let w = writable (state p fs st) f h l in
+      let w = writable (state p fs st []) f h l in
       rw same-record (record { placed = record { frame = w .placed .frame; bytes = w .placed .bytes; place = rw k (w .placed .place) }; words = w .words })
 
-  pub settling-more : {t ts : List ℕ} {r : FrameRecord} → Ready (state p fs st) → f < p .count → Residents (p .records) t → ts ≡ writtenOutBy (pageBy t) (recordAt (n .records) f) fs ss f
+  pub settling-more : {t ts : List ℕ} {r : FrameRecord} → Ready (state p fs st []) → f < p .count → Residents (p .records) t → ts ≡ writtenOutBy (pageBy t) (recordAt (n .records) f) fs ss f
       → r ≡ cleaned (recordAt (n .records) f) → Settling p (withRecord n f r) fs st ts (f + 1)
   settling-more {t} {ts} h l residents e d =
-      let by = written-by-table (p .records) t (recordAt (p .records) f) fs ss f residents (writable (state p fs st) f h l .words) in
+      let by = written-by-table (p .records) t (recordAt (p .records) f) fs ss f residents (writable (state p fs st []) f h l .words) in
       record {
         clean = rw (d, S .clean, add-one f, cleanedTo-suc (p .records) f);
         written = rw (e, same-record, by, S .written, add-one f, writtenOutTo-suc (p .records) fs st f);
       }
 
-  pub is-settled : f ≡ p .count → state n fs ss ≡ settled (state p fs st)
+  pub is-settled : f ≡ p .count → SettledAs p fs st n ss
   unfolding settled
-  is-settled e = rw (S .clean, S .written, e)
+  is-settled e d = rw (S .clean, S .written, e)

@@ -33,7 +33,7 @@ unfolding loadableBy
 loadable-empty seen st n q t = sym (true-every slotCount _ (λ k l. fresh-zero (noted seen) (pageWords st q) n k (no-word (pageWords st q) t k l)))
 
 -- what resident pages name is nothing to the store
-storeless : (s : State) (x : ℕ) → namedByResident (state (s .pool) (s .frames) []) x ≡ namedByResident s x
+storeless : (s : State) (x : ℕ) → namedByResident (state (s .pool) (s .frames) [] []) x ≡ namedByResident s x
 unfolding namedByResident
 storeless s x = refl
 

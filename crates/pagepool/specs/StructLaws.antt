@@ -8,5 +8,5 @@ use Rattle.machine.specs.Answers.{Out, out, fixAnswer}
 use Rattle.pagepool.specs.declared.answers.Fixed.{Fixed}
 use Rattle.pagepool.specs.Structs.{fixedOf, fixedOut}
 
-pub fixed-out : (x : Fix) (fs st : List ℕ) {r : Fixed} {o : Out} → r ≡ fixedOf (fixAnswer (x .answer)) (x .pool) → out (fixAnswer (x .answer)) (state (x .pool) fs st) ≡ o → record { fixed = r; frames = fs; store = st } ≡ fixedOut o
-fixed-out x fs st e i = rw (e, ← i)
+pub fixed-out : (x : Fix) (fs st d : List ℕ) {r : Fixed} {o : Out} → r ≡ fixedOf (fixAnswer (x .answer)) (x .pool) → out (fixAnswer (x .answer)) (state (x .pool) fs st d) ≡ o → record { fixed = r; frames = fs; store = st; directory = d } ≡ fixedOut o
+fixed-out x fs st d e i = rw (e, ← i)

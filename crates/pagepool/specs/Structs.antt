@@ -20,17 +20,18 @@ fixedOf (refused n) x = fixedWith n 0 0 0 x
 fixedOf done x = fixedWith 0 0 0 0 x
 fixedOf (payload b a n) x = fixedWith 0 0 0 0 x
 fixedOf (number p l) x = fixedWith 0 0 0 0 x
-fixedOf (frame f looks) x = fixedWith 0 0 0 0 x
-fixedOf (nowhere looks) x = fixedWith 0 0 0 0 x
+fixedOf (frame f compared) x = fixedWith 0 0 0 0 x
+fixedOf (nowhere compared) x = fixedWith 0 0 0 0 x
 
--- the struct, with the frames and the store that the call leaves
+-- the struct, with the frames, the store and the directory that the call leaves
 pub record FixedOut : Type 0 where
   pub fixed : Fixed
   pub frames : List ℕ
   pub store : List ℕ
+  pub directory : List ℕ
 
 abbrev pub fixedOut : Out → FixedOut
-fixedOut o = record { fixed = fixedOf (o .answer) (o .left .pool); frames = o .left .frames; store = o .left .store }
+fixedOut o = record { fixed = fixedOf (o .answer) (o .left .pool); frames = o .left .frames; store = o .left .store; directory = o .left .directory }
 
 -- ---- word, which gives the mark beside the number
 
@@ -43,17 +44,17 @@ namedOf (refused n) = noName n
 namedOf done = noName 0
 namedOf (handle f p looks) = noName 0
 namedOf (payload b a n) = noName 0
-namedOf (frame f looks) = noName 0
-namedOf (nowhere looks) = noName 0
+namedOf (frame f compared) = noName 0
+namedOf (nowhere compared) = noName 0
 
 -- ---- find
 
 abbrev pub noFrame : ℕ → ℕ → Found
-noFrame n looks = record { refusal = n; present = false; frame = frameIndex 0; looks = looks }
+noFrame n compared = record { refusal = n; present = false; frame = frameIndex 0; compared = compared }
 
 abbrev pub foundOf : Answer → Found
-foundOf (frame f looks) = record { refusal = 0; present = true; frame = frameIndex f; looks = looks }
-foundOf (nowhere looks) = noFrame 0 looks
+foundOf (frame f compared) = record { refusal = 0; present = true; frame = frameIndex f; compared = compared }
+foundOf (nowhere compared) = noFrame 0 compared
 foundOf (refused n) = noFrame n 0
 foundOf done = noFrame 0 0
 foundOf (handle f p looks) = noFrame 0 0

@@ -28,13 +28,13 @@ pub struct Named {
     pub page: PageNumber,
 }
 
-// The answer of find: whether the page is resident, its frame, and the frames looked at.
+// The answer of find: whether the page is resident, its frame, and the entries compared.
 #[repr(C)]
 pub struct Found {
     pub refusal: u8,
     pub present: bool,
     pub frame: FrameIndex,
-    pub looks: u16,
+    pub compared: u16,
 }
 
 // The struct for an answer of root or fix.
@@ -88,23 +88,23 @@ pub fn from_find(answer: FindAnswer) -> Found
     ensures { λ r. ⌜ r ≡ foundOf (findAnswer answer) ⌝ }
 {
     match answer {
-        FindAnswer::At(frame, looks) => Found {
+        FindAnswer::At(frame, compared) => Found {
             refusal: 0,
             present: true,
             frame,
-            looks,
+            compared,
         },
-        FindAnswer::Absent(looks) => Found {
+        FindAnswer::Absent(compared) => Found {
             refusal: 0,
             present: false,
             frame: FrameIndex(0),
-            looks,
+            compared,
         },
         FindAnswer::Refused(refusal) => Found {
             refusal,
             present: false,
             frame: FrameIndex(0),
-            looks: 0,
+            compared: 0,
         },
     }
 }

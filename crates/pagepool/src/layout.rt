@@ -89,7 +89,7 @@ pub extern "C" fn pool_layout_found() -> Found {
         refusal: 205,
         present: true,
         frame: FrameIndex(206),
-        looks: 4004,
+        compared: 4004,
     }
 }
 

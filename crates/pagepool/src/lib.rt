@@ -27,18 +27,18 @@ ghost use Rattle.pagepool.specs.Structs.{fixedOut, namedOf, foundOf};
 
 // Brings page 0 into frame 0 and gives the records of a new pool; refused, all-zero ones.
 #[no_mangle]
-pub extern "C" fn pool_open(frames: &mut [u8], store: &[u8]) -> Done
-    ensures { λ r. ⌜ out (doneAnswer (r .refusal)) (state (r .pool) (now (frames .exit)) (now (store .entry))) ≡ openCall (now (frames .entry)) (now (store .entry)) ⌝ }
+pub extern "C" fn pool_open(frames: &mut [u8], store: &[u8], directory: &mut [u8]) -> Done
+    ensures { λ r. ⌜ out (doneAnswer (r .refusal)) (state (r .pool) (now (frames .exit)) (now (store .entry)) (now (directory .exit))) ≡ openCall (now (frames .entry)) (now (store .entry)) (now (directory .entry)) ⌝ }
 {
-    pool::open(frames, store)
+    pool::open(frames, store, directory)
 }
 
 // Pins page 0.
 #[no_mangle]
-pub extern "C" fn pool_root(pool: Pool, frames: &[u8], store: &[u8]) -> Fixed
-    ensures { λ r. ⌜ record { fixed = r; frames = now (frames .entry); store = now (store .entry) } ≡ fixedOut (rootCall (state pool (now (frames .entry)) (now (store .entry)))) ⌝ }
+pub extern "C" fn pool_root(pool: Pool, frames: &[u8], store: &[u8], directory: &[u8]) -> Fixed
+    ensures { λ r. ⌜ record { fixed = r; frames = now (frames .entry); store = now (store .entry); directory = now (directory .entry) } ≡ fixedOut (rootCall (state pool (now (frames .entry)) (now (store .entry)) (now (directory .entry)))) ⌝ }
 {
-    answers::from_fix(pool::root(pool, frames, store))
+    answers::from_fix(pool::root(pool, frames, store, directory))
 }
 
 // Pins the page that a slot of a handle's page names.
@@ -47,36 +47,55 @@ pub extern "C" fn pool_fix(
     pool: Pool,
     frames: &mut [u8],
     store: &mut [u8],
+    directory: &mut [u8],
     handle: Handle,
     slot: usize,
 ) -> Fixed
-    ensures { λ r. ⌜ record { fixed = r; frames = now (frames .exit); store = now (store .exit) } ≡ fixedOut (fixCall (state pool (now (frames .entry)) (now (store .entry))) handle slot) ⌝ }
+    ensures { λ r. ⌜ record { fixed = r; frames = now (frames .exit); store = now (store .exit); directory = now (directory .exit) } ≡ fixedOut (fixCall (state pool (now (frames .entry)) (now (store .entry)) (now (directory .entry))) handle slot) ⌝ }
 {
-    answers::from_fix(pool::fix(pool, frames, store, handle, slot))
+    answers::from_fix(pool::fix(pool, frames, store, directory, handle, slot))
 }
 
 // Takes one pin off a handle's page.
 #[no_mangle]
-pub extern "C" fn pool_unfix(pool: Pool, frames: &[u8], store: &[u8], handle: Handle) -> Done
-    ensures { λ r. ⌜ out (doneAnswer (r .refusal)) (state (r .pool) (now (frames .entry)) (now (store .entry))) ≡ unfixCall (state pool (now (frames .entry)) (now (store .entry))) handle ⌝ }
+pub extern "C" fn pool_unfix(
+    pool: Pool,
+    frames: &[u8],
+    store: &[u8],
+    directory: &[u8],
+    handle: Handle,
+) -> Done
+    ensures { λ r. ⌜ out (doneAnswer (r .refusal)) (state (r .pool) (now (frames .entry)) (now (store .entry)) (now (directory .entry))) ≡ unfixCall (state pool (now (frames .entry)) (now (store .entry)) (now (directory .entry))) handle ⌝ }
 {
-    pool::unfix(pool, frames, store, handle)
+    pool::unfix(pool, frames, store, directory, handle)
 }
 
 // Where the payload of the handle's page lies, for the host to read in its own buffer.
 #[no_mangle]
-pub extern "C" fn pool_show(pool: Pool, frames: &[u8], store: &[u8], handle: Handle) -> Place
-    ensures { λ r. ⌜ r ≡ placeOf (showCall (state pool (now (frames .entry)) (now (store .entry))) handle .answer) ⌝ }
+pub extern "C" fn pool_show(
+    pool: Pool,
+    frames: &[u8],
+    store: &[u8],
+    directory: &[u8],
+    handle: Handle,
+) -> Place
+    ensures { λ r. ⌜ r ≡ placeOf (showCall (state pool (now (frames .entry)) (now (store .entry)) (now (directory .entry))) handle .answer) ⌝ }
 {
-    pool::show_place(pool, frames, store, handle)
+    pool::show_place(pool, frames, store, directory, handle)
 }
 
 // Where the payload of a page lies, in its frame if it is resident, otherwise in the store.
 #[no_mangle]
-pub extern "C" fn pool_peek(pool: Pool, frames: &[u8], store: &[u8], page: PageNumber) -> Place
-    ensures { λ r. ⌜ r ≡ placeOf (peekCall (state pool (now (frames .entry)) (now (store .entry))) page .answer) ⌝ }
+pub extern "C" fn pool_peek(
+    pool: Pool,
+    frames: &[u8],
+    store: &[u8],
+    directory: &[u8],
+    page: PageNumber,
+) -> Place
+    ensures { λ r. ⌜ r ≡ placeOf (peekCall (state pool (now (frames .entry)) (now (store .entry)) (now (directory .entry))) page .answer) ⌝ }
 {
-    pool::peek_place(pool, frames, store, page)
+    pool::peek_place(pool, frames, store, directory, page)
 }
 
 // The page number in a slot of the handle's page, and whether that page is locked.
@@ -85,12 +104,13 @@ pub extern "C" fn pool_word(
     pool: Pool,
     frames: &[u8],
     store: &[u8],
+    directory: &[u8],
     handle: Handle,
     slot: usize,
 ) -> Named
-    ensures { λ r. ⌜ r ≡ namedOf (wordCall (state pool (now (frames .entry)) (now (store .entry))) handle slot .answer) ⌝ }
+    ensures { λ r. ⌜ r ≡ namedOf (wordCall (state pool (now (frames .entry)) (now (store .entry)) (now (directory .entry))) handle slot .answer) ⌝ }
 {
-    answers::from_word(pool::word(pool, frames, store, handle, slot))
+    answers::from_word(pool::word(pool, frames, store, directory, handle, slot))
 }
 
 // Puts bytes at a payload offset of the handle's page.
@@ -99,13 +119,14 @@ pub extern "C" fn pool_write(
     pool: Pool,
     frames: &mut [u8],
     store: &[u8],
+    directory: &[u8],
     handle: Handle,
     offset: usize,
     bytes: &[u8],
 ) -> Done
-    ensures { λ r. ⌜ out (doneAnswer (r .refusal)) (state (r .pool) (now (frames .exit)) (now (store .entry))) ≡ writeCall (state pool (now (frames .entry)) (now (store .entry))) handle offset (now (bytes .entry)) ⌝ }
+    ensures { λ r. ⌜ out (doneAnswer (r .refusal)) (state (r .pool) (now (frames .exit)) (now (store .entry)) (now (directory .entry))) ≡ writeCall (state pool (now (frames .entry)) (now (store .entry)) (now (directory .entry))) handle offset (now (bytes .entry)) ⌝ }
 {
-    pool::write(pool, frames, store, handle, offset, bytes)
+    pool::write(pool, frames, store, directory, handle, offset, bytes)
 }
 
 // Stores a page number in an empty slot of the handle's page, with the mark of a locked page or without.
@@ -114,14 +135,15 @@ pub extern "C" fn pool_link(
     pool: Pool,
     frames: &mut [u8],
     store: &[u8],
+    directory: &[u8],
     handle: Handle,
     slot: usize,
     page: PageNumber,
     locked: bool,
 ) -> Done
-    ensures { λ r. ⌜ out (doneAnswer (r .refusal)) (state (r .pool) (now (frames .exit)) (now (store .entry))) ≡ linkCall (state pool (now (frames .entry)) (now (store .entry))) handle slot page locked ⌝ }
+    ensures { λ r. ⌜ out (doneAnswer (r .refusal)) (state (r .pool) (now (frames .exit)) (now (store .entry)) (now (directory .entry))) ≡ linkCall (state pool (now (frames .entry)) (now (store .entry)) (now (directory .entry))) handle slot page locked ⌝ }
 {
-    pool::link(pool, frames, store, handle, slot, page, locked)
+    pool::link(pool, frames, store, directory, handle, slot, page, locked)
 }
 
 // Clears a slot of the handle's page.
@@ -130,12 +152,13 @@ pub extern "C" fn pool_unlink(
     pool: Pool,
     frames: &mut [u8],
     store: &[u8],
+    directory: &[u8],
     handle: Handle,
     slot: usize,
 ) -> Done
-    ensures { λ r. ⌜ out (doneAnswer (r .refusal)) (state (r .pool) (now (frames .exit)) (now (store .entry))) ≡ unlinkCall (state pool (now (frames .entry)) (now (store .entry))) handle slot ⌝ }
+    ensures { λ r. ⌜ out (doneAnswer (r .refusal)) (state (r .pool) (now (frames .exit)) (now (store .entry)) (now (directory .entry))) ≡ unlinkCall (state pool (now (frames .entry)) (now (store .entry)) (now (directory .entry))) handle slot ⌝ }
 {
-    pool::unlink(pool, frames, store, handle, slot)
+    pool::unlink(pool, frames, store, directory, handle, slot)
 }
 
 // Takes a page out of its frame.
@@ -144,27 +167,34 @@ pub extern "C" fn pool_evict(
     pool: Pool,
     frames: &mut [u8],
     store: &mut [u8],
+    directory: &mut [u8],
     page: PageNumber,
 ) -> Done
-    ensures { λ r. ⌜ out (doneAnswer (r .refusal)) (state (r .pool) (now (frames .exit)) (now (store .exit))) ≡ evictCall (state pool (now (frames .entry)) (now (store .entry))) page ⌝ }
+    ensures { λ r. ⌜ out (doneAnswer (r .refusal)) (state (r .pool) (now (frames .exit)) (now (store .exit)) (now (directory .exit))) ≡ evictCall (state pool (now (frames .entry)) (now (store .entry)) (now (directory .entry))) page ⌝ }
 {
-    pool::evict(pool, frames, store, page)
+    pool::evict(pool, frames, store, directory, page)
 }
 
 // Writes the image of each dirty page to the store.
 #[no_mangle]
-pub extern "C" fn pool_settle(pool: Pool, frames: &[u8], store: &mut [u8]) -> Done
-    ensures { λ r. ⌜ out (doneAnswer (r .refusal)) (state (r .pool) (now (frames .entry)) (now (store .exit))) ≡ settleCall (state pool (now (frames .entry)) (now (store .entry))) ⌝ }
+pub extern "C" fn pool_settle(pool: Pool, frames: &[u8], store: &mut [u8], directory: &[u8]) -> Done
+    ensures { λ r. ⌜ out (doneAnswer (r .refusal)) (state (r .pool) (now (frames .entry)) (now (store .exit)) (now (directory .entry))) ≡ settleCall (state pool (now (frames .entry)) (now (store .entry)) (now (directory .entry))) ⌝ }
 {
-    pool::settle(pool, frames, store)
+    pool::settle(pool, frames, store, directory)
 }
 
-// The frame that holds a page, and how many frames were looked at.
+// The frame that holds a page, and how many entries of its chain were compared.
 #[no_mangle]
-pub extern "C" fn pool_find(pool: Pool, frames: &[u8], store: &[u8], page: PageNumber) -> Found
-    ensures { λ r. ⌜ r ≡ foundOf (findCall (state pool (now (frames .entry)) (now (store .entry))) page .answer) ⌝ }
+pub extern "C" fn pool_find(
+    pool: Pool,
+    frames: &[u8],
+    store: &[u8],
+    directory: &[u8],
+    page: PageNumber,
+) -> Found
+    ensures { λ r. ⌜ r ≡ foundOf (findCall (state pool (now (frames .entry)) (now (store .entry)) (now (directory .entry))) page .answer) ⌝ }
 {
-    answers::from_find(pool::find(pool, frames, store, page))
+    answers::from_find(pool::find(pool, frames, store, directory, page))
 }
 
 // The generator of a seed.
@@ -177,10 +207,16 @@ pub extern "C" fn pool_seeded(seed: u32) -> Generator
 
 // The next record of a workload on the pool as it stands.
 #[no_mangle]
-pub extern "C" fn pool_draw(pool: Pool, frames: &[u8], store: &[u8], generator: Generator) -> Drawn
-    ensures { λ r. ⌜ r ≡ drawnOut (state pool (now (frames .entry)) (now (store .entry))) generator ⌝ }
+pub extern "C" fn pool_draw(
+    pool: Pool,
+    frames: &[u8],
+    store: &[u8],
+    directory: &[u8],
+    generator: Generator,
+) -> Drawn
+    ensures { λ r. ⌜ r ≡ drawnOut (state pool (now (frames .entry)) (now (store .entry)) (now (directory .entry))) generator ⌝ }
 {
-    drawing::draw_record(pool, frames, store, generator)
+    drawing::draw_record(pool, frames, store, directory, generator)
 }
 
 // Adds a recording to a tally.

@@ -15,9 +15,9 @@ lineWith b n f p x = record { call = callIn b; refusal = n; frame = frameIndex f
 unfoldable pub lineFor : List ℕ → Answer → Pool → Line
 lineFor b a x = let l = lineOf b a in record { call = l .call; refusal = l .refusal; frame = frameIndex (l .frame); page = pageNumber (l .page); pool = x }
 
--- a line with the frames and the store beside it
-abbrev pub lined : Line → List ℕ → List ℕ → Listed
-lined r fs st = record { line = lineNumbers (r .call) (r .refusal) (r .frame .0) (r .page .0); left = state (r .pool) fs st }
+-- a line with the frames, the store and the directory beside it
+abbrev pub lined : Line → List ℕ → List ℕ → List ℕ → Listed
+lined r fs st d = record { line = lineNumbers (r .call) (r .refusal) (r .frame .0) (r .page .0); left = state (r .pool) fs st d }
 
 -- what a record lists by what its call answers and leaves
 abbrev pub listedOut : List ℕ → Out → Listed

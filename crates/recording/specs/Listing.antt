@@ -87,8 +87,8 @@ lineOf b done = lineNumbers (callIn b) 0 0 0
 lineOf b (handle f p looks) = lineNumbers (callIn b) 0 f p
 lineOf b (payload y a n) = lineNumbers (callIn b) 0 0 0
 lineOf b (number p l) = lineNumbers (callIn b) 0 0 0
-lineOf b (frame f looks) = lineNumbers (callIn b) 0 f (pageInRecord b .0)
-lineOf b (nowhere looks) = lineNumbers (callIn b) 0 0 0
+lineOf b (frame f compared) = lineNumbers (callIn b) 0 f (pageInRecord b .0)
+lineOf b (nowhere compared) = lineNumbers (callIn b) 0 0 0
 
 -- a line, and the state that the next record finds
 pub record Listed : Type 0 where

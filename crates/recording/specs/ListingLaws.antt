@@ -14,7 +14,8 @@ use Rattle.rules.specs.TestLaws.{case, on, off, and-true, pick-either, verdict-
 use Rattle.machine.specs.Machine.{State, state}
 use Rattle.machine.specs.Answers.{Answer, refused, done, handle, payload, number, frame, nowhere, doneAnswer, Out, out}
 use Rattle.machine.specs.Calls.{decide, pageRules, findCall}
-use Rattle.machine.specs.Laws.FindWalk.{withoutLooks, findCallBefore, walks-no-further}
+use Rattle.machine.specs.ByChain.{withoutCount, findByFrames}
+use Rattle.machine.specs.Laws.FindByChain.{as-by-frames}
 use Rattle.machine.specs.History.{Call, root, fix, unfix, write, link, unlink, evict, settle, find, row}
 use Rattle.machine.specs.LockedPages.{withoutMark}
 use Rattle.recording.specs.declared.lines.Line.{Line}
@@ -32,12 +33,12 @@ done-line b n x = elim (case (eqb n 0)) [
 ]
 
 -- find, where it gives a frame
-pub frame-line : (b : List ℕ) (q : PageNumber) (looks : ℕ) {f : ℕ} {x : Pool} {r : Line} → r ≡ lineWith b 0 f (q .0) x → q ≡ pageInRecord b → r ≡ lineFor b (frame f looks) x
+pub frame-line : (b : List ℕ) (q : PageNumber) (compared : ℕ) {f : ℕ} {x : Pool} {r : Line} → r ≡ lineWith b 0 f (q .0) x → q ≡ pageInRecord b → r ≡ lineFor b (frame f compared) x
 unfolding lineFor
-frame-line b q looks {f} {x} e h = e ∙ ap (λ (y : PageNumber). lineWith b 0 f (y .0) x) h
+frame-line b q compared {f} {x} e h = e ∙ ap (λ (y : PageNumber). lineWith b 0 f (y .0) x) h
 
 -- from the line of an answer and what the call's contract says
-pub line-listed : {r : Line} (b : List ℕ) (a : Answer) (x : Pool) {fs st : List ℕ} {o : Out} → r ≡ lineFor b a x → out a (state x fs st) ≡ o → lined r fs st ≡ listedOut b o
+pub line-listed : {r : Line} (b : List ℕ) (a : Answer) (x : Pool) {fs st d : List ℕ} {o : Out} → r ≡ lineFor b a x → out a (state x fs st d) ≡ o → lined r fs st d ≡ listedOut b o
 unfolding lineFor
 line-listed b a x e h = rw (e, ← h)
 
@@ -137,25 +138,24 @@ last-call b h n =
     let from8 : 8 ≤ callIn b = above 7 _ from7 (n .0 .1) in
     le-antisymm (h .most) (above 8 _ from8 (n .1))
 
--- ---- request A.2: "All else in its answers, and the listing, is as before."
+-- ---- request A.3: "the listing prints as before"
 
--- a line goes by the answer without the looks
-line-without-looks : (b : List ℕ) (a : Answer) → lineOf b a ≡ lineOf b (withoutLooks a)
-line-without-looks b (refused n) = refl
-line-without-looks b done = refl
-line-without-looks b (handle f p looks) = refl
-line-without-looks b (payload y a n) = refl
-line-without-looks b (number p l) = refl
-line-without-looks b (frame f looks) = refl
-line-without-looks b (nowhere looks) = refl
+-- a line goes by the answer without its count
+line-without-count : (b : List ℕ) (a : Answer) → lineOf b a ≡ lineOf b (withoutCount a)
+line-without-count b (refused n) = refl
+line-without-count b done = refl
+line-without-count b (handle f p looks) = refl
+line-without-count b (payload y a n) = refl
+line-without-count b (number p l) = refl
+line-without-count b (frame f compared) = refl
+line-without-count b (nowhere compared) = refl
 
 same-listed : (b : List ℕ) (o p : Out) → lineOf b (o .answer) ≡ lineOf b (p .answer) → o .left ≡ p .left → listedOut b o ≡ listedOut b p
 same-listed b o p e h = rw (e, h)
 
--- a find lists what document 01's lists: the same line, and the same state for the next record
-pub find-listed-before : (s : State) (b : List ℕ) → rule17 b .1 ≡ true → callIn b ≡ 9 → listed s b ≡ listedOut b (findCallBefore s (pageInRecord b))
+-- a find lists what document 01's lists, by the frames: the same line, and the same state for the next record
+pub find-listed-before : (s : State) (b : List ℕ) → rule17 b .1 ≡ true → callIn b ≡ 9 → listed s b ≡ listedOut b (findByFrames s (pageInRecord b))
 find-listed-before s b h e =
     let q : PageNumber = pageInRecord b in
-    let W = walks-no-further s q in
     ap (listedOut b) (sym (record-runs s b (find q) h (is-find b e)))
-    ∙ same-listed b (findCall s q) (findCallBefore s q) (line-without-looks b (findCall s q .answer) ∙ ap (lineOf b) (W .others)) (W .left)
+    ∙ same-listed b (findCall s q) (findByFrames s q) (line-without-count b (findCall s q .answer) ∙ ap (lineOf b) (as-by-frames s q .finds)) (as-by-frames s q .left)

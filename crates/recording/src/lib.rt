@@ -10,22 +10,28 @@ ghost use Rattle.machine.specs.Machine.{state};
 ghost use Rattle.recording.specs.Listing.{lineNumbers, listed};
 
 // Runs a record on the pool: rule 17, and the call that it names.
-pub fn list_record(pool: Pool, frames: &mut [u8], store: &mut [u8], entry: &[u8; 16]) -> Line
-    ensures { λ r. ⌜ record { line = lineNumbers (r .call) (r .refusal) (r .frame .0) (r .page .0); left = state (r .pool) (now (frames .exit)) (now (store .exit)) } ≡ listed (state pool (now (frames .entry)) (now (store .entry))) (now (entry .entry)) ⌝ }
+pub fn list_record(
+    pool: Pool,
+    frames: &mut [u8],
+    store: &mut [u8],
+    directory: &mut [u8],
+    entry: &[u8; 16],
+) -> Line
+    ensures { λ r. ⌜ record { line = lineNumbers (r .call) (r .refusal) (r .frame .0) (r .page .0); left = state (r .pool) (now (frames .exit)) (now (store .exit)) (now (directory .exit)) } ≡ listed (state pool (now (frames .entry)) (now (store .entry)) (now (directory .entry))) (now (entry .entry)) ⌝ }
 {
     if !fields::is_call(entry) {
         return lines::bare(pool, entry, 17);
     }
     let call = entry[fields::CALL];
     match call {
-        1 => calls::root(pool, frames, store, entry),
-        2 => calls::fix(pool, frames, store, entry),
-        3 => calls::unfix(pool, frames, store, entry),
-        4 => calls::write(pool, frames, store, entry),
-        5 => calls::link(pool, frames, store, entry),
-        6 => calls::unlink(pool, frames, store, entry),
-        7 => calls::evict(pool, frames, store, entry),
-        8 => calls::settle(pool, frames, store, entry),
-        _ => calls::find(pool, frames, store, entry),
+        1 => calls::root(pool, frames, store, directory, entry),
+        2 => calls::fix(pool, frames, store, directory, entry),
+        3 => calls::unfix(pool, frames, store, directory, entry),
+        4 => calls::write(pool, frames, store, directory, entry),
+        5 => calls::link(pool, frames, store, directory, entry),
+        6 => calls::unlink(pool, frames, store, directory, entry),
+        7 => calls::evict(pool, frames, store, directory, entry),
+        8 => calls::settle(pool, frames, store, directory, entry),
+        _ => calls::find(pool, frames, store, directory, entry),
     }
 }

@@ -66,7 +66,7 @@ pub fn of_fix(fix: Fix, entry: &[u8; 16]) -> Line
     }
 }
 
-// The line of find, which gives its page beside the frame, and not the looks.
+// The line of find, which gives its page beside the frame, and not the entries compared.
 pub fn of_find(pool: Pool, answer: FindAnswer, entry: &[u8; 16]) -> Line
     ensures { λ r. ⌜ r ≡ lineFor (now (entry .entry)) (findAnswer answer) pool ⌝ }
 {

@@ -1,6 +1,7 @@
 -- How the tests of open, unfix and evict, in their order, make up the calls. Assumes nothing.
 use Prim.Native.Nat.{ℕ, _/_, _≤_, _<_}
 use mathlib.Core.Path.{_≡_, refl, sym, _∙_, ap}
+use mathlib.Core.Logic.{_≢_}
 use mathlib.Core.Bool.{true, false}
 use mathlib.Core.List.{List, _∷_}
 use native.Mathlib.Omega.{arith}
@@ -13,41 +14,55 @@ use Rattle.page.specs.Page.{pageOf, putPage}
 use Rattle.machine.specs.declared.FrameRecord.{FrameRecord}
 use Rattle.machine.specs.declared.Handle.{Handle}
 use Rattle.machine.specs.declared.Pool.{Pool}
-use Rattle.rules.specs.Tests.{Rule, firstBroken}
-use Rattle.rules.specs.TestLaws.{kept-then, broken-here, none-broken}
+use Rattle.machine.specs.declared.Done.{Done}
+use Rattle.rules.specs.Tests.{_and_, Rule, firstBroken}
+use Rattle.rules.specs.TestLaws.{and-yes, and-no, both, kept-then, broken-here, none-broken}
 use Rattle.machine.specs.Machine.{State, state, withPool, blank, rootRecord, unpinned, recordAt, withRecord, zeroPool, openedPool, found}
+use Rattle.chains.specs.Chain.{directorySize, openedDirectory}
 use Rattle.machine.specs.Soundness.{sound}
 use Rattle.machine.specs.Sweep.{standing}
 use Rattle.machine.specs.Laws.Standings.{open-childless, stayNumber, none-stays, stays-first}
 use Rattle.machine.specs.Moves.{evicted}
-use Rattle.machine.specs.Answers.{out, doneAnswer}
-use Rattle.machine.specs.Rules.{lengthsFit, rule11}
+use Rattle.machine.specs.Answers.{Out, out, doneAnswer}
+use Rattle.machine.specs.Rules.{lengthsFit, directoryFits, rule11}
 use Rattle.machine.specs.Calls.{changeRecord, openCall, handleRules, unfixCall, pageRules, stayRules, evictCall}
-use Rattle.machine.specs.Laws.Ready.{ready}
+use Rattle.machine.specs.Laws.Ready.{of-directory, not-directory, ready}
 use Rattle.machine.specs.Laws.RuleLaws.{done-no, done-yes, HandleKept, handle-kept, page-passes}
 use Rattle.seen.specs.Seen.{Seen}
 use Rattle.residents.specs.Handed.{Handed}
 use Rattle.guard.specs.Held.{recordPlace}
 use Rattle.scan.specs.FoundByTable.{foundBy, kept, counted-frames, at-found}
-use Rattle.moves.specs.InAndOut.{Removable, TakenOut, removable, is-evicted}
-use Rattle.residency.specs.Opening.{poolWith}
+use Rattle.moves.specs.InAndOut.{Removable, TakenOut, followed, removable, is-evicted}
+use Rattle.residency.specs.Opening.{poolWith, refusedOpen}
 
 -- ---- open
 
-module _ (fs st : List ℕ) {p : Pool} where
-  pub open-unfit : lengthsFit (length fs / pageSize) (length st / pageSize) fs st ≡ false → p ≡ poolWith blank 0 0 → out (doneAnswer 1) (state p fs st) ≡ openCall fs st
+-- what a call without an answer of its own answers and leaves
+abbrev doneOut : Done → List ℕ → List ℕ → List ℕ → Out
+doneOut r fs st d = out (doneAnswer (r .refusal)) (state (r .pool) fs st d)
+
+module _ (fs st d : List ℕ) where
+  pub open-unfit : {r : Done} → lengthsFit (length fs / pageSize) (length st / pageSize) fs st ≡ false → r ≡ refusedOpen 1 → doneOut r fs st d ≡ openCall fs st d
   unfolding openCall zeroPool
-  open-unfit h e = rw e (done-no _ _ _ (sym (broken-here 1 _ h)) (λ z. omega arith))
+  open-unfit h e = rw e (done-no _ _ _ (sym (broken-here 1 _ (sym (and-no _ h)))) (λ z. omega arith))
 
   module _ (fit : lengthsFit (length fs / pageSize) (length st / pageSize) fs st ≡ true) where
-    pub open-unsound : sound st (length st / pageSize) ≡ false → p ≡ poolWith blank 0 0 → out (doneAnswer 16) (state p fs st) ≡ openCall fs st
+    pub open-no-directory : {r : Done} → length d ≢ directorySize → r ≡ refusedOpen 1 → doneOut r fs st d ≡ openCall fs st d
     unfolding openCall zeroPool
-    open-unsound h e = rw e (done-no _ _ _ (sym (kept-then 1 _ fit ∙ broken-here 16 _ h)) (λ z. omega arith))
+    open-no-directory h e = rw e (done-no _ _ _ (sym (broken-here 1 _ (sym (and-yes fit (sym (not-directory d h)))))) (λ z. omega arith))
 
-    pub open-done : {gs : List ℕ} → sound st (length st / pageSize) ≡ true → p ≡ poolWith rootRecord (length fs / pageSize) (length st / pageSize) → gs ≡ putPage fs 0 (pageOf st 0)
-        → out (doneAnswer 0) (state p gs st) ≡ openCall fs st
-    unfolding openCall openedPool
-    open-done h e g = done-yes _ _ (sym (kept-then 1 _ fit ∙ kept-then 16 _ h ∙ none-broken)) refl (rw (e, g))
+    module _ (size : length d ≡ directorySize) where
+      first : (lengthsFit (length fs / pageSize) (length st / pageSize) fs st and directoryFits d) ≡ true
+      first = both _ _ fit (of-directory d size)
+
+      pub open-unsound : {r : Done} → sound st (length st / pageSize) ≡ false → r ≡ refusedOpen 16 → doneOut r fs st d ≡ openCall fs st d
+      unfolding openCall zeroPool
+      open-unsound h e = rw e (done-no _ _ _ (sym (kept-then 1 _ first ∙ broken-here 16 _ h)) (λ z. omega arith))
+
+      pub open-done : {p : Pool} {gs e : List ℕ} → sound st (length st / pageSize) ≡ true → p ≡ poolWith rootRecord (length fs / pageSize) (length st / pageSize) → gs ≡ putPage fs 0 (pageOf st 0) → e ≡ openedDirectory
+          → out (doneAnswer 0) (state p gs st e) ≡ openCall fs st d
+      unfolding openCall openedPool
+      open-done h i g j = done-yes _ _ (sym (kept-then 1 _ first ∙ kept-then 16 _ h ∙ none-broken)) refl (rw (i, g, j))
 
 -- ---- unfix, where n is the refusal by rules 1 to 3, and a the place of the handle's record
 
@@ -97,9 +112,9 @@ module _ (s : State) (q : PageNumber) {residents : List ℕ} {seen : Seen} {n F 
         evict-stays h = done-no s _ _ (page-passes s q rest (e .0) z by-rest) h
 
         module _ (h : m ≡ 0) where
-          pub evict-removable : Removable (recordAt (s .pool .records) f) (s .frames) (s .store) f
-          evict-removable = removable s f (ready s (kept s q e z c)) below (open-childless _ _ _ (none-stays _ _ f (sym j ∙ h)))
+          pub evict-removable : Removable (recordAt (s .pool .records) f) (s .frames) (s .store) (s .directory) f
+          evict-removable = let K = kept s q e z c in removable s f (ready s K) (followed s K) below (open-childless _ _ _ (none-stays _ _ f (sym j ∙ h)))
 
-          pub evict-done : {r : FrameRecord} {gs ts : List ℕ} → r ≡ blank → TakenOut (recordAt (s .pool .records) f) (s .frames) (s .store) f gs ts → out (doneAnswer 0) (state (withRecord (s .pool) f r) gs ts) ≡ evictCall s q
+          pub evict-done : {r : FrameRecord} {gs ts d : List ℕ} → r ≡ blank → TakenOut (recordAt (s .pool .records) f) (s .frames) (s .store) (s .directory) f gs ts d → out (doneAnswer 0) (state (withRecord (s .pool) f r) gs ts d) ≡ evictCall s q
           unfolding evictCall rest
           evict-done b t = done-yes s _ (page-passes s q rest (e .0) z by-rest) h (is-evicted s f (ap (withRecord (s .pool) f) b) t ∙ ap (evicted s) here)

@@ -17,8 +17,8 @@ ghost use Rattle.machine.specs.Sweep.{standing};
 ghost use Rattle.machine.specs.Laws.Standings.{stayNumber};
 
 // Takes one pin off a handle's page.
-pub fn unfix(pool: Pool, frames: &[u8], store: &[u8], handle: Handle) -> Done
-    ensures { λ r. ⌜ out (doneAnswer (r .refusal)) (state (r .pool) (now (frames .entry)) (now (store .entry))) ≡ unfixCall (state pool (now (frames .entry)) (now (store .entry))) handle ⌝ }
+pub fn unfix(pool: Pool, frames: &[u8], store: &[u8], directory: &[u8], handle: Handle) -> Done
+    ensures { λ r. ⌜ out (doneAnswer (r .refusal)) (state (r .pool) (now (frames .entry)) (now (store .entry)) (now (directory .entry))) ≡ unfixCall (state pool (now (frames .entry)) (now (store .entry)) (now (directory .entry))) handle ⌝ }
 {
     let mut residents = residents::NONE;
     let mut seen = seen::NONE;
@@ -30,6 +30,7 @@ pub fn unfix(pool: Pool, frames: &[u8], store: &[u8], handle: Handle) -> Done
         rec,
         frames,
         store,
+        directory,
         handle,
         &mut residents,
         &mut seen,
@@ -59,18 +60,32 @@ fn staying(rec: FrameRecord, frames: &[u8], frame: FrameIndex) -> u8
 }
 
 // Takes a page out of its frame, if that is open to eviction.
-pub fn evict(pool: Pool, frames: &mut [u8], store: &mut [u8], page: PageNumber) -> Done
-    ensures { λ r. ⌜ out (doneAnswer (r .refusal)) (state (r .pool) (now (frames .exit)) (now (store .exit))) ≡ evictCall (state pool (now (frames .entry)) (now (store .entry))) page ⌝ }
+pub fn evict(
+    pool: Pool,
+    frames: &mut [u8],
+    store: &mut [u8],
+    directory: &mut [u8],
+    page: PageNumber,
+) -> Done
+    ensures { λ r. ⌜ out (doneAnswer (r .refusal)) (state (r .pool) (now (frames .exit)) (now (store .exit)) (now (directory .exit))) ≡ evictCall (state pool (now (frames .entry)) (now (store .entry)) (now (directory .entry))) page ⌝ }
 {
     let mut residents = residents::NONE;
     let mut seen = seen::NONE;
     let mut next = pool;
-    let refusal = guard::page_refusal(pool, frames, store, page, &mut residents, &mut seen);
+    let refusal = guard::page_refusal(
+        pool,
+        frames,
+        store,
+        directory,
+        page,
+        &mut residents,
+        &mut seen,
+    );
     if refusal != 0 {
         return Done { pool, refusal };
     }
     let count = frames.len() / PageNumber::SIZE;
-    let f = scan::find_frame(&residents, count, page).frame;
+    let f = scan::find_frame(&residents, count, page);
     if count <= f {
         return Done { pool, refusal: 11 };
     }
@@ -83,7 +98,7 @@ pub fn evict(pool: Pool, frames: &mut [u8], store: &mut [u8], page: PageNumber) 
             refusal: stays,
         };
     }
-    moves::take_out(rec, frames, store, frame);
+    moves::take_out(rec, frames, store, directory, frame);
     next.records[f] = records::empty();
     Done {
         pool: next,

@@ -18,4 +18,4 @@ pub record Clear (residents : List ℕ) (seen : Seen) : Type 0 where
 -- the two tables after it; what resident pages name is nothing to the store
 pub record Handed (p : Pool) (fs : List ℕ) (residents : List ℕ) (seen : Seen) : Type 0 where
   pub held : Residents (p .records) residents
-  pub named : Tells seen (namedByResident (state p fs []))
+  pub named : Tells seen (namedByResident (state p fs [] []))

@@ -9,7 +9,7 @@ use page::PageNumber;
 use residents::Residents;
 ghost use mathlib.Core.Path.{_≡_};
 ghost use mathlib.Core.Logic.{_≢_};
-ghost use Prim.Native.Nat.{_+_, _*_, _%_, _≤_, _<_, min};
+ghost use Prim.Native.Nat.{_+_, _*_, _%_, _≤_, _<_};
 ghost use lib.ListN.{length};
 ghost use Rattle.page.specs.Figures.{pageSize, mostFrames, maxUsage};
 ghost use Rattle.machine.specs.Machine.{frameIndex};
@@ -39,27 +39,19 @@ pub struct Walk {
 // How often a sweep may go round: once for each usage that a frame can lose, and once more.
 const ROUNDS: u16 = 4;
 
-// What a search for a page ends with: the frame that holds it, or F, and the frames looked at.
-pub struct Search {
-    pub frame: usize,
-    pub looks: usize,
-}
-
-// Looks for a page by the table of the page in each frame, from frame 0 on, at empty frames too, and ends at the one that holds it.
-pub fn find_frame(residents: &Residents, count: usize, page: PageNumber) -> Search
+// The frame that holds a page, or F, by the table of the page in each frame.
+pub fn find_frame(residents: &Residents, count: usize, page: PageNumber) -> usize
     requires { ⌜ count ≤ mostFrames ⌝ }
-    ensures { λ r. ⌜ (r .frame ≡ foundBy (now (residents .entry)) (page .0) count 0) × (r .looks ≡ min count (r .frame + 1)) ⌝ }
+    ensures { λ r. ⌜ r ≡ foundBy (now (residents .entry)) (page .0) count 0 ⌝ }
 {
     let mut frame = 0;
-    let mut looks = 0;
     while frame < count {
-        looks += 1;
         if residents[frame] == page.0 {
-            return Search { frame, looks };
+            return frame;
         }
         frame += 1;
     }
-    Search { frame, looks }
+    frame
 }
 
 // The frame after this one, going round.

@@ -15,7 +15,7 @@ use Rattle.rules.specs.Tests.{pick, _and_, _⇒_, firstBroken}
 use Rattle.rules.specs.TestLaws.{both, true-every, pick-either, pick-no, verdict-yes, kept-then, none-broken}
 use Rattle.machine.specs.Machine.{State}
 use Rattle.machine.specs.Answers.{refused, done, Out, out}
-use Rattle.machine.specs.Rules.{lengthsFit}
+use Rattle.machine.specs.Rules.{lengthsFit, directoryFits}
 use Rattle.machine.specs.Calls.{decide, poolRules, openRules, opened, openCall}
 use Rattle.machine.specs.Soundness.{wordsBelow, wordsOnce, sound}
 use Rattle.machine.specs.History.{Call, Point, row, start, next, run, AllBytes}
@@ -121,8 +121,8 @@ zeros-sound m N l = both _ _
     (true-every N _ (λ p _. true-every slotCount _ (λ k _. rw (zero-name m p k) (lt-ltb 0 N l))))
     (true-every N _ (λ p _. true-every slotCount _ (λ k _. unnamed m p k _)))
 
-listing-kept : firstBroken (openRules (replicate 1024 0) (replicate 4096 0)) ≡ 0
-unfolding lengthsFit _and_
+listing-kept : firstBroken (openRules (replicate 1024 0) (replicate 4096 0) (replicate 131 0)) ≡ 0
+unfolding lengthsFit directoryFits _and_
 listing-kept = kept-then 1 _ refl ∙ kept-then 16 [] (zeros-sound 4096 16 (omega arith)) ∙ none-broken
 
 listing-out : listingPool ≡ out done (opened (replicate 1024 0) (replicate 4096 0))
@@ -159,7 +159,7 @@ listing-point : AtPoint (listingPool .left)
 unfolding AllBytes run
 listing-point = record {
   point = start (listingPool .left);
-  keeps = invariant-along (replicate 1024 0) (replicate 4096 0) (zero-octets 1024) (zero-octets 4096) listing-opens [] tt;
+  keeps = invariant-along (replicate 1024 0) (replicate 4096 0) (replicate 131 0) (zero-octets 1024) (zero-octets 4096) listing-opens [] tt;
   unmarked = rw (ap (λ (o : Out). o .left .store) listing-out) (zeros-unmarked 4096);
   here = refl;
 }

@@ -4,6 +4,7 @@ use mathlib.Core.List.{List, [], _++_}
 use lib.ListN.{replicate}
 use Rattle.page.specs.Figures.{pageSize}
 use Rattle.machine.specs.Machine.{State}
+use Rattle.chains.specs.Chain.{directorySize}
 use Rattle.machine.specs.Answers.{Out}
 use Rattle.machine.specs.Calls.{openCall}
 use Rattle.recording.specs.Listing.{listed}
@@ -43,9 +44,9 @@ unfoldable pub workedFrom : ℕ → Worked → Worked
 workedFrom zero w = w
 workedFrom (suc n) w = workedFrom n (withNext w)
 
--- "a pool just opened over 16 zero pages and 4 frames"
+-- "a pool just opened over 16 zero pages and 4 frames", its directory zero too before it
 abbrev pub listingPool : Out
-listingPool = openCall (replicate (4 * pageSize) 0) (replicate (16 * pageSize) 0)
+listingPool = openCall (replicate (4 * pageSize) 0) (replicate (16 * pageSize) 0) (replicate directorySize 0)
 
 -- n records from a seed
 unfoldable pub workloadOf : ℕ → ℕ → Worked

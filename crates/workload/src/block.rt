@@ -34,6 +34,7 @@ pub fn run_records(
     pool: Pool,
     frames: &mut [u8],
     store: &mut [u8],
+    directory: &mut [u8],
     generator: Generator,
     count: usize,
     entries: &mut [u8],
@@ -41,17 +42,17 @@ pub fn run_records(
 ) -> Run
     requires { ⌜ (16 * count ≤ length (now entries)) × (24 * count ≤ length (now text)) ⌝ }
     ensures { λ r. ⌜ Counts (r .end) (now (text .exit)) ⌝ }
-    ensures { λ r. ⌜ worked (take (16 * count) (now (entries .exit))) (take (r .end) (now (text .exit))) (state (r .pool) (now (frames .exit)) (now (store .exit))) (r .generator) ≡ workedFrom count (begun (state pool (now (frames .entry)) (now (store .entry))) generator) ⌝ }
+    ensures { λ r. ⌜ worked (take (16 * count) (now (entries .exit))) (take (r .end) (now (text .exit))) (state (r .pool) (now (frames .exit)) (now (store .exit)) (now (directory .exit))) (r .generator) ≡ workedFrom count (begun (state pool (now (frames .entry)) (now (store .entry)) (now (directory .entry))) generator) ⌝ }
 {
     let mut pool = pool;
     let mut generator = generator;
     let mut end = 0;
     let mut i = 0;
     while i < count {
-        let drawn = drawing::draw_record(pool, frames, store, generator);
+        let drawn = drawing::draw_record(pool, frames, store, directory, generator);
         let entry = drawn.entry;
         put_entry(entries, RECORD * i, &entry);
-        let line = recording::list_record(pool, frames, store, &entry);
+        let line = recording::list_record(pool, frames, store, directory, &entry);
         end = printing::put_line(text, end, line);
         pool = line.pool;
         let after = drawn.generator;

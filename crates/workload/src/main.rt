@@ -15,10 +15,12 @@ ghost use Rattle.machine.specs.Machine.{state};
 ghost use Rattle.checksum.specs.Parts.{Over};
 ghost use Rattle.workload.specs.Workload.{begun, workedFrom, workloadOf, summed, summedBy};
 
-// 4 frames, and a store of 16 pages.
+// 4 frames, a store of 16 pages, and the directory.
 const FRAMES: usize = 4 * PageNumber::SIZE;
 
 const STORE: usize = 16 * PageNumber::SIZE;
+
+const DIRECTORY: usize = directory::SIZE;
 
 // The records that are run before anything is written, their bytes, and those of their lines: a line has at most 24.
 const MOST: usize = 256;
@@ -50,11 +52,12 @@ fn run_next(
     turn: Turn,
     frames: &mut [u8; FRAMES],
     store: &mut [u8; STORE],
+    directory: &mut [u8; DIRECTORY],
     count: usize,
     as_records: bool,
 ) -> Turn
     requires { ⌜ count ≤ 256 ⌝ }
-    ensures { λ r. ⌜ summed (state (r .pool) (now (frames .exit)) (now (store .exit))) (r .generator) (r .sum) ≡ summedBy count (state (turn .pool) (now (frames .entry)) (now (store .entry))) (turn .generator) (turn .sum) ⌝ }
+    ensures { λ r. ⌜ summed (state (r .pool) (now (frames .exit)) (now (store .exit)) (now (directory .exit))) (r .generator) (r .sum) ≡ summedBy count (state (turn .pool) (now (frames .entry)) (now (store .entry)) (now (directory .entry))) (turn .generator) (turn .sum) ⌝ }
 {
     let mut entries = [0u8; ENTRIES];
     let mut text = [0u8; TEXT];
@@ -64,6 +67,7 @@ fn run_next(
         pool,
         frames,
         store,
+        directory,
         generator,
         count,
         &mut entries,
@@ -93,11 +97,12 @@ fn run_all(
     pool: Pool,
     frames: &mut [u8; FRAMES],
     store: &mut [u8; STORE],
+    directory: &mut [u8; DIRECTORY],
     generator: Generator,
     count: u32,
     as_records: bool,
 ) -> Turn
-    ensures { λ r. ⌜ (r .written ≡ true → Over (r .sum) (workedFrom count (begun (state pool (now (frames .entry)) (now (store .entry))) generator) .text)) ⌝ }
+    ensures { λ r. ⌜ (r .written ≡ true → Over (r .sum) (workedFrom count (begun (state pool (now (frames .entry)) (now (store .entry)) (now (directory .entry))) generator) .text)) ⌝ }
 {
     let mut turn = Turn {
         written: true,
@@ -108,7 +113,7 @@ fn run_all(
     let mut left = count;
     while left > 0 {
         let next = next_count(left);
-        turn = run_next(turn, frames, store, next, as_records);
+        turn = run_next(turn, frames, store, directory, next, as_records);
         if !turn.written {
             return turn;
         }
@@ -123,10 +128,19 @@ fn run_seed(seed: u32, count: u32, as_records: bool) -> Turn
 {
     let mut frames = [0u8; FRAMES];
     let mut store = [0u8; STORE];
-    let opened = pool::open(&mut frames, &store);
+    let mut directory = [0u8; DIRECTORY];
+    let opened = pool::open(&mut frames, &store, &mut directory);
     let pool = opened.pool;
     let generator = generator::seeded(seed);
-    run_all(pool, &mut frames, &mut store, generator, count, as_records)
+    run_all(
+        pool,
+        &mut frames,
+        &mut store,
+        &mut directory,
+        generator,
+        count,
+        as_records,
+    )
 }
 
 // Runs what the order says.

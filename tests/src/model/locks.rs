@@ -412,7 +412,11 @@ fn reasons(
     met
 }
 
+/// Where records and frames disagree, and not the directory alone.
 fn disagreeing(state: &State) -> BTreeSet<Lock> {
+    if agree(&state.pool, &state.frames) {
+        return BTreeSet::new();
+    }
     let frames: Vec<usize> = occupied(&state.pool).map(usize::from).collect();
     reasons(&state.frames, frames.into_iter(), 2, |frames| agree(&state.pool, frames))
 }
@@ -420,7 +424,7 @@ fn disagreeing(state: &State) -> BTreeSet<Lock> {
 fn unloadable(state: &State, handle: Handle, slot: usize) -> BTreeSet<Lock> {
     let page = unmarked(frame_word(&state.frames, handle.frame, slot)) as u16;
     let holds = |store: &[u8]| {
-        let state = State { pool: state.pool, frames: state.frames.clone(), store: store.to_vec() };
+        let state = State { store: store.to_vec(), ..state.clone() };
         rules::loadable(&state, PageNumber(page)).is_ok()
     };
     reasons(&state.store, [usize::from(page)].into_iter(), 14, holds)

@@ -1,5 +1,5 @@
 //! Images, pages that leave a frame or come into one, and the sweep.
-use super::{has_swizzled, occupied, swizzled_to, unswizzled};
+use super::{directory, has_swizzled, occupied, swizzled_to, unswizzled};
 use crate::pool::Refusal;
 use crate::records::{
     mark_of, page_of, page_of_mut, put_word, word_in, FrameIndex, FrameRecord, PageNumber, State, MAX_USAGE,
@@ -42,6 +42,7 @@ pub fn evict(state: &mut State, frame: FrameIndex) {
     let record = *state.pool.record(frame);
     let parent = page_of_mut(&mut state.frames, record.parent.into());
     rename(parent, record.slot.into(), record.page.into());
+    directory::take_out(&mut state.directory, record.page, frame);
     *state.pool.record_mut(frame) = FrameRecord::EMPTY;
 }
 
@@ -49,6 +50,7 @@ pub fn evict(state: &mut State, frame: FrameIndex) {
 pub fn load(state: &mut State, page: PageNumber, frame: FrameIndex, parent: FrameIndex, slot: usize) {
     page_of_mut(&mut state.frames, frame.into()).copy_from_slice(page_of(&state.store, page.into()));
     rename(page_of_mut(&mut state.frames, parent.into()), slot, swizzled_to(frame));
+    directory::enter(&mut state.directory, page, frame);
     *state.pool.record_mut(frame) =
         FrameRecord { used: 1, dirty: 0, usage: 1, slot: slot as u8, parent, pins: 1, page };
 }

@@ -1,5 +1,6 @@
 //! Document 01, "Numbered denials", with document 02's: what each rule tests. A rule broken is its number.
 use super::agreement::{agree, all_distinct};
+use super::directory;
 use super::{frame_of, is_locked, occupied, read, unswizzled, Reading};
 use crate::pool::Refusal;
 use crate::records::{
@@ -22,17 +23,24 @@ pub fn lengths_in_range(frames: &[u8], store: &[u8]) -> Result<(), Refusal> {
     rule(1, (1..=MOST_PAGES).any(|pages| is(store, pages)))
 }
 
+/// 1, by request A.3: "A directory of wrong length falls under refusal 1".
+pub fn directory_length(directory: &[u8]) -> Result<(), Refusal> {
+    rule(1, directory::has_its_length(directory))
+}
+
 /// 1: "or other than at opening."
 fn lengths(state: &State) -> Result<(), Refusal> {
     lengths_in_range(&state.frames, &state.store)?;
+    directory_length(&state.directory)?;
     rule(1, state.frames.len() == PAGE_SIZE * usize::from(state.pool.count))?;
     rule(1, state.store.len() == PAGE_SIZE * usize::from(state.pool.pages))
 }
 
-/// 1, and 2: "Records and frames don't agree (every call but open)."
+/// 1, and 2: "Records and frames don't agree (every call but open)." Request A.3: nor may the directory.
 pub fn state(state: &State) -> Result<(), Refusal> {
     lengths(state)?;
-    rule(2, agree(&state.pool, &state.frames))
+    rule(2, agree(&state.pool, &state.frames))?;
+    rule(2, directory::agrees(&state.pool, &state.directory))
 }
 
 /// 3: "The handle's frame index isn't below F, that frame doesn't hold its page, or its pins are 0."

@@ -1,73 +1,129 @@
-//! Frames that a find looks at, request A.2. Document 01's find is kept here for the comparison alone.
-use super::{occupied, rules};
+//! Pages that are sought in the directory, request A.3: what find and peek answer by the frames alone, and find's count by the
+//! bytes of the page's chain.
+use super::directory::{bucket_of, byte_after, residents};
+use super::rules;
 use crate::calls::Answer;
 use crate::ensure;
-use crate::pool::{Found, Refusal};
-use crate::records::{FrameIndex, PageNumber, State};
+use crate::pool::{Buffer, Found};
+use crate::records::{FrameIndex, PageNumber, State, PAGE_SIZE, PAYLOAD_SIZE, PAYLOAD_START};
 
-/// Where a find ended, and what it passed on its way.
+/// What a find met in the page's chain.
 #[derive(Clone, Copy, Debug, PartialEq, Eq, PartialOrd, Ord)]
-pub enum Ended {
-    /// At frame 0, the root's.
-    Root,
-    /// At the last frame.
-    LastFrame,
-    /// At a frame in between, past occupied ones alone.
-    PastOccupied,
-    /// At a frame in between, past an empty one.
-    PastEmpty,
-    /// Nowhere, with no frame empty.
-    AbsentFull,
-    /// Nowhere, past an empty frame.
-    AbsentPastEmpty,
+pub enum Met {
+    /// The page's entry alone.
+    Alone,
+    /// The page's entry, first, second or later, with others in its chain.
+    First,
+    Second,
+    Later,
+    /// The page's entry, the last of three or more.
+    LastOfMany,
+    /// Not the page's entry: none at all, or those of one, two or more other pages.
+    Nothing,
+    OneOther,
+    TwoOthers,
+    MoreOthers,
 }
 
-impl Ended {
-    pub const ALL: [Ended; 6] = [
-        Ended::Root,
-        Ended::LastFrame,
-        Ended::PastOccupied,
-        Ended::PastEmpty,
-        Ended::AbsentFull,
-        Ended::AbsentPastEmpty,
+impl Met {
+    pub const ALL: [Met; 9] = [
+        Met::Alone,
+        Met::First,
+        Met::Second,
+        Met::Later,
+        Met::LastOfMany,
+        Met::Nothing,
+        Met::OneOther,
+        Met::TwoOthers,
+        Met::MoreOthers,
     ];
 }
 
-/// Find answers the frame, 'absent' or the refusal that document 01's does, and "the frames looked at: that frame's index plus 1,
-/// or F if absent". Gives where it ended unless it is refused. That it leaves all as it was, `lockstep` compares.
-pub fn compare(state: &State, page: PageNumber, answer: &Answer) -> Result<Option<Ended>, String> {
-    let holders = match former_find(state, page) {
-        Ok(holders) => holders,
-        Err(number) => {
-            ensure!(*answer == Answer::Refused(number), "{answer:?}, and formerly refused by {number}");
-            return Ok(None);
-        }
-    };
+/// The frames that hold a page by the records, and by no directory.
+fn holders(state: &State, page: PageNumber) -> Vec<FrameIndex> {
+    state.occupied().filter(|(_, record)| record.page == page).map(|(frame, _)| frame).collect()
+}
+
+/// The one frame that holds a page.
+fn holder(state: &State, page: PageNumber) -> Result<Option<FrameIndex>, String> {
+    let holders = holders(state, page);
     ensure!(holders.len() <= 1, "\"A page sits in one frame at most\", and {page} in {holders:?}");
-    let frame = holders.first().copied();
-    let looks = frame.map_or(state.pool.count, |frame| u16::from(frame.0) + 1);
-    let wanted = Found { frame, looks };
-    ensure!(*answer == Answer::Found(wanted), "{answer:?}, and not {wanted:?}");
-    Ok(Some(ended(state, wanted)))
+    Ok(holders.first().copied())
 }
 
-/// Document 01's find: "gives the frame or 'absent'", whichever way it is looked for. All frames that hold the page.
-fn former_find(state: &State, page: PageNumber) -> Result<Vec<FrameIndex>, Refusal> {
-    rules::state(state)?;
-    rules::page(&state.pool, page)?;
-    Ok(occupied(&state.pool).filter(|frame| state.pool.record(*frame).page == page).collect())
+/// Whether a find or a peek breaks a rule, by whose number it is then refused.
+fn refused(state: &State, page: PageNumber, answer: &Answer) -> Result<bool, String> {
+    let kept = rules::state(state).and_then(|()| rules::page(&state.pool, page));
+    let Err(number) = kept else { return Ok(false) };
+    ensure!(*answer == Answer::Refused(number), "{answer:?}, and by the frames refused by {number}");
+    Ok(true)
 }
 
-/// Where a find ended that looked at so many frames.
-fn ended(state: &State, found: Found) -> Ended {
-    let mut looked_at = state.pool.records[..found.looks.into()].iter();
-    let past_empty = looked_at.any(|record| !record.is_used());
-    match found.frame {
-        Some(FrameIndex(0)) => Ended::Root,
-        Some(_) if found.looks == state.pool.count => Ended::LastFrame,
-        Some(_) if past_empty => Ended::PastEmpty,
-        Some(_) => Ended::PastOccupied,
-        None if past_empty => Ended::AbsentPastEmpty,
-        None => Ended::AbsentFull,
+/// Find "agrees with the frames", and its count is the place of the entry, or the number of resident pages with that remainder,
+/// which it is "never above". Gives what it met unless it is refused. That it leaves all as it was, `lockstep` compares.
+pub fn compare_find(state: &State, page: PageNumber, answer: &Answer) -> Result<Option<Met>, String> {
+    if refused(state, page, answer)? {
+        return Ok(None);
     }
+    let Answer::Found(found) = *answer else {
+        return Err(format!("{answer:?}, where no rule is broken"));
+    };
+    check(state, page, found).map(Some)
+}
+
+/// The same for an accepted find.
+pub fn check(state: &State, page: PageNumber, found: Found) -> Result<Met, String> {
+    let holder = holder(state, page)?;
+    ensure!(found.frame == holder, "page {page} found at {:?}, and in frame {holder:?}", found.frame);
+    let sharing = residents(&state.pool, bucket_of(page)).len() as u16;
+    let compared = found.compared;
+    ensure!(compared <= sharing, "{compared} compared for {page}, of {sharing} with its remainder");
+    match holder {
+        Some(frame) => {
+            let there = nth(state, page, compared);
+            ensure!(there == Some(frame), "{page} in frame {frame}, and entry {compared} is {there:?}");
+        }
+        None => {
+            ensure!(compared == sharing, "{compared} compared for {page}, which is absent, not {sharing}")
+        }
+    }
+    Ok(met(found, sharing))
+}
+
+/// The frame of the so-manyth entry in a page's chain: byte by byte.
+fn nth(state: &State, page: PageNumber, place: u16) -> Option<FrameIndex> {
+    let first = state.directory.get(bucket_of(page))?.checked_sub(1).map(FrameIndex)?;
+    (1..place)
+        .try_fold(first, |frame, _| state.directory.get(byte_after(frame))?.checked_sub(1).map(FrameIndex))
+}
+
+fn met(found: Found, sharing: u16) -> Met {
+    match (found.frame.is_some(), found.compared) {
+        (true, _) if sharing == 1 => Met::Alone,
+        (true, 1) => Met::First,
+        (true, place) if place >= 3 && place == sharing => Met::LastOfMany,
+        (true, 2) => Met::Second,
+        (true, _) => Met::Later,
+        (false, 0) => Met::Nothing,
+        (false, 1) => Met::OneOther,
+        (false, 2) => Met::TwoOthers,
+        (false, _) => Met::MoreOthers,
+    }
+}
+
+/// Peek's payload is the frame's where a record has the page, and otherwise the store's.
+pub fn compare_peek(state: &State, page: PageNumber, answer: &Answer) -> Result<(), String> {
+    if refused(state, page, answer)? {
+        return Ok(());
+    }
+    let Answer::Place(place) = *answer else {
+        return Err(format!("{answer:?}, where no rule is broken"));
+    };
+    let (buffer, index) = match holder(state, page)? {
+        Some(frame) => (Buffer::Frames, usize::from(frame)),
+        None => (Buffer::Store, usize::from(page)),
+    };
+    let wanted = (buffer, PAGE_SIZE * index + PAYLOAD_START, PAYLOAD_SIZE);
+    ensure!((place.buffer, place.start, place.size) == wanted, "{place:?}, and by the frames {wanted:?}");
+    Ok(())
 }

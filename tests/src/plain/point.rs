@@ -115,14 +115,9 @@ impl Plain {
         self.check_answer(machine, &settled, &Call::Settle, &answer)
     }
 
-    /// Every page can be peeked.
+    /// Every page can be found and peeked.
     fn check_peeks(&self, machine: &impl Machine, state: &State) -> Check {
-        for page in (0..self.pages() as u16).map(PageNumber) {
-            let place = machine.peek(state, page);
-            let place = place.map_err(|number| format!("peek of {page} gives {number}"))?;
-            self.check_payload(state, page, &place)?;
-        }
-        Ok(())
+        (0..self.pages() as u16).try_for_each(|page| self.check_found(machine, state, PageNumber(page)))
     }
 
     /// Every pinned page can be shown, and its words be read.

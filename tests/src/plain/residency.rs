@@ -3,7 +3,7 @@ use crate::ensure;
 use crate::pool::{Machine, Refusal};
 use crate::records::{FrameIndex, Handle, PageNumber, State};
 
-/// The frame that find gives, by however many looks.
+/// The frame that find gives, by however many entries compared.
 pub fn frame_found(
     machine: &impl Machine,
     state: &State,

@@ -7,7 +7,7 @@ use mathlib.Core.Path.{refl}
 use Rattle.page.specs.Figures.{mostFrames}
 use Rattle.machine.specs.Machine.{recordAt}
 use Rattle.agreement.specs.Fit.{NoField, Before}
-use Rattle.agreement.specs.Deciding.{decided, fails}
+use Rattle.rules.specs.Deciding.{decided, fails}
 use Rattle.agreement.specs.FitLaws.{page-below, gathers}
 use Rattle.agreement.specs.PassLaws.{before-first, before-few, stands-twice, before-more, marks-twice, frames-even, settle, RestTo, rest-none, rest-more}
 use Rattle.agreement.specs.Same.{end-hand, end-rest, end-frames, frames-least, table-below, table-root}

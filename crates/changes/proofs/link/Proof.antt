@@ -11,11 +11,11 @@ use Rattle.changes.proofs.link.Statement.{statement}
 use Rattle.changes.proofs.link.Tie as tie
 
 abbrev given : tie.Start → State
-given c = let a = c .args in state (a .pool) (a .frames .now) (a .store .now)
+given c = let a = c .args in state (a .pool) (a .frames .now) (a .store .now) (a .directory .now)
 
 -- the start, from past the refusals
 abbrev start : tie.Else1 → tie.Start
-start c = let at-record-place = c .before .before .before .before .before .before in at-record-place .before .before .before
+start c = let at-record-place = c .before .before .before .before .before .before in at-record-place .before .before .before .before
 
 -- past the refusals
 kept : (c : tie.Else1) → EditKept (given (start c)) (start c .args .handle) (start c .args .slot)
@@ -33,7 +33,7 @@ element-copy-out-held c = search needs
 link-refusal-requires : tie.Need-link-refusal-requires
 link-refusal-requires c κs =
     let at-record-place = c .before .before .before .before in
-    let at-entry = at-record-place .before .before .before in
+    let at-entry = at-record-place .before .before .before .before in
     (ap (recordAt (at-entry .args .pool .records)) (at-record-place .record-place .ensures), record { noPage = refl; noneSeen = refl })
 
 same-length : tie.Need-same-length
@@ -56,8 +56,8 @@ put-in-slot-requires c κs = let k = kept (c .before .before .before) in (omega 
 dirtied-requires : tie.Need-dirtied-requires
 dirtied-requires c κs = search needs
 
-mul-t17 : tie.Need-mul-t17
-mul-t17 c = search needs
+mul-t18 : tie.Need-mul-t18
+mul-t18 c = search needs
 
 element-set-from-next : tie.Need-element-set-from-next
 element-set-from-next c = search needs
@@ -73,7 +73,7 @@ returns-2 c =
     let past-refusal = at-mark .before .before in
     let at-link-refusal = past-refusal .before in
     let at-record-place = at-link-refusal .before .before .before .before .before in
-    let at-entry = at-record-place .before .before .before in
+    let at-entry = at-record-place .before .before .before .before in
     let a = at-entry .args in
     link-done (given at-entry) (a .handle) (a .slot) (a .page) (a .locked) (at-link-refusal .link-refusal .ensures) (past-refusal .if1 .left) (at-record-place .record-place .ensures) (c .dirtied .ensures) (at-put-in-slot .put-in-slot .ensures)
     (at-mark .marked .ensures ∙ ap (marked (a .locked)) (at-mark .before .word .ensures))
@@ -92,7 +92,7 @@ link-spec =
     marked-requires
     put-in-slot-requires
     dirtied-requires
-    mul-t17
+    mul-t18
     element-set-from-next
     same-length-2
     returns-2)

@@ -10,11 +10,11 @@ use Rattle.changes.proofs.unlink.Statement.{statement}
 use Rattle.changes.proofs.unlink.Tie as tie
 
 abbrev given : tie.Start → State
-given c = let a = c .args in state (a .pool) (a .frames .now) (a .store .now)
+given c = let a = c .args in state (a .pool) (a .frames .now) (a .store .now) (a .directory .now)
 
 -- the start, from past the refusals
 abbrev start : tie.Else1 → tie.Start
-start c = let at-record-place = c .before .before .before .before .before .before in at-record-place .before .before .before
+start c = let at-record-place = c .before .before .before .before .before .before in at-record-place .before .before .before .before
 
 -- past the refusals
 kept : (c : tie.Else1) → EditKept (given (start c)) (start c .args .handle) (start c .args .slot)
@@ -32,7 +32,7 @@ element-copy-out-held c = search needs
 unlink-refusal-requires : tie.Need-unlink-refusal-requires
 unlink-refusal-requires c κs =
     let at-record-place = c .before .before .before .before in
-    let at-entry = at-record-place .before .before .before in
+    let at-entry = at-record-place .before .before .before .before in
     (ap (recordAt (at-entry .args .pool .records)) (at-record-place .record-place .ensures), record { noPage = refl; noneSeen = refl })
 
 same-length : tie.Need-same-length
@@ -49,8 +49,8 @@ put-in-slot-requires c κs = let k = kept (c .before) in (omega arith, omega ari
 dirtied-requires : tie.Need-dirtied-requires
 dirtied-requires c κs = search needs
 
-mul-t14 : tie.Need-mul-t14
-mul-t14 c = search needs
+mul-t15 : tie.Need-mul-t15
+mul-t15 c = search needs
 
 element-set-from-next : tie.Need-element-set-from-next
 element-set-from-next c = search needs
@@ -65,7 +65,7 @@ returns-2 c =
     let past-refusal = at-put-in-slot .before .before in
     let at-unlink-refusal = past-refusal .before in
     let at-record-place = at-unlink-refusal .before .before .before .before .before in
-    let at-entry = at-record-place .before .before .before in
+    let at-entry = at-record-place .before .before .before .before in
     let a = at-entry .args in
     unlink-done (given at-entry) (a .handle) (a .slot) (at-unlink-refusal .unlink-refusal .ensures) (past-refusal .if1 .left) (at-record-place .record-place .ensures) (c .dirtied .ensures) (at-put-in-slot .put-in-slot .ensures)
 
@@ -81,7 +81,7 @@ unlink-spec =
     returns
     put-in-slot-requires
     dirtied-requires
-    mul-t14
+    mul-t15
     element-set-from-next
     same-length-2
     returns-2)

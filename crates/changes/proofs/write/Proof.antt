@@ -11,11 +11,11 @@ use Rattle.changes.proofs.write.Statement.{statement}
 use Rattle.changes.proofs.write.Tie as tie
 
 abbrev given : tie.Start → State
-given c = let a = c .args in state (a .pool) (a .frames .now) (a .store .now)
+given c = let a = c .args in state (a .pool) (a .frames .now) (a .store .now) (a .directory .now)
 
 -- the start, from past the refusals
 abbrev start : tie.Else1 → tie.Start
-start c = let at-record-place = c .before .before .before .before .before .before in at-record-place .before .before .before .before
+start c = let at-record-place = c .before .before .before .before .before .before in at-record-place .before .before .before .before .before
 
 -- past the refusals
 ok : (c : tie.Else1) → let a = start c .args in WriteKept (given (start c)) (a .handle) (a .offset) (length (a .bytes .now))
@@ -33,7 +33,7 @@ element-copy-out-held c = search needs
 write-refusal-requires : tie.Need-write-refusal-requires
 write-refusal-requires c κs =
     let at-record-place = c .before .before .before .before in
-    let at-entry = at-record-place .before .before .before .before in
+    let at-entry = at-record-place .before .before .before .before .before in
     (ap (recordAt (at-entry .args .pool .records)) (at-record-place .record-place .ensures), record { noPage = refl; noneSeen = refl })
 
 same-length : tie.Need-same-length
@@ -53,7 +53,7 @@ returns-2 c =
     let past-refusal = c .before in
     let at-write-refusal = past-refusal .before in
     let at-record-place = at-write-refusal .before .before .before .before .before in
-    let at-entry = at-record-place .before .before .before .before in
+    let at-entry = at-record-place .before .before .before .before .before in
     let a = at-entry .args in write-nothing (given at-entry) (a .handle) (a .offset) (a .bytes .now) (at-write-refusal .write-refusal .ensures) (past-refusal .if1 .left) (c .if2 .taken)
 
 start-requires : tie.Need-start-requires
@@ -83,8 +83,8 @@ copy-into-requires c κs = search needs
 dirtied-requires : tie.Need-dirtied-requires
 dirtied-requires c κs = search needs
 
-mul-t26 : tie.Need-mul-t26
-mul-t26 c = search needs
+mul-t27 : tie.Need-mul-t27
+mul-t27 c = search needs
 
 element-set-from-next : tie.Need-element-set-from-next
 element-set-from-next c = search needs
@@ -101,7 +101,7 @@ returns-3 c =
     let past-refusal = past-empty .before in
     let at-write-refusal = past-refusal .before in
     let at-record-place = at-write-refusal .before .before .before .before .before in
-    let at-entry = at-record-place .before .before .before .before in
+    let at-entry = at-record-place .before .before .before .before .before in
     let a = at-entry .args in
     write-bytes (given at-entry) (a .handle) (a .offset) (a .bytes .now) (at-write-refusal .write-refusal .ensures) (past-refusal .if1 .left) (past-empty .if2 .left) (at-record-place .record-place .ensures) (c .dirtied .ensures)
     (put-back (a .frames .now) (a .handle .frame .0) _ (a .offset) _ (a .bytes .now) (at-start .start .ensures) (at-copy-into .copy-into .ensures .0))
@@ -127,7 +127,7 @@ write-spec =
     part-copy-into-end
     copy-into-requires
     dirtied-requires
-    mul-t26
+    mul-t27
     element-set-from-next
     same-length-3
     returns-3)

@@ -8,7 +8,7 @@ use Rattle.contents.proofs.show.Statement.{statement}
 use Rattle.contents.proofs.show.Tie as tie
 
 abbrev given : tie.Start → State
-given c = let a = c .args in state (a .pool) (a .frames .now) (a .store .now)
+given c = let a = c .args in state (a .pool) (a .frames .now) (a .store .now) (a .directory .now)
 
 show-place-requires : tie.Need-show-place-requires
 show-place-requires c κs = search needs
@@ -16,13 +16,13 @@ show-place-requires c κs = search needs
 part-at-requires : tie.Need-part-at-requires
 part-at-requires c κs =
     let at-show-place = c .before in
-    let at-entry = at-show-place .before .before .before in
+    let at-entry = at-show-place .before .before .before .before in
     show-within (given at-entry) (at-entry .args .handle) (at-show-place .show-place .ensures)
 
 returns : tie.Need-returns
 returns c =
     let at-show-place = c .before .before in
-    let at-entry = at-show-place .before .before .before in
+    let at-entry = at-show-place .before .before .before .before in
     c .part-at .ensures ∙ ap (handedAt (lent (at-entry .args .frames)) (lent (at-entry .args .store))) (at-show-place .show-place .ensures)
 
 pub show-spec : {M : Type 1} → statement M

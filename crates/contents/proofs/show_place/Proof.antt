@@ -18,7 +18,10 @@ element-copy-out-held : tie.Need-element-copy-out-held
 element-copy-out-held c = search needs
 
 handle-refusal-requires : tie.Need-handle-refusal-requires
-handle-refusal-requires c κs = (ap (recordAt (c .before .before .before .before .before .before .args .t1 .records)) (c .before .before .before .record-place .ensures), record { noPage = refl; noneSeen = refl })
+handle-refusal-requires c κs =
+    let at-place = c .before .before .before in
+    let at-start = at-place .before .before .before .before in
+    (ap (recordAt (at-start .args .t1 .records)) (at-place .record-place .ensures), record { noPage = refl; noneSeen = refl })
 
 refused-requires : tie.Need-refused-requires
 refused-requires c κs = search needs

@@ -11,11 +11,11 @@ use Rattle.contents.proofs.word.Statement.{statement}
 use Rattle.contents.proofs.word.Tie as tie
 
 abbrev given : tie.Start → State
-given c = let a = c .args in state (a .t1) (a .frames .now) (a .store .now)
+given c = let a = c .args in state (a .t1) (a .frames .now) (a .store .now) (a .directory .now)
 
 -- the start, from past the refusals
 abbrev start : tie.Else1 → tie.Start
-start c = let at-record-place = c .before .before .before .before .before in at-record-place .before .before .before
+start c = let at-record-place = c .before .before .before .before .before in at-record-place .before .before .before .before
 
 record-place-requires : tie.Need-record-place-requires
 record-place-requires c κs = search needs
@@ -29,7 +29,7 @@ element-copy-out-held c = search needs
 slot-refusal-requires : tie.Need-slot-refusal-requires
 slot-refusal-requires c κs =
     let at-record-place = c .before .before .before in
-    let at-entry = at-record-place .before .before .before in
+    let at-entry = at-record-place .before .before .before .before in
     (ap (recordAt (at-entry .args .t1 .records)) (at-record-place .record-place .ensures), record { noPage = refl; noneSeen = refl })
 
 -- refused

@@ -8,7 +8,11 @@ use Rattle.drawing.proofs.draw_record.Statement.{statement}
 use Rattle.drawing.proofs.draw_record.Tie as tie
 
 abbrev given : tie.Start → State
-given c = let a = c .args in state (a .pool) (a .frames .now) (a .store .now)
+given c = let a = c .args in state (a .pool) (a .frames .now) (a .store .now) (a .directory .now)
+
+-- the start, from where rules 1 and 2 were tested
+abbrev start : tie.After-table-refusal → tie.Start
+start c = c .before .before .before .before .before .before
 
 table-refusal-requires : tie.Need-table-refusal-requires
 table-refusal-requires c κs = search needs
@@ -21,29 +25,29 @@ returns : tie.Need-returns
 returns c =
     let past-refusal = c .before in
     let at-refusal = past-refusal .before in
-    c .refused .ensures ∙ draw-refused (given (at-refusal .before .before .before .before .before)) _ (at-refusal .table-refusal .ensures .0) (past-refusal .if1 .taken)
+    c .refused .ensures ∙ draw-refused (given (start at-refusal)) _ (at-refusal .table-refusal .ensures .0) (past-refusal .if1 .taken)
 
 cast-draw-fields : tie.Need-cast-draw-fields
 cast-draw-fields c =
     let at-refusal = c .before in
-    let h = counts-fit (given (at-refusal .before .before .before .before .before)) (at-refusal .table-refusal .ensures) (c .if1 .left) refl refl .1 in omega (arith, h)
+    let h = counts-fit (given (start at-refusal)) (at-refusal .table-refusal .ensures) (c .if1 .left) refl refl .1 in omega (arith, h)
 
 cast-draw-fields-2 : tie.Need-cast-draw-fields-2
 cast-draw-fields-2 c =
     let at-refusal = c .before in
-    let h = counts-fit (given (at-refusal .before .before .before .before .before)) (at-refusal .table-refusal .ensures) (c .if1 .left) refl refl .3 in omega (arith, h)
+    let h = counts-fit (given (start at-refusal)) (at-refusal .table-refusal .ensures) (c .if1 .left) refl refl .3 in omega (arith, h)
 
 draw-fields-requires : tie.Need-draw-fields-requires
 draw-fields-requires c κs =
     let at-refusal = c .before in
-    counts-fit (given (at-refusal .before .before .before .before .before)) (at-refusal .table-refusal .ensures) (c .if1 .left) refl refl
+    counts-fit (given (start at-refusal)) (at-refusal .table-refusal .ensures) (c .if1 .left) refl refl
 
 parent-page-requires : tie.Need-parent-page-requires
 parent-page-requires c κs =
     let at-fields = c .before in
     let past-refusal = at-fields .before in
     let at-refusal = past-refusal .before in
-    frame-fits (given (at-refusal .before .before .before .before .before)) (at-refusal .table-refusal .ensures) (past-refusal .if1 .left) refl refl _ _ (at-fields .draw-fields .ensures)
+    frame-fits (given (start at-refusal)) (at-refusal .table-refusal .ensures) (past-refusal .if1 .left) refl refl _ _ (at-fields .draw-fields .ensures)
 
 of-fields-requires : tie.Need-of-fields-requires
 of-fields-requires c κs = search needs
@@ -56,7 +60,7 @@ returns-2 c =
     let at-fields = at-parent .before .before in
     let past-refusal = at-fields .before in
     let at-refusal = past-refusal .before in
-    draw-made (given (at-refusal .before .before .before .before .before)) (at-refusal .table-refusal .ensures) (past-refusal .if1 .left) refl refl _ _ (at-fields .draw-fields .ensures) _ (at-parent .parent-page .ensures) (at-entry .of-fields .ensures)
+    draw-made (given (start at-refusal)) (at-refusal .table-refusal .ensures) (past-refusal .if1 .left) refl refl _ _ (at-fields .draw-fields .ensures) _ (at-parent .parent-page .ensures) (at-entry .of-fields .ensures)
 
 pub draw-record-spec : {M : Type 1} → statement M
 draw-record-spec =

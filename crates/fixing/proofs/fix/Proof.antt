@@ -13,10 +13,10 @@ use Rattle.fixing.proofs.fix.Tie as tie
 
 -- the start, from past the first four rules
 abbrev start : tie.Else1 → tie.Start
-start c = let at-record-place = c .before .before .before .before .before .before in at-record-place .before .before .before .before
+start c = let at-record-place = c .before .before .before .before .before .before .before .before in at-record-place .before .before .before .before
 
 -- past the first four rules
-ok : (c : tie.Else1) → let a = start c .args in SlotKept (state (a .pool) (a .frames .now) (a .store .now)) (a .handle) (a .slot)
+ok : (c : tie.Else1) → let a = start c .args in SlotKept (state (a .pool) (a .frames .now) (a .store .now) (a .directory .now)) (a .handle) (a .slot)
 ok c = slot-kept _ _ _ (sym (c .before .slot-refusal .ensures .0) ∙ c .if1 .left)
 
 -- the number is below N
@@ -48,8 +48,8 @@ element-copy-out-held c = search needs
 
 slot-refusal-requires : tie.Need-slot-refusal-requires
 slot-refusal-requires c κs =
-    let at-place = c .before .before .before .before .before in
-    let at-entry = at-place .before .before .before in
+    let at-place = c .before .before .before .before .before .before in
+    let at-entry = at-place .before .before .before .before in
     (ap (recordAt (at-entry .args .pool .records)) (at-place .record-place .ensures), record { noPage = refl; noneSeen = refl })
 
 refused-requires : tie.Need-refused-requires
@@ -61,6 +61,9 @@ same-length c = search needs
 same-length-2 : tie.Need-same-length-2
 same-length-2 c = search needs
 
+same-length-3 : tie.Need-same-length-3
+same-length-3 c = search needs
+
 -- rules 1 to 4 refuse
 returns : tie.Need-returns
 returns c = fix-denied _ _ _ (c .before .before .slot-refusal .ensures .0) (c .before .if1 .taken) (c .refused .ensures)
@@ -71,11 +74,14 @@ slot-name-requires c κs = let h = ok (c .before .before) in omega arith
 refused-requires-2 : tie.Need-refused-requires-2
 refused-requires-2 c κs = search needs
 
-same-length-3 : tie.Need-same-length-3
-same-length-3 c = search needs
-
 same-length-4 : tie.Need-same-length-4
 same-length-4 c = search needs
+
+same-length-5 : tie.Need-same-length-5
+same-length-5 c = search needs
+
+same-length-6 : tie.Need-same-length-6
+same-length-6 c = search needs
 
 -- 7: the slot names nothing
 returns-2 : tie.Need-returns-2
@@ -89,31 +95,34 @@ returns-2 c =
 is-number-requires : tie.Need-is-number-requires
 is-number-requires c κs = search needs
 
-cast-t34 : tie.Need-cast-t34
-cast-t34 c =
+cast-t37 : tie.Need-cast-t37
+cast-t37 c =
     let at-name = c .before .before .before in
     let past-refusal = at-name .before .before .before in
     let l = number c in let h = ok past-refusal in omega arith
 
 bring-in-requires : tie.Need-bring-in-requires
 bring-in-requires c κs =
-    let past-reading = c .before .before .before .before in
+    let past-reading = c .before .before .before .before .before in
     let at-name = past-reading .before .before .before in
     let past-refusal = at-name .before .before .before in
     let at-refusal = past-refusal .before in
     let h = ok past-refusal in (h .kept, at-refusal .slot-refusal .ensures .1 (past-refusal .if1 .left), h .held .below, h .slot, number past-reading)
 
-same-length-5 : tie.Need-same-length-5
-same-length-5 c = search needs
+same-length-7 : tie.Need-same-length-7
+same-length-7 c = search needs
 
-same-length-6 : tie.Need-same-length-6
-same-length-6 c = search needs
+same-length-8 : tie.Need-same-length-8
+same-length-8 c = search needs
+
+same-length-9 : tie.Need-same-length-9
+same-length-9 c = search needs
 
 -- the page that it names isn't resident, and comes in
 returns-3 : tie.Need-returns-3
 returns-3 c =
-    let at-load = c .before .before .before .before in
-    let past-reading = at-load .before .before .before .before .before in
+    let at-load = c .before .before .before .before .before .before in
+    let past-reading = at-load .before .before .before .before .before .before in
     let at-reading = past-reading .before in
     let past-name = at-reading .before in
     let at-name = past-name .before in
@@ -133,11 +142,14 @@ element-copy-out-child c = frame c
 refused-requires-3 : tie.Need-refused-requires-3
 refused-requires-3 c κs = search needs
 
-same-length-7 : tie.Need-same-length-7
-same-length-7 c = search needs
+same-length-10 : tie.Need-same-length-10
+same-length-10 c = search needs
 
-same-length-8 : tie.Need-same-length-8
-same-length-8 c = search needs
+same-length-11 : tie.Need-same-length-11
+same-length-11 c = search needs
+
+same-length-12 : tie.Need-same-length-12
+same-length-12 c = search needs
 
 -- 13: it is resident, and has no pin left to give
 returns-4 : tie.Need-returns-4
@@ -155,27 +167,30 @@ returns-4 c =
 pinned-requires : tie.Need-pinned-requires
 pinned-requires c κs = search needs
 
-mul-t20 : tie.Need-mul-t20
-mul-t20 c = search needs
+mul-t21 : tie.Need-mul-t21
+mul-t21 c = search needs
 
 element-set-from-next : tie.Need-element-set-from-next
 element-set-from-next c =
     let at-frame = c .before .before .before .before .before in
     frame at-frame
 
-cast-t46 : tie.Need-cast-t46
-cast-t46 c =
+cast-t51 : tie.Need-cast-t51
+cast-t51 c =
     let at-frame = c .before .before .before .before .before in
     let l = frame at-frame in omega arith
 
 given-requires : tie.Need-given-requires
 given-requires c κs = search needs
 
-same-length-9 : tie.Need-same-length-9
-same-length-9 c = search needs
+same-length-13 : tie.Need-same-length-13
+same-length-13 c = search needs
 
-same-length-10 : tie.Need-same-length-10
-same-length-10 c = search needs
+same-length-14 : tie.Need-same-length-14
+same-length-14 c = search needs
+
+same-length-15 : tie.Need-same-length-15
+same-length-15 c = search needs
 
 -- it is resident, and gains a pin
 returns-5 : tie.Need-returns-5
@@ -202,30 +217,35 @@ fix-spec =
     refused-requires
     same-length
     same-length-2
+    same-length-3
     returns
     slot-name-requires
     refused-requires-2
-    same-length-3
     same-length-4
-    returns-2
-    is-number-requires
-    cast-t34
-    bring-in-requires
     same-length-5
     same-length-6
+    returns-2
+    is-number-requires
+    cast-t37
+    bring-in-requires
+    same-length-7
+    same-length-8
+    same-length-9
     returns-3
     frame-in-requires
     mul-child
     element-copy-out-child
     refused-requires-3
-    same-length-7
-    same-length-8
+    same-length-10
+    same-length-11
+    same-length-12
     returns-4
     pinned-requires
-    mul-t20
+    mul-t21
     element-set-from-next
-    cast-t46
+    cast-t51
     given-requires
-    same-length-9
-    same-length-10
+    same-length-13
+    same-length-14
+    same-length-15
     returns-5)

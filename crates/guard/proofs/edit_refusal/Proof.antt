@@ -12,11 +12,11 @@ use Rattle.guard.proofs.edit_refusal.Statement.{statement}
 use Rattle.guard.proofs.edit_refusal.Tie as tie
 
 abbrev given : tie.Start → State
-given c = let a = c .args in state (a .pool) (a .frames .now) (a .store .now)
+given c = let a = c .args in state (a .pool) (a .frames .now) (a .store .now) (a .directory .now)
 
 -- the start, from past the rules of the slot
 abbrev start : tie.Else1 → tie.Start
-start c = c .before .before .before .before .before .before
+start c = c .before .before .before .before .before .before .before
 
 -- past the rules of the slot
 kept : (c : tie.Else1) → let a = start c .args in SlotKept (given (start c)) (a .handle) (a .slot)
@@ -31,14 +31,14 @@ asked c =
 
 slot-refusal-requires : tie.Need-slot-refusal-requires
 slot-refusal-requires c κs =
-    let at-entry = c .before .before .before .before in
+    let at-entry = c .before .before .before .before .before in
     at-entry .pre
 
 -- rules 1 to 4
 returns : tie.Need-returns
 returns c =
     let at-slot-refusal = c .before in
-    let at-entry = at-slot-refusal .before .before .before .before .before in
+    let at-entry = at-slot-refusal .before .before .before .before .before .before in
     let a = at-entry .args in
     (slot-stops (given at-entry) (a .handle) (a .slot) (rule26 (given at-entry) (a .handle) ∷ []) (at-slot-refusal .slot-refusal .ensures .0) (c .if1 .taken), λ z. absurd (c .if1 .taken z))
 

@@ -12,18 +12,18 @@ use Rattle.guard.proofs.handle_refusal.Statement.{statement}
 use Rattle.guard.proofs.handle_refusal.Tie as tie
 
 abbrev given : tie.Start → State
-given c = let a = c .args in state (a .pool) (a .frames .now) (a .store .now)
+given c = let a = c .args in state (a .pool) (a .frames .now) (a .store .now) (a .directory .now)
 
 table-refusal-requires : tie.Need-table-refusal-requires
 table-refusal-requires c κs =
-    let at-entry = c .before .before .before .before in
+    let at-entry = c .before .before .before .before .before in
     at-entry .pre .1
 
 -- rules 1 and 2
 returns : tie.Need-returns
 returns c =
     let at-table-refusal = c .before in
-    let at-entry = at-table-refusal .before .before .before .before .before in
+    let at-entry = at-table-refusal .before .before .before .before .before .before in
     (pool-stops (given at-entry) (rule3 (given at-entry) (at-entry .args .handle) ∷ []) (at-table-refusal .table-refusal .ensures .0) (c .if1 .taken), λ z. absurd (c .if1 .taken z))
 
 handle-fits-requires : tie.Need-handle-fits-requires
@@ -35,7 +35,7 @@ returns-2 c =
     let at-handle-fits = c .before in
     let past-pool = at-handle-fits .before in
     let at-table-refusal = past-pool .before in
-    let at-entry = at-table-refusal .before .before .before .before .before in
+    let at-entry = at-table-refusal .before .before .before .before .before .before in
     let s = given at-entry in
     let h = at-entry .args .handle in
     let e = at-table-refusal .table-refusal .ensures .0 in
@@ -49,7 +49,7 @@ returns-3 c =
     let at-handle-fits = c .before in
     let past-pool = at-handle-fits .before in
     let at-table-refusal = past-pool .before in
-    let at-entry = at-table-refusal .before .before .before .before .before in
+    let at-entry = at-table-refusal .before .before .before .before .before .before in
     let s = given at-entry in
     let h = at-entry .args .handle in
     let e = at-table-refusal .table-refusal .ensures .0 in

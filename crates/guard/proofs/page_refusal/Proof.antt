@@ -13,18 +13,18 @@ use Rattle.guard.proofs.page_refusal.Statement.{statement}
 use Rattle.guard.proofs.page_refusal.Tie as tie
 
 abbrev given : tie.Start → State
-given c = let a = c .args in state (a .pool) (a .frames .now) (a .store .now)
+given c = let a = c .args in state (a .pool) (a .frames .now) (a .store .now) (a .directory .now)
 
 table-refusal-requires : tie.Need-table-refusal-requires
 table-refusal-requires c κs =
-    let at-entry = c .before .before .before .before in
+    let at-entry = c .before .before .before .before .before in
     at-entry .pre
 
 -- rules 1 and 2
 returns : tie.Need-returns
 returns c =
     let at-table-refusal = c .before in
-    let at-entry = at-table-refusal .before .before .before .before .before in
+    let at-entry = at-table-refusal .before .before .before .before .before .before in
     (pool-stops (given at-entry) (rule6 (given at-entry) (at-entry .args .page .0) ∷ []) (at-table-refusal .table-refusal .ensures .0) (c .if1 .taken), λ z. absurd (c .if1 .taken z))
 
 cast-if2 : tie.Need-cast-if2
@@ -35,7 +35,7 @@ returns-2 : tie.Need-returns-2
 returns-2 c =
     let past-pool = c .before .before in
     let at-table-refusal = past-pool .before in
-    let at-entry = at-table-refusal .before .before .before .before .before in
+    let at-entry = at-table-refusal .before .before .before .before .before .before in
     let s = given at-entry in
     let q = at-entry .args .page .0 in
     let e = at-table-refusal .table-refusal .ensures .0 in
@@ -48,7 +48,7 @@ returns-3 : tie.Need-returns-3
 returns-3 c =
     let past-pool = c .before .before in
     let at-table-refusal = past-pool .before in
-    let at-entry = at-table-refusal .before .before .before .before .before in
+    let at-entry = at-table-refusal .before .before .before .before .before .before in
     let s = given at-entry in
     let q = at-entry .args .page .0 in
     let e = at-table-refusal .table-refusal .ensures .0 in

@@ -11,18 +11,18 @@ use Rattle.guard.proofs.slot_refusal.Statement.{statement}
 use Rattle.guard.proofs.slot_refusal.Tie as tie
 
 abbrev given : tie.Start → State
-given c = let a = c .args in state (a .pool) (a .frames .now) (a .store .now)
+given c = let a = c .args in state (a .pool) (a .frames .now) (a .store .now) (a .directory .now)
 
 handle-refusal-requires : tie.Need-handle-refusal-requires
 handle-refusal-requires c κs =
-    let at-entry = c .before .before .before .before in
+    let at-entry = c .before .before .before .before .before in
     at-entry .pre
 
 -- rules 1 to 3
 returns : tie.Need-returns
 returns c =
     let at-handle-refusal = c .before in
-    let at-entry = at-handle-refusal .before .before .before .before .before in
+    let at-entry = at-handle-refusal .before .before .before .before .before .before in
     let a = at-entry .args in
     (handle-stops (given at-entry) (a .handle) (rule4 (a .slot) ∷ []) (at-handle-refusal .handle-refusal .ensures .0) (c .if1 .taken), λ z. absurd (c .if1 .taken z))
 
@@ -31,7 +31,7 @@ returns-2 : tie.Need-returns-2
 returns-2 c =
     let past-handle = c .before in
     let at-handle-refusal = past-handle .before in
-    let at-entry = at-handle-refusal .before .before .before .before .before in
+    let at-entry = at-handle-refusal .before .before .before .before .before .before in
     let a = at-entry .args in
     (handle-passes (given at-entry) (a .handle) (rule4 (a .slot) ∷ []) (at-handle-refusal .handle-refusal .ensures .0) (past-handle .if1 .left) (sym (broken-here 4 [] (le-ltb _ _ (c .if2 .taken)))), λ y. absurd (omega arith))
 
@@ -40,7 +40,7 @@ returns-3 : tie.Need-returns-3
 returns-3 c =
     let past-handle = c .before in
     let at-handle-refusal = past-handle .before in
-    let at-entry = at-handle-refusal .before .before .before .before .before in
+    let at-entry = at-handle-refusal .before .before .before .before .before .before in
     let a = at-entry .args in
     (handle-passes (given at-entry) (a .handle) (rule4 (a .slot) ∷ []) (at-handle-refusal .handle-refusal .ensures .0) (past-handle .if1 .left) (sym (kept-then 4 [] (lt-ltb _ _ (c .if2 .left)) ∙ none-broken)), λ y. at-handle-refusal .handle-refusal .ensures .1 (past-handle .if1 .left))
 

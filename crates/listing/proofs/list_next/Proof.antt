@@ -64,13 +64,13 @@ slice-aggregate-list-records-2 c = search needs
 
 list-records-requires : tie.Need-list-records-requires
 list-records-requires c κs =
-    let at-list-records-arg3 = c .before in
-    let at-list-records-arg2 = at-list-records-arg3 .before in
-    let at-count = at-list-records-arg2 .before .before .before .before in
+    let at-list-records-arg4 = c .before in
+    let at-list-records-arg3 = at-list-records-arg4 .before in
+    let at-count = at-list-records-arg3 .before .before .before .before .before in
     let at-bytes2 = at-count .before .before .before .before .before in
     let at-bytes = at-bytes2 .before .before .before in
-    let e = slice-aggregate-list-records at-list-records-arg3 in
-    let h = slice-reshare-prefix-list-records at-list-records-arg2 in
+    let e = slice-aggregate-list-records at-list-records-arg4 in
+    let h = slice-reshare-prefix-list-records at-list-records-arg3 in
     omega (arith, e, h, at-bytes2 .bytes2 .given, at-bytes .bytes .given)
 
 array-share-prefix-text : tie.Need-array-share-prefix-text

@@ -5,16 +5,19 @@ use Rattle.listing.proofs.main.Statement.{statement}
 use Rattle.listing.proofs.main.Tie as tie
 
 abbrev Inv-loop : tie.InvT-loop
-Inv-loop frames₀ store₀ block₀ turn₀ turns₀ frames store block turn turns = turn .part ≤ 15
+Inv-loop frames₀ store₀ directory₀ block₀ turn₀ turns₀ frames store directory block turn turns = turn .part ≤ 15
 
 abbrev μ-loop : tie.MeasureT-loop
-μ-loop frames₀ store₀ block₀ turn₀ turns₀ frames store block turn turns = turns
+μ-loop frames₀ store₀ directory₀ block₀ turn₀ turns₀ frames store directory block turn turns = turns
 
 slice-aggregate-open : tie.Need-slice-aggregate-open Inv-loop μ-loop
 slice-aggregate-open c = search needs
 
 slice-aggregate-open-2 : tie.Need-slice-aggregate-open-2 Inv-loop μ-loop
 slice-aggregate-open-2 c = search needs
+
+slice-aggregate-open-3 : tie.Need-slice-aggregate-open-3 Inv-loop μ-loop
+slice-aggregate-open-3 c = search needs
 
 open-requires : tie.Need-open-requires Inv-loop μ-loop
 open-requires c κs = search needs
@@ -23,7 +26,7 @@ loop-holds : tie.Need-loop-holds Inv-loop μ-loop
 loop-holds c = search needs
 
 list-next-requires : tie.Need-list-next-requires Inv-loop μ-loop
-list-next-requires c κs = c .before .before .before .before .loop .inv
+list-next-requires c κs = c .before .before .before .before .before .loop .inv
 
 returns : tie.Need-returns Inv-loop μ-loop
 returns c = search needs
@@ -48,6 +51,7 @@ main-spec =
     μ-loop
     slice-aggregate-open
     slice-aggregate-open-2
+    slice-aggregate-open-3
     open-requires
     loop-holds
     list-next-requires

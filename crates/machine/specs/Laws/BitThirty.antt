@@ -13,12 +13,12 @@ use Rattle.page.specs.Word.{nameOf, isNumber, frameIn, namesNothing, says, plai
 use Rattle.page.specs.Page.{slot, name}
 use Rattle.machine.specs.declared.Handle.{Handle}
 use Rattle.rules.specs.Tests.{pick, _and_, _⇒_, every, Rule, firstBroken, verdict}
-use Rattle.rules.specs.TestLaws.{clash, is-off, and-no, or-off, every-false, every-ext, pick-yes, pick-two, kept-then, broken-here, numbered}
+use Rattle.rules.specs.TestLaws.{clash, is-off, both, and-no, or-off, every-false, every-ext, pick-yes, pick-two, kept-then, broken-here, numbered}
 use Rattle.machine.specs.Machine.{State, occupied}
 use Rattle.machine.specs.Agreement.{agree}
 use Rattle.machine.specs.Soundness.{wordsBelow, wordsOnce, sound}
 use Rattle.machine.specs.Naming.{wordLoadable, loadable}
-use Rattle.machine.specs.Rules.{lengthsFit, wordOf, rule1, rule2, rule13, rule14, rule15, rule16}
+use Rattle.machine.specs.Rules.{lengthsFit, directoryFits, wordOf, rule1, rule2, rule13, rule14, rule15, rule16}
 use Rattle.machine.specs.Answers.{Answer, refused, done, Out, out}
 use Rattle.machine.specs.Calls.{decide, openRules, openCall, fixEntryRules, fixRules, rootCall, fixCall, unfixCall, showCall, peekCall, wordCall, writeCall, linkCall, unlinkCall, evictCall, settleCall, findCall}
 use Rattle.machine.specs.History.{Call, reopen, root, fix, unfix, show, peek, word, write, link, unlink, evict, settle, find, row}
@@ -57,23 +57,23 @@ answer-by : (s : State) (rules : List Rule) (a : Answer) (t : State) → decide 
 unfolding decide verdict
 answer-by s rules a t = pick-two (λ (o : Out) (b : Answer). o .answer ≡ b) (eqb (firstBroken rules) 0) (out a t) (out (refused (firstBroken rules)) s) a (refused (firstBroken rules)) refl refl
 
-open-rules-by-names : (fs a b : List ℕ) → length a ≡ length b → sound a (length b / pageSize) ≡ sound b (length b / pageSize) → firstBroken (openRules fs a) ≡ firstBroken (openRules fs b)
+open-rules-by-names : (fs a b d : List ℕ) → length a ≡ length b → sound a (length b / pageSize) ≡ sound b (length b / pageSize) → firstBroken (openRules fs a d) ≡ firstBroken (openRules fs b d)
 unfolding lengthsFit
-open-rules-by-names fs a b l s = rw (l, s)
+open-rules-by-names fs a b d l s = rw (l, s)
 
-pub open-by-names : (fs a b : List ℕ) → length a ≡ length b → ((p k : ℕ) → p < length b / pageSize → k < slotCount → name a p k ≡ name b p k) → openCall fs a .answer ≡ openCall fs b .answer
+pub open-by-names : (fs a b d : List ℕ) → length a ≡ length b → ((p k : ℕ) → p < length b / pageSize → k < slotCount → name a p k ≡ name b p k) → openCall fs a d .answer ≡ openCall fs b d .answer
 unfolding openCall
-open-by-names fs a b l e =
-    answer-by _ (openRules fs a) done _ ∙ ap (λ (n : ℕ). verdict n refused done) (open-rules-by-names fs a b l (sound-by-names a b (length b / pageSize) e)) ∙ sym (answer-by _ (openRules fs b) done _)
+open-by-names fs a b d l e =
+    answer-by _ (openRules fs a d) done _ ∙ ap (λ (n : ℕ). verdict n refused done) (open-rules-by-names fs a b d l (sound-by-names a b (length b / pageSize) e)) ∙ sym (answer-by _ (openRules fs b d) done _)
 
 -- ---- "and denies it on a word of otherwise 0 (16; when loading 14, in an occupied frame 2)"
 
 pub record AloneDenied : Type 0 where
-  pub opening : (fs st : List ℕ) (p k : ℕ) → lengthsFit (length fs / pageSize) (length st / pageSize) fs st ≡ true → p < length st / pageSize → k < slotCount → slot st p k ≡ lockBit
-      → openCall fs st .answer ≡ refused 16
+  pub opening : (fs st d : List ℕ) (p k : ℕ) → lengthsFit (length fs / pageSize) (length st / pageSize) fs st ≡ true → directoryFits d ≡ true → p < length st / pageSize → k < slotCount → slot st p k ≡ lockBit
+      → openCall fs st d .answer ≡ refused 16
   pub loading : (s : State) (h : Handle) (k j : ℕ) → firstBroken (fixEntryRules s h k) ≡ 0 → isNumber (wordOf s h k) ≡ true → j < slotCount → slot (s .store) (wordOf s h k) j ≡ lockBit
       → fixCall s h k .answer ≡ refused 14
-  pub inFrame : (s : State) (f k : ℕ) → lengthsFit (s .pool .count) (s .pool .pages) (s .frames) (s .store) ≡ true → occupied (s .pool) f ≡ true → k < slotCount → slot (s .frames) f k ≡ lockBit
+  pub inFrame : (s : State) (f k : ℕ) → lengthsFit (s .pool .count) (s .pool .pages) (s .frames) (s .store) ≡ true → directoryFits (s .directory) ≡ true → occupied (s .pool) f ≡ true → k < slotCount → slot (s .frames) f k ≡ lockBit
       → (c : Call) → row c .anew ≡ false → row c .out s .answer ≡ refused 2
 
 -- the store isn't sound
@@ -95,9 +95,10 @@ alone-disagrees s f k small o hk e =
     is-off _ (λ t. let l = facts (s .pool) (s .frames) t .below f k o hk (omega arith) (λ z. omega arith) in omega arith)
 
 -- so the call is refused
-open-refused : (fs st : List ℕ) → lengthsFit (length fs / pageSize) (length st / pageSize) fs st ≡ true → sound st (length st / pageSize) ≡ false → openCall fs st .answer ≡ refused 16
+open-refused : (fs st d : List ℕ) → lengthsFit (length fs / pageSize) (length st / pageSize) fs st ≡ true → directoryFits d ≡ true → sound st (length st / pageSize) ≡ false → openCall fs st d .answer ≡ refused 16
 unfolding openCall
-open-refused fs st fit u = answers-as (refused-by _ (openRules fs st) _ 16 (omega arith) (kept-then 1 (rule16 (length st / pageSize) st ∷ []) fit ∙ broken-here 16 [] u))
+open-refused fs st d fit size u =
+    answers-as (refused-by _ (openRules fs st d) _ 16 (omega arith) (kept-then 1 (rule16 (length st / pageSize) st ∷ []) (both _ _ fit size) ∙ broken-here 16 [] u))
 
 fix-refused : (s : State) (h : Handle) (k : ℕ) → firstBroken (fixEntryRules s h k) ≡ 0 → isNumber (wordOf s h k) ≡ true → loadable s (wordOf s h k) ≡ false → fixCall s h k .answer ≡ refused 14
 unfolding fixCall numbered _and_
@@ -108,9 +109,9 @@ fix-refused s h k b t u =
     (kept-part (fixEntryRules s h k) last refl b ∙ ap firstBroken (sym (pick-yes (rule13 s (frameIn w) ∷ []) t refl)) ∙ broken-here 14 (rule15 s ∷ []) u))
 
 -- every call but open tests 1 and 2 first
-module _ (s : State) (fit : lengthsFit (s .pool .count) (s .pool .pages) (s .frames) (s .store) ≡ true) (u : agree (s .pool) (s .frames) ≡ false) where
+module _ (s : State) (fit : lengthsFit (s .pool .count) (s .pool .pages) (s .frames) (s .store) ≡ true) (size : directoryFits (s .directory) ≡ true) (u : agree (s .pool) (s .frames) ≡ false) where
   by-two : (rest : List Rule) (a : Out) → decide s (rule1 s ∷ rule2 s ∷ rest) a .answer ≡ refused 2
-  by-two rest a = answers-as (refused-by s (rule1 s ∷ rule2 s ∷ rest) a 2 (omega arith) (kept-then 1 (rule2 s ∷ rest) fit ∙ broken-here 2 rest u))
+  by-two rest a = answers-as (refused-by s (rule1 s ∷ rule2 s ∷ rest) a 2 (omega arith) (kept-then 1 (rule2 s ∷ rest) (both _ _ fit size) ∙ broken-here 2 rest (sym (and-no _ u))))
 
   disagreeing : (c : Call) → row c .anew ≡ false → row c .out s .answer ≡ refused 2
   unfolding rootCall fixCall unfixCall showCall peekCall wordCall writeCall linkCall unlinkCall evictCall settleCall findCall
@@ -134,14 +135,14 @@ alone-denied = record { opening = at-open; loading = at-load; inFrame = at-rule2
     few : (N : ℕ) → N ≤ mostPages → N < lockBit
     few N h = omega arith
 
-    at-open : (fs st : List ℕ) (p k : ℕ) → lengthsFit (length fs / pageSize) (length st / pageSize) fs st ≡ true → p < length st / pageSize → k < slotCount → slot st p k ≡ lockBit
-        → openCall fs st .answer ≡ refused 16
-    at-open fs st p k fit hp hk e = open-refused fs st fit (alone-unsound st (length st / pageSize) p k (few _ (lengths-of _ _ fs st fit .pages)) hp hk e)
+    at-open : (fs st d : List ℕ) (p k : ℕ) → lengthsFit (length fs / pageSize) (length st / pageSize) fs st ≡ true → directoryFits d ≡ true → p < length st / pageSize → k < slotCount → slot st p k ≡ lockBit
+        → openCall fs st d .answer ≡ refused 16
+    at-open fs st d p k fit size hp hk e = open-refused fs st d fit size (alone-unsound st (length st / pageSize) p k (few _ (lengths-of _ _ fs st fit .pages)) hp hk e)
 
     at-load : (s : State) (h : Handle) (k j : ℕ) → firstBroken (fixEntryRules s h k) ≡ 0 → isNumber (wordOf s h k) ≡ true → j < slotCount → slot (s .store) (wordOf s h k) j ≡ lockBit
         → fixCall s h k .answer ≡ refused 14
     at-load s h k j b t hj e = fix-refused s h k b t (alone-unloadable s (wordOf s h k) j (few _ (slot-parts s h k _ b .0 .kept .sized .pages)) hj e)
 
-    at-rule2 : (s : State) (f k : ℕ) → lengthsFit (s .pool .count) (s .pool .pages) (s .frames) (s .store) ≡ true → occupied (s .pool) f ≡ true → k < slotCount → slot (s .frames) f k ≡ lockBit
+    at-rule2 : (s : State) (f k : ℕ) → lengthsFit (s .pool .count) (s .pool .pages) (s .frames) (s .store) ≡ true → directoryFits (s .directory) ≡ true → occupied (s .pool) f ≡ true → k < slotCount → slot (s .frames) f k ≡ lockBit
         → (c : Call) → row c .anew ≡ false → row c .out s .answer ≡ refused 2
-    at-rule2 s f k fit o hk e = disagreeing s fit (alone-disagrees s f k (few _ (lengths-of _ _ _ _ fit .pages)) o hk e)
+    at-rule2 s f k fit size o hk e = disagreeing s fit size (alone-disagrees s f k (few _ (lengths-of _ _ _ _ fit .pages)) o hk e)

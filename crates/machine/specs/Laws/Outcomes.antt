@@ -160,6 +160,9 @@ refuses-exactly s xs ys n t a k z u lx ly = (
 pub refused-no-frame : {n f looks : ℕ} → refused n ≡ frame f looks → ⊥
 refused-no-frame e = let z : _≡_ {A = ℕ} 0 1 = cc in omega arith
 
+pub refused-no-absence : {n m : ℕ} → refused n ≡ nowhere m → ⊥
+refused-no-absence e = let z : _≡_ {A = ℕ} 0 1 = cc in omega arith
+
 pub absent-no-frame : {m f looks : ℕ} → nowhere m ≡ frame f looks → ⊥
 absent-no-frame e = let z : _≡_ {A = ℕ} 0 1 = cc in omega arith
 

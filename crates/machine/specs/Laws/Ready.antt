@@ -1,6 +1,7 @@
--- What rules 1 and 2 give to the code: counts, lengths, ranges, and where swizzled words lead. Assumes nothing.
+-- What rules 1 and 2 give to the code: counts, lengths, ranges, where swizzled words lead, and the directory's chains. Assumes nothing.
 use Prim.Native.Nat.{ℕ, _+_, _*_, _-_, _<_, _≤_}
 use mathlib.Core.Path.{_≡_, sym, _∙_}
+use mathlib.Core.Logic.{_≢_}
 use mathlib.Core.Bool.{true, false}
 use mathlib.Core.List.{List, []}
 use native.Mathlib.Omega.{arith}
@@ -17,7 +18,11 @@ use Rattle.rules.specs.TestLaws.{clash, and-true, both, first-kept, case, on, o
 use Rattle.machine.specs.Machine.{State, isUsed, isDirty, recordAt, occupied}
 use Rattle.machine.specs.Agreement.{isBlank, agree}
 use Rattle.machine.specs.Laws.AgreementFacts.{InRange, Points, Agreed, facts, make-occupied, occupied-lt, occupied-used}
-use Rattle.machine.specs.Rules.{lengthsFit}
+use Rattle.chains.specs.Chain.{directorySize}
+use Rattle.machine.specs.Directory.{chainsAgree}
+use Rattle.chains.specs.ChainFacts.{Chained}
+use Rattle.machine.specs.Laws.DirectoryFacts.{homeOf, chains-facts}
+use Rattle.machine.specs.Rules.{lengthsFit, directoryFits}
 use Rattle.machine.specs.Calls.{poolRules}
 
 -- ---- rule 1
@@ -49,17 +54,34 @@ of-lengths F N fs st h =
 abbrev pub Sized : State → Type 0
 Sized s = Lengths (s .pool .count) (s .pool .pages) (s .frames) (s .store)
 
+pub directory-of : (d : List ℕ) → directoryFits d ≡ true → length d ≡ directorySize
+unfolding directoryFits
+directory-of d t = eqb-true _ directorySize t
+
+pub of-directory : (d : List ℕ) → length d ≡ directorySize → directoryFits d ≡ true
+unfolding directoryFits
+of-directory d e = eq-eqb _ directorySize e
+
+pub not-directory : (d : List ℕ) → length d ≢ directorySize → directoryFits d ≡ false
+unfolding directoryFits
+not-directory d n = ne-eqb _ directorySize n
+
 -- ---- rules 1 and 2
 
 pub record Kept (s : State) : Type 0 where
   pub sized : Sized s
   pub agreed : Agreed (s .pool) (s .frames)
+  pub directory : length (s .directory) ≡ directorySize
+  pub chained : Chained (homeOf (s .pool)) (s .directory)
 
 pub rules-kept : (s : State) → firstBroken (poolRules s) ≡ 0 → Kept s
 rules-kept s e =
-    let a = first-kept 0 (lengthsFit (s .pool .count) (s .pool .pages) (s .frames) (s .store)) _ e in
-    let b = first-kept 1 (agree (s .pool) (s .frames)) [] (a .1) in
-    record { sized = lengths-of _ _ _ _ (a .0); agreed = facts (s .pool) (s .frames) (b .0) }
+    let a = first-kept 0 (lengthsFit (s .pool .count) (s .pool .pages) (s .frames) (s .store) and directoryFits (s .directory)) _ e in
+    let b = first-kept 1 (agree (s .pool) (s .frames) and chainsAgree (s .pool) (s .directory)) [] (a .1) in
+    let l = and-true (lengthsFit (s .pool .count) (s .pool .pages) (s .frames) (s .store)) _ (a .0) in
+    let c = and-true (agree (s .pool) (s .frames)) _ (b .0) in
+    let Z : Sized s = lengths-of _ _ _ _ (l .0) in
+    record { sized = Z; agreed = facts (s .pool) (s .frames) (c .0); directory = directory-of _ (l .1); chained = chains-facts (s .pool) (Z .most) (s .directory) (c .1) }
 
 -- ---- what the moves need, which a sweep keeps too
 

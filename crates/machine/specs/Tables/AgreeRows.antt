@@ -1,4 +1,4 @@
--- "When records and frames agree": a machine that agrees, and for each sentence machines that break it alone (2).
+-- "When records and frames agree": a machine that agrees, and for each sentence machines that break it alone (2). Their directories have just the occupied frames; those that break its own sentences stand in DirectoryRows.
 use mathlib.Core.Path.{_≡_, refl}
 use mathlib.Core.Bool.{true}
 use mathlib.Core.List.{List, [], _∷_, _++_}
@@ -6,9 +6,11 @@ use Prim.Native.Nat.{ℕ}
 use lib.ListN.{set}
 use Rattle.machine.specs.declared.FrameRecord.{FrameRecord}
 use Rattle.machine.specs.Machine.{State, withPool, withRecords}
+use Rattle.machine.specs.Directory.{chainsAgree}
 use Rattle.machine.specs.Answers.{done}
 use Rattle.machine.specs.Calls.{settleCall}
-use Rattle.machine.specs.Tables.Rows.{made, empty, child, resident, names, swizzledTo, nothing, page, machine, Case, leaves, refuses, allHold}
+use Rattle.chains.specs.ChainRows.{directoryOf}
+use Rattle.machine.specs.Tables.Rows.{made, empty, child, resident, names, swizzledTo, nothing, page, machine, withDirectory, flag, Case, also, leaves, refuses, allHold}
 
 -- three frames over four pages, all clean: the hand, and the record and the first words of each frame
 abbrev three : ℕ → FrameRecord × List (List ℕ) → FrameRecord × List (List ℕ) → FrameRecord × List (List ℕ) → State
@@ -29,8 +31,9 @@ free = (empty, swizzledTo 1 ∷ names 9 ∷ names 2 ∷ [])
 abbrev beyond : State → FrameRecord → State
 beyond s r = withPool s (withRecords (s .pool) (set (s .pool .records) 3 r))
 
+-- refused by 2, and for records and frames alone: the directory agrees with the records
 abbrev disagrees : State → Case
-disagrees s = refuses settleCall s 2
+disagrees s = also (flag (chainsAgree (s .pool) (s .directory)) ∷ []) (1 ∷ []) (refuses settleCall s 2)
 
 pub agreeTable : List Case
 agreeTable =
@@ -40,8 +43,8 @@ agreeTable =
     ∷ disagrees (three 2 (child 0 0 3 0 0, []) free free)
     ∷ disagrees (three 2 (child 0 1 0 1 3, swizzledTo 1 ∷ names 2 ∷ []) one free)
     ∷ disagrees (three 2 (child 1 0 0 1 3, swizzledTo 1 ∷ names 2 ∷ []) one free)
-    -- "No page is in two frames."
-    ∷ disagrees (three 2 (resident 0 1 3, swizzledTo 1 ∷ swizzledTo 2 ∷ []) one (child 0 1 1 0 0, []))
+    -- "No page is in two frames.", both in the page's chain
+    ∷ disagrees (withDirectory (three 2 (resident 0 1 3, swizzledTo 1 ∷ swizzledTo 2 ∷ []) one (child 0 1 1 0 0, [])) (directoryOf (1 ∷ 2 ∷ []) (0 ∷ 3 ∷ [])))
     -- "The hand is below F."
     ∷ disagrees (three 3 root one free)
     -- "Every field is in its range."
@@ -51,7 +54,7 @@ agreeTable =
     ∷ disagrees (three 2 root (made 2 0 3 0 0 0 1, names 3 ∷ []) free)
     ∷ disagrees (three 2 root (made 1 2 3 0 0 0 1, names 3 ∷ []) free)
     -- "An empty frame's record, and any record from F on, is all zero"
-    ∷ disagrees (three 2 (resident 0 1 3, []) (empty, []) (child 0 0 0 0 1, []))
+    ∷ disagrees (three 2 root one (made 0 0 1 0 0 0 0, []))
     ∷ disagrees (beyond (three 2 root one free) (child 0 0 2 0 0))
     ∷ []
 

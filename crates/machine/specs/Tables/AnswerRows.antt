@@ -53,14 +53,12 @@ answerTable =
     ∷ leaves (wordCall two (handleOf 0 0) 0) (number 1 false) two
     ∷ leaves (wordCall two (handleOf 0 0) 1) (number 2 false) two
     ∷ leaves (wordCall two (handleOf 0 0) 2) (number 0 false) two
-    -- Request A.2: "Its answer gains the frames looked at: that frame's index plus 1, or F if absent." In the last frame and absent, both are F.
+    -- request A.3: "the entries compared: the place of the page's entry in its chain, from 1, or the chain's length if absent", whatever frames are empty. More of it stands in DirectoryRows.
     ∷ leaves (findCall two (pageNumber 0)) (frame 0 1) two
-    ∷ leaves (findCall two (pageNumber 1)) (frame 1 2) two
-    ∷ leaves (findCall two (pageNumber 2)) (nowhere 2) two
-    -- "it is to go from frame 0 on and end at the frame that holds it": empty frames before it count, frames after it don't
-    ∷ leaves (findCall gaps (pageNumber 0)) (frame 0 1) gaps
-    ∷ leaves (findCall gaps (pageNumber 1)) (frame 2 3) gaps
-    ∷ leaves (findCall gaps (pageNumber 2)) (nowhere 4) gaps
+    ∷ leaves (findCall two (pageNumber 1)) (frame 1 1) two
+    ∷ leaves (findCall two (pageNumber 2)) (nowhere 0) two
+    ∷ leaves (findCall gaps (pageNumber 1)) (frame 2 1) gaps
+    ∷ leaves (findCall gaps (pageNumber 2)) (nowhere 0) gaps
     -- "A refused call answers its number alone."
     ∷ refuses (λ s. findCall s (pageNumber 3)) gaps 6
     ∷ []

@@ -23,8 +23,11 @@ says bytes = let w = wordAt bytes 0 in nameOf w ∷ flag (isMarked w) ∷ []
 abbrev frames : List ℕ
 frames = joined (page [] 8 ∷ page [] 9 ∷ [])
 
+abbrev directory : List ℕ
+directory = replicate 131 7
+
 abbrev opens : List (List ℕ) → Case
-opens store = leaves (openCall frames (joined store)) done (machine 0 ((resident 0 0 0, first store) ∷ (empty, page [] 9) ∷ []) store)
+opens store = leaves (openCall frames (joined store) directory) done (machine 0 ((resident 0 0 0, first store) ∷ (empty, page [] 9) ∷ []) store)
   where
     first : List (List ℕ) → List ℕ
     first [] = []
@@ -32,7 +35,7 @@ opens store = leaves (openCall frames (joined store)) done (machine 0 ((resident
 
 abbrev unsound : List (List ℕ) → Case
 unsound store =
-    leaves (openCall frames (joined store)) (refused 16) (state (record { records = replicate 64 empty; count = 0; pages = 0; hand = frameIndex 0 }) frames (joined store))
+    leaves (openCall frames (joined store) directory) (refused 16) (state (record { records = replicate 64 empty; count = 0; pages = 0; hand = frameIndex 0 }) frames (joined store) directory)
 
 -- ---- words, and open
 
@@ -196,7 +199,7 @@ freeTable =
 -- ---- from an open on: page 1 gets locked, and free again
 
 abbrev zeros : State
-zeros = openCall (joined (page [] 0 ∷ page [] 0 ∷ [])) (joined (page [] 0 ∷ page [] 0 ∷ [])) .left
+zeros = openCall (joined (page [] 0 ∷ page [] 0 ∷ [])) (joined (page [] 0 ∷ page [] 0 ∷ [])) directory .left
 
 abbrev afterLink : Bool → State → State
 afterLink l s = linkCall s (handleOf 0 0) 4 (pageNumber 1) l .left

@@ -7,7 +7,8 @@ use lib.ListN.{drop, replicate}
 use Rattle.machine.specs.Machine.{State, state, frameIndex, pageNumber}
 use Rattle.machine.specs.Answers.{refused}
 use Rattle.machine.specs.Calls.{openCall, rootCall, fixCall, unfixCall, showCall, peekCall, wordCall, writeCall, linkCall, unlinkCall, evictCall, settleCall, findCall}
-use Rattle.machine.specs.Tables.Rows.{joined, empty, resident, names, swizzledTo, page, machine, handleOf, Case, leaves, refuses, allHold}
+use Rattle.chains.specs.ChainRows.{directoryOf}
+use Rattle.machine.specs.Tables.Rows.{joined, empty, resident, names, swizzledTo, page, machine, withDirectory, handleOf, Case, leaves, refuses, allHold}
 
 -- two frames over three pages, full: page 1 in frame 1 by the root's slot 0, page 2 not resident in its slot 1. The hand, the root's page and pins, page 1's pins, and the stored pages 0 and 2.
 abbrev pair : ℕ → ℕ → List ℕ → ℕ → List ℕ → List ℕ → State
@@ -26,7 +27,14 @@ astray = pair 2 65535 linked 1 (page [] 20) (page [] 22)
 
 -- and frames of a wrong length beside them (1 and 2)
 abbrev short : State
-short = state (astray .pool) (drop 1 (astray .frames)) (astray .store)
+short = state (astray .pool) (drop 1 (astray .frames)) (astray .store) (astray .directory)
+
+-- a directory in which no page is entered (2), and one that lacks a byte beside it (1 and 2)
+abbrev unlisted : State
+unlisted = withDirectory sane (directoryOf [] [])
+
+abbrev cropped : State
+cropped = withDirectory sane (drop 1 (directoryOf [] []))
 
 -- stored pages that may not be loaded (14)
 abbrev stale : State
@@ -43,8 +51,11 @@ unreached = machine 0 ((resident 0 1 0, linked) ∷ (resident 1 1 0, page [] 11)
 pub ordered : List Case
 ordered =
     -- open: 1 and 16
-    leaves (openCall (replicate 511 0) (joined (page (names 9 ∷ []) 0 ∷ []))) (refused 1)
-    (state (record { records = replicate 64 empty; count = 0; pages = 0; hand = frameIndex 0 }) (replicate 511 0) (joined (page (names 9 ∷ []) 0 ∷ [])))
+    leaves (openCall (replicate 511 0) (joined (page (names 9 ∷ []) 0 ∷ [])) (directoryOf [] [])) (refused 1)
+    (state (record { records = replicate 64 empty; count = 0; pages = 0; hand = frameIndex 0 }) (replicate 511 0) (joined (page (names 9 ∷ []) 0 ∷ [])) (directoryOf [] []))
+    -- the same by the directory, request A.3
+    ∷ leaves (openCall (replicate 512 0) (joined (page (names 9 ∷ []) 0 ∷ [])) (replicate 132 7)) (refused 1)
+    (state (record { records = replicate 64 empty; count = 0; pages = 0; hand = frameIndex 0 }) (replicate 512 0) (joined (page (names 9 ∷ []) 0 ∷ [])) (replicate 132 7))
     -- 1 and 2
     ∷ refuses rootCall short 1
     ∷ refuses (λ s. fixCall s (handleOf 0 0) 0) short 1
@@ -73,6 +84,19 @@ ordered =
     ∷ refuses (λ s. evictCall s (pageNumber 3)) astray 2
     ∷ refuses (λ s. findCall s (pageNumber 3)) astray 2
     ∷ refuses (λ s. evictCall s (pageNumber 0)) astray 2
+    ∷ []
+
+-- by the directory, request A.3
+pub ordered-directory : List Case
+ordered-directory =
+    -- 1 and 2; 2 and 3, 2 and 6, 2 and 11
+    refuses settleCall cropped 1
+    ∷ refuses (λ s. unfixCall s (handleOf 2 0)) cropped 1
+    ∷ refuses (λ s. findCall s (pageNumber 3)) cropped 1
+    ∷ refuses (λ s. showCall s (handleOf 2 0)) unlisted 2
+    ∷ refuses (λ s. findCall s (pageNumber 3)) unlisted 2
+    ∷ refuses (λ s. peekCall s (pageNumber 3)) unlisted 2
+    ∷ refuses (λ s. evictCall s (pageNumber 2)) unlisted 2
     ∷ []
 
 pub ordered-after : List Case
@@ -111,6 +135,10 @@ ordered-after =
 pub order-rows : allHold ordered ≡ true
 unfolding ordered allHold
 order-rows = refl
+
+pub order-rows-directory : allHold ordered-directory ≡ true
+unfolding ordered-directory allHold
+order-rows-directory = refl
 
 pub order-rows-after : allHold ordered-after ≡ true
 unfolding ordered-after allHold

@@ -4,25 +4,23 @@ use mathlib.Core.Path.{_≡_, refl, sym, _∙_, ap}
 use mathlib.Core.Bool.{Bool, true}
 use mathlib.Core.List.{List}
 use native.Mathlib.Omega.{arith}
-use borrow.Author.Tests.{lt-ltb, le-ltb}
 use lib.ListN.{length, take, drop, getD, length-take, length-drop}
 use lib.Seq.{getD-take, getD-drop, ext-getD}
 use Rattle.page.specs.Figures.{pageSize, payloadStart, payloadSize}
 use Rattle.page.specs.Page.{name, lock, byte, bytesFrom, payloadAt, payloadOf}
 use Rattle.machine.specs.declared.Handle.{Handle}
-use Rattle.rules.specs.Tests.{pick}
-use Rattle.machine.specs.Machine.{pageNumber, found}
+use Rattle.machine.specs.Machine.{pageNumber}
 use Rattle.machine.specs.Answers.{Answer, refused, payload, inFrames, inStore, number, frame, Out, cut}
-use Rattle.machine.specs.Calls.{showCall, payloadPlace, peekCall, wordCall, fixCall}
+use Rattle.machine.specs.Calls.{showCall, peekCall, wordCall, fixCall}
 use Rattle.machine.specs.History.{Point, accepted}
 use Rattle.machine.specs.Demand3.{GivesPayload}
 use Rattle.machine.specs.Theorem.View.{view, Absent}
 use Rattle.machine.specs.Theorem.Invariant.{Invariant}
 use Rattle.machine.specs.Laws.Outcomes.{Usual, granted-of, no-refusal, one-refusal, denied-of}
-use Rattle.machine.specs.Theorem.Holders.{Holder, place, held, unheld, found-absent}
+use Rattle.machine.specs.Theorem.Holders.{Holder, place, held, unheld}
 use Rattle.machine.specs.Theorem.CallCases.{handle-case, word-case, peek-case}
 use Rattle.machine.specs.Theorem.FixCases.{pins, fills, sweeps, refuses, fix-case}
-use Rattle.machine.specs.Theorem.Residence.{resident-of, holder, not-resident}
+use Rattle.machine.specs.Theorem.Residence.{goes-by-chain, recorded-of, unrecorded-of, resident-of, holder, not-resident}
 use Rattle.machine.specs.Theorem.Reads.{held-word, held-mark, held-byte, unheld-byte}
 
 -- two pages with equal payload bytes have one payload
@@ -80,19 +78,13 @@ module _ (x : Point) (I : Invariant x) where
       let r = granted-of _ _ _ _ (handle-case x I h _) t in
       rw (r .1) (frame-part (h .page .0) (h .frame .0) fs st (record { at = r .0 .at; page = r .0 .page }))
 
-  place-gives : (p : ℕ) (fs st : ℕ × ℕ) → p < x .now .pool .pages → GivesPayload x (payloadPlace (x .now) p) p fs st
-  unfolding payloadPlace pick
-  place-gives p fs st l = elim (place (x .now) p) [
-    | held h ↦ rw (lt-ltb (found (x .now .pool) p) (x .now .pool .count) (h .at .lt)) (frame-part p (found (x .now .pool) p) fs st h)
-    | unheld a ↦
-        let e : found (x .now .pool) p ≡ x .now .pool .count = found-absent (x .now) p a in
-        rw (le-ltb (found (x .now .pool) p) (x .now .pool .count) (omega arith)) (store-part p fs st l a)
-  ]
-
   pub peek-gives : (p : ℕ) (fs st : ℕ × ℕ) → accepted (peekCall (x .now) (pageNumber p) .answer) ≡ true → GivesPayload x (peekCall (x .now) (pageNumber p) .answer) p fs st
   peek-gives p fs st t =
-      let r = granted-of _ _ _ _ (peek-case x I (pageNumber p)) t in
-      rw (r .1) (place-gives p fs st (r .0))
+      let below = granted-of _ _ _ _ (peek-case x I (pageNumber p)) t .0 in
+      elim (place (x .now) p) [
+        | held h ↦ rw (goes-by-chain x I .peekedThere p _ (recorded-of x I p _ h)) (frame-part p _ fs st h)
+        | unheld a ↦ rw (goes-by-chain x I .peekedStored p below (unrecorded-of x I p a)) (store-part p fs st below a)
+      ]
 
   -- ---- words
   pub word-gives : (h : Handle) (k : ℕ) → accepted (wordCall (x .now) h k .answer) ≡ true → wordCall (x .now) h k .answer ≡ number (name (x .map) (h .page .0) k) (lock (x .map) (h .page .0) k)

@@ -29,7 +29,7 @@ use Rattle.machine.specs.Laws.RuleLaws.{not-locked}
 use Rattle.machine.specs.Laws.Outcomes.{Outcome, outcome, usual, Cases, cases, lacks}
 use Rattle.machine.specs.Theorem.Holders.{Holder, holder-found}
 use Rattle.machine.specs.Theorem.TestReads.{Handled, handled, Open, open-kept}
-use Rattle.machine.specs.Theorem.InvariantReads.{lengths-fit-open, unbroken, unnamed}
+use Rattle.machine.specs.Theorem.InvariantReads.{fits-open, unbroken, unnamed}
 
 -- ---- what the rules of a call say where none is broken
 
@@ -186,9 +186,9 @@ module _ (x : Point) (I : Invariant x) where
   settle-case = by-rules [] _ _ refl (λ e. tt)
 
   -- ---- open, on the buffers as they stand
-  pub open-case : Cases (state zeroPool (x .now .frames) (x .now .store)) (sound (x .now .store) (length (x .now .store) / pageSize) ≡ true) (out done (opened (x .now .frames) (x .now .store))) (openCall (x .now .frames) (x .now .store))
+  pub open-case : Cases (state zeroPool (x .now .frames) (x .now .store) (x .now .directory)) (sound (x .now .store) (length (x .now .store) / pageSize) ≡ true) (out done (opened (x .now .frames) (x .now .store))) (openCall (x .now .frames) (x .now .store) (x .now .directory))
   unfolding openCall usual lacks _and_
   open-case =
       let rest : List Rule = rule16 (length (x .now .store) / pageSize) (x .now .store) ∷ [] in
-      cases (state zeroPool (x .now .frames) (x .now .store)) rest _ _ _ refl (λ e. first-kept 15 _ [] e .0)
-      (outcome _ (openRules (x .now .frames) (x .now .store)) rest _ (kept-then 1 rest (lengths-fit-open x I)))
+      cases (state zeroPool (x .now .frames) (x .now .store) (x .now .directory)) rest _ _ _ refl (λ e. first-kept 15 _ [] e .0)
+      (outcome _ (openRules (x .now .frames) (x .now .store) (x .now .directory)) rest _ (kept-then 1 rest (fits-open x I)))

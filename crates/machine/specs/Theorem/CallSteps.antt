@@ -10,11 +10,11 @@ use Rattle.page.specs.Page.{payloadAt}
 use Rattle.machine.specs.declared.Handle.{Handle}
 use Rattle.rules.specs.Tests.{pick}
 use Rattle.rules.specs.TestLaws.{pick-either}
-use Rattle.machine.specs.Machine.{state, zeroPool, found}
+use Rattle.machine.specs.Machine.{state, zeroPool}
 use Rattle.machine.specs.Soundness.{sound}
 use Rattle.machine.specs.Sweep.{firstEmpty}
 use Rattle.machine.specs.Answers.{Answer, refused, done, payload, inFrames, inStore, Out, out}
-use Rattle.machine.specs.Calls.{opened, showCall, fixCall, payloadPlace, foundAnswer}
+use Rattle.machine.specs.Calls.{opened, showCall, fixCall, sought, payloadPlace, foundAnswer}
 use Rattle.machine.specs.History.{root, fix, unfix, show, peek, find, Row, row, Point, continued, reopened, next}
 use Rattle.machine.specs.Theorem.View.{first-root}
 use Rattle.machine.specs.Theorem.Invariant.{Invariant}
@@ -42,12 +42,12 @@ module _ (x : Point) (I : Invariant x) where
 
   pub peek-keeps : (q : PageNumber) → Invariant (continued (row (peek q)) (out (payloadPlace (x .now) (q .0)) (x .now)) x)
   unfolding pick payloadPlace
-  peek-keeps q = pick-either (λ (a : Answer). Invariant (continued (row (peek q)) (out a (x .now)) x)) (ltb (found (x .now .pool) (q .0)) (x .now .pool .count))
-      (payload inFrames (payloadAt (found (x .now .pool) (q .0))) payloadSize) (payload inStore (payloadAt (q .0)) payloadSize) I I
+  peek-keeps q = pick-either (λ (a : Answer). Invariant (continued (row (peek q)) (out a (x .now)) x)) (ltb (sought (x .now) (q .0) .frame) (x .now .pool .count))
+      (payload inFrames (payloadAt (sought (x .now) (q .0) .frame)) payloadSize) (payload inStore (payloadAt (q .0)) payloadSize) I I
 
   pub find-keeps : (q : PageNumber) → Invariant (continued (row (find q)) (out (foundAnswer (x .now) (q .0)) (x .now)) x)
   unfolding pick foundAnswer
-  find-keeps q = pick-either (λ (a : Answer). Invariant (continued (row (find q)) (out a (x .now)) x)) (ltb (found (x .now .pool) (q .0)) (x .now .pool .count)) _ _ I I
+  find-keeps q = pick-either (λ (a : Answer). Invariant (continued (row (find q)) (out a (x .now)) x)) (ltb (sought (x .now) (q .0) .frame) (x .now .pool .count)) _ _ I I
 
   -- ---- fix
   pub fix-keeps : (h : Handle) (k : ℕ) → Invariant (continued (row (fix h k)) (fixCall (x .now) h k) x)
@@ -60,7 +60,7 @@ module _ (x : Point) (I : Invariant x) where
   ]
 
   -- ---- open: accepted, it begins a new history; refused, the records from before it stay
-  pub open-step : (o : Out) → Cases (state zeroPool (x .now .frames) (x .now .store)) (sound (x .now .store) (length (x .now .store) / pageSize) ≡ true) (out done (opened (x .now .frames) (x .now .store))) o → Invariant (reopened o x)
+  pub open-step : (o : Out) → Cases (state zeroPool (x .now .frames) (x .now .store) (x .now .directory)) (sound (x .now .store) (length (x .now .store) / pageSize) ≡ true) (out done (opened (x .now .frames) (x .now .store))) o → Invariant (reopened o x)
   unfolding pick
   open-step o (granted k e) = rw e (open-keeps (x .now .frames) (x .now .store) (I .frameOctets) (I .storeOctets) (lengths-fit-open x I) k)
   open-step o (denied n u e) = rw e I

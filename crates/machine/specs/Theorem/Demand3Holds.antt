@@ -2,21 +2,21 @@
 use Prim.Native.Nat.{ℕ, _/_}
 use mathlib.Core.Path.{_≡_, refl, sym, _∙_, ap}
 use mathlib.Core.List.{List, [], _∷_}
-use native.Mathlib.Omega.{arith}
 use lib.ListN.{length}
 use Rattle.page.specs.Figures.{pageSize}
 use Rattle.page.specs.Octets.{Octets}
-use Rattle.rules.specs.TestLaws.{first-kept}
+use Rattle.rules.specs.Tests.{_and_, firstBroken}
+use Rattle.rules.specs.TestLaws.{clash, and-true, first-kept}
 use Rattle.machine.specs.Machine.{state, zeroPool}
 use Rattle.machine.specs.Soundness.{sound}
-use Rattle.machine.specs.Rules.{lengthsFit}
-use Rattle.machine.specs.Answers.{refused, done, Out, out}
+use Rattle.machine.specs.Rules.{lengthsFit, directoryFits}
+use Rattle.machine.specs.Answers.{done, Out, out}
 use Rattle.machine.specs.Calls.{openRules, opened, openCall}
-use Rattle.machine.specs.History.{Call, Point, start, next, run, AllBytes}
+use Rattle.machine.specs.History.{Call, Point, accepted, start, next, run, AllBytes}
 use Rattle.machine.specs.Demand3.{Holds, Demand3}
 use Rattle.machine.specs.Theorem.Invariant.{Invariant}
 use Rattle.machine.specs.Theorem.Keeps.{open-keeps}
-use Rattle.machine.specs.Laws.Outcomes.{Outcome, kept, broken, outcome}
+use Rattle.machine.specs.Laws.Outcomes.{kept, broken, outcome}
 use Rattle.machine.specs.Theorem.PointHolds.{pages-apart, other-empty, kept-frame, root-resident, named-by, named-once, leads-to-root, same-payload, swizzled-whole, number-whole, store-plain}
 use Rattle.machine.specs.Theorem.AnswersHold.{show-gives, peek-gives, word-gives}
 use Rattle.machine.specs.Theorem.DeniedHolds.{denied-15-exactly}
@@ -47,26 +47,31 @@ holds x I = record {
   neverRefused = never-refused x I;
 }
 
--- an open that is accepted starts with the invariant
-start-keeps : (frames store : List ℕ) → Octets frames → Octets store → (o : Out) → Outcome (state zeroPool frames store) (openRules frames store) (out done (opened frames store)) o
-    → o .answer ≡ done → Invariant (start (o .left))
-start-keeps frames store bf bs o (kept b q) e =
-    let a = first-kept 0 (lengthsFit (length frames / pageSize) (length store / pageSize) frames store) _ b in
-    rw q (open-keeps frames store bf bs (a .0) (first-kept 15 (sound store (length store / pageSize)) [] (a .1) .0))
-start-keeps frames store bf bs o (broken n z b q) e = absurd (other n (sym (ap (λ (y : Out). y .answer) q) ∙ e))
-  where
-    other : (m : ℕ) → refused m ≡ done → ⊥
-    other m c = let y : _≡_ {A = ℕ} 0 1 = cc in omega arith
+-- an open that answers done keeps its rules
+pub accepted-open : (frames store directory : List ℕ) → openCall frames store directory .answer ≡ done
+    → (firstBroken (openRules frames store directory) ≡ 0) × (openCall frames store directory ≡ out done (opened frames store))
+unfolding openCall
+accepted-open frames store directory e = elim (outcome (state zeroPool frames store directory) (openRules frames store directory) (openRules frames store directory) (out done (opened frames store)) refl) [
+  | kept b q ↦ (b, q)
+  | broken n z b q ↦ absurd (clash (sym (ap accepted e) ∙ ap (λ (o : Out). accepted (o .answer)) q))
+]
+
+-- and starts with the invariant
+start-keeps : (frames store directory : List ℕ) → Octets frames → Octets store → openCall frames store directory .answer ≡ done → Invariant (start (openCall frames store directory .left))
+start-keeps frames store directory bf bs e =
+    let o = accepted-open frames store directory e in
+    let a = first-kept 0 (lengthsFit (length frames / pageSize) (length store / pageSize) frames store and directoryFits directory) _ (o .0) in
+    let l = and-true (lengthsFit (length frames / pageSize) (length store / pageSize) frames store) _ (a .0) in
+    rw (o .1) (open-keeps frames store bf bs (l .0) (first-kept 15 (sound store (length store / pageSize)) [] (a .1) .0))
 
 run-keeps : (cs : List Call) (x : Point) → AllBytes cs → Invariant x → Invariant (run cs x)
 unfolding run AllBytes
 run-keeps [] x b I = I
 run-keeps (c ∷ cs) x b I = run-keeps cs (next c x) (b .1) (step-keeps x I c (b .0))
 
-pub invariant-along : (frames store : List ℕ) → Octets frames → Octets store → openCall frames store .answer ≡ done
-    → (cs : List Call) → AllBytes cs → Invariant (run cs (start (openCall frames store .left)))
-unfolding openCall
-invariant-along frames store bf bs e cs b = run-keeps cs (start (openCall frames store .left)) b (start-keeps frames store bf bs _ (outcome _ _ _ _ refl) e)
+pub invariant-along : (frames store directory : List ℕ) → Octets frames → Octets store → openCall frames store directory .answer ≡ done
+    → (cs : List Call) → AllBytes cs → Invariant (run cs (start (openCall frames store directory .left)))
+invariant-along frames store directory bf bs e cs b = run-keeps cs (start (openCall frames store directory .left)) b (start-keeps frames store directory bf bs e)
 
 pub demand3 : Demand3
-demand3 frames store bf bs e cs b = holds _ (invariant-along frames store bf bs e cs b)
+demand3 frames store directory bf bs e cs b = holds _ (invariant-along frames store directory bf bs e cs b)

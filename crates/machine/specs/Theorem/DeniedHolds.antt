@@ -34,7 +34,7 @@ use Rattle.machine.specs.Theorem.Reads.{held-word}
 
 module _ (x : Point) (I : Invariant x) where
   is-ready : Ready (x .now)
-  is-ready = ready (x .now) (record { sized = I .sized; agreed = agreed x I })
+  is-ready = ready (x .now) (record { sized = I .sized; agreed = agreed x I; directory = I .directory; chained = I .chained })
 
   not-root : (p f : ℕ) → Holder (view (x .now)) p f → p ≢ 0 → f ≢ 0
   not-root p f h n z = n (sym (h .page) ∙ ap (view (x .now) .page) z ∙ first-page _ (I .shape))

@@ -1,14 +1,14 @@
 -- Which frame holds a page: what `found` says of the view. Assumes nothing.
 use Prim.Native.Nat.{ℕ}
-use mathlib.Core.Path.{_≡_, sym, _∙_}
+use mathlib.Core.Path.{_≡_}
 use mathlib.Core.Bool.{true, false}
 use borrow.Author.Tests.{ltb-true, ltb-false}
 use lib.Dec.{ltb}
 use Rattle.rules.specs.TestLaws.{case, on, off}
 use Rattle.machine.specs.Machine.{State, occupied, found}
 use Rattle.machine.specs.Laws.AgreementFacts.{occupied-lt, occupied-used, make-occupied}
-use Rattle.machine.specs.Laws.FoundLaws.{found-holds, holds-found, found-none, none-found}
-use Rattle.machine.specs.Theorem.View.{View, view, Occupied, Absent, Shape}
+use Rattle.machine.specs.Laws.FoundLaws.{found-holds, found-none}
+use Rattle.machine.specs.Theorem.View.{View, view, Occupied, Absent}
 
 -- ---- the two readings of 'occupied'
 
@@ -39,12 +39,3 @@ pub data Place (s : State) (p : ℕ) : Type 0 where
 
 pub place : (s : State) (p : ℕ) → Place s p
 place s p = elim (case (ltb (found (s .pool) p) (s .pool .count))) [ on t ↦ held (holder-found s p t) | off t ↦ unheld (absent-found s p t) ]
-
--- a page's holder is the frame that is found
-pub found-holder : (s : State) → Shape (view s) → (p f : ℕ) → Holder (view s) p f → found (s .pool) p ≡ f
-found-holder s S p f h =
-    let k = found-holds (s .pool) p (holds-found (s .pool) p f (of-occupied s f (h .at)) (h .page)) in
-    S .apart (found (s .pool) p) f (occupied-of s _ (k .0)) (h .at) (k .1 ∙ sym (h .page))
-
-pub found-absent : (s : State) (p : ℕ) → Absent (view s) p → found (s .pool) p ≡ s .pool .count
-found-absent s p a = none-found (s .pool) p (λ f o e. a f (occupied-of s f o) e)

@@ -11,6 +11,9 @@ use Rattle.page.specs.Octets.{Octets}
 use Rattle.machine.specs.declared.FrameRecord.{FrameRecord}
 use Rattle.machine.specs.declared.Pool.{Pool}
 use Rattle.machine.specs.Machine.{blank, isUsed, recordAt}
+use Rattle.chains.specs.Chain.{directorySize}
+use Rattle.chains.specs.ChainFacts.{Chained}
+use Rattle.machine.specs.Laws.DirectoryFacts.{homeOf}
 use Rattle.machine.specs.Laws.Ready.{Sized}
 use Rattle.machine.specs.Theorem.View.{View, view, Occupied, Absent, Shape, Map, Content, MapSound}
 use Rattle.machine.specs.History.{Balance, Point}
@@ -51,3 +54,5 @@ pub record Invariant (x : Point) : Type 0 where
   pub content : Content (view (x .now)) (mapOf (x .map))
   pub sound : MapSound (mapOf (x .map)) (x .now .pool .pages) 1 (x .now .pool .pages)
   pub pins : Pins (view (x .now)) (x .balance)
+  pub directory : length (x .now .directory) ≡ directorySize
+  pub chained : Chained (homeOf (x .now .pool)) (x .now .directory)

@@ -3,7 +3,7 @@ use Prim.Native.Nat.{ℕ, _*_, _/_, _<_}
 use mathlib.Core.Path.{_≡_, refl, sym, _∙_, ap}
 use mathlib.Core.Logic.{_≢_}
 use mathlib.Core.Bool.{true, false, not}
-use mathlib.Core.List.{List, _∷_}
+use mathlib.Core.List.{List, _∷_, []}
 use native.Mathlib.Omega.{arith}
 use native.Mathlib.Decide.{ℕ-discrete}
 use borrow.Author.Tests.{eqb-true, eqb-false, eq-eqb, lt-ltb, not-true}
@@ -11,17 +11,20 @@ use lib.Dec.{eqb, ltb}
 use lib.ListN.{length}
 use Rattle.page.specs.Figures.{pageSize, slotCount}
 use Rattle.page.specs.Page.{name}
-use Rattle.rules.specs.Tests.{some, Rule, firstBroken}
-use Rattle.rules.specs.TestLaws.{case, on, off, is-off, and-true, both, or-left, or-right, true-every, some-true, some-false, false-some, pick-yes, pick-no}
+use Rattle.rules.specs.Tests.{Rule, firstBroken, _and_}
+use Rattle.rules.specs.TestLaws.{case, on, off, is-off, and-true, both, or-left, or-right, true-every, some-true, some-false, false-some, pick-yes, pick-no, none-broken}
 use Rattle.machine.specs.Machine.{recordAt, occupied, found, blank}
 use Rattle.machine.specs.Laws.AgreementFacts.{Agreed}
 use Rattle.machine.specs.Naming.{currentWord, named, namedByResident, repeated, wordLoadable, loadable}
-use Rattle.machine.specs.Rules.{lengthsFit, rule1, rule2}
+use Rattle.machine.specs.Directory.{chainsAgree}
+use Rattle.machine.specs.Rules.{lengthsFit, directoryFits, rule1, rule2}
+use Rattle.machine.specs.Laws.Ready.{of-directory}
+use Rattle.machine.specs.Calls.{poolRules}
 use Rattle.machine.specs.Theorem.View.{view, Occupied, Absent}
 use Rattle.machine.specs.History.{Point}
 use Rattle.machine.specs.Theorem.Invariant.{Invariant}
-use Rattle.machine.specs.Theorem.StateFit.{fit-of, fit-blank, fit-agreed, fit-lengths, fit-unbroken}
-use Rattle.machine.specs.Theorem.Holders.{occupied-of, Holder, holder-found, absent-found}
+use Rattle.machine.specs.Theorem.StateFit.{fit-of, fit-blank, fit-agreed, fit-lengths, fit-chains, fit-unbroken}
+use Rattle.machine.specs.Theorem.Holders.{occupied-of, holder-found, absent-found}
 use Rattle.machine.specs.Theorem.Reads.{held-word, unheld-word}
 
 module _ (x : Point) (I : Invariant x) where
@@ -46,9 +49,21 @@ module _ (x : Point) (I : Invariant x) where
       let n : length (x .now .store) / pageSize ≡ x .now .pool .pages = omega arith in
       rw (f, n) lengths-fit
 
+  -- rule 1 of that open, whole
+  pub fits-open : (lengthsFit (length (x .now .frames) / pageSize) (length (x .now .store) / pageSize) (x .now .frames) (x .now .store) and directoryFits (x .now .directory)) ≡ true
+  fits-open = both _ _ lengths-fit-open (of-directory _ (I .directory))
+
+  -- what rule 2 asks of the directory
+  pub chains-now : chainsAgree (x .now .pool) (x .now .directory) ≡ true
+  chains-now = fit-chains (x .now) (fit-of x I)
+
   -- they are never broken, so that those after them decide
   pub unbroken : (rs : List Rule) → firstBroken (rule1 (x .now) ∷ rule2 (x .now) ∷ rs) ≡ firstBroken rs
   unbroken = fit-unbroken (x .now) (fit-of x I)
+
+  -- the rules of every call but open are kept
+  pub pool-kept : firstBroken (poolRules (x .now)) ≡ 0
+  pool-kept = unbroken [] ∙ none-broken
 
   -- ---- the word in a slot of any page: rule 9
   pub current-word : (p k : ℕ) → p < x .now .pool .pages → k < slotCount → currentWord (x .now) p k ≡ name (x .map) p k

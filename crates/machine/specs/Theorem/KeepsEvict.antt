@@ -5,7 +5,7 @@ use mathlib.Core.List.{List}
 use Prim.Native.Nat.{ℕ, _≤_, _<_}
 use native.Mathlib.Omega.{arith}
 use lib.ListN.{length, length-set}
-use Rattle.page.specs.Figures.{slotCount, mostPages}
+use Rattle.page.specs.Figures.{slotCount, mostFrames, mostPages}
 use Rattle.page.specs.Word.{Number, isMarked, name-renamed-number, mark-renamed-number, nameOf, numberWord, renamed-lt}
 use Rattle.page.specs.Page.{putSlot-length, slot-putSlot-same, slot-putSlot-page, byte-putSlot}
 use Rattle.page.specs.Octets.{Octets, octets-putSlot}
@@ -21,6 +21,9 @@ use Rattle.machine.specs.Theorem.PinsEffect.{pins-evicted}
 use Rattle.machine.specs.Laws.MoveLaws.{writtenOutBy-length}
 use Rattle.machine.specs.Theorem.ImageOut.{out-octets, out-slotStays, out-byteStays, out-word, out-mark, out-byte, plain-lt, plain-some}
 use Rattle.machine.specs.Theorem.SlotChange.{slot-putSlot-other, mark-putSlot}
+use Rattle.chains.specs.ChainLaws.{taken-length}
+use Rattle.machine.specs.Theorem.Holders.{of-occupied}
+use Rattle.machine.specs.Theorem.Chains.{evict-chained}
 use Rattle.machine.specs.Theorem.RecordChange.{change-here, change-other, neat-blank, neat-change, lengths-kept}
 
 module _ (s : State) (I : Fit s) (f : ℕ) (of : Occupied (view s) f) (nz : 1 ≤ f) where
@@ -84,6 +87,8 @@ module _ (s : State) (I : Fit s) (f : ℕ) (of : Occupied (view s) f) (nz : 1 �
     neat = neat-change (s .pool) f blank lt (of .lt) (neat-blank f) (I .neat);
     frameOctets = octets-putSlot (s .frames) _ _ _ (I .frameOctets);
     shape = evict-shape v _ f (I .shape) evict-effect of nz leaf;
+    directory = taken-length (s .directory) f mostFrames _ ∙ I .directory;
+    chained = evict-chained (s .pool) (I .shape .most) (s .directory) (I .directory) (I .chained) f lt (of-occupied s f of);
   }
 
 module _ (x : Point) (I : Invariant x) (f : ℕ) (of : Occupied (view (x .now)) f) (nz : 1 ≤ f) where
@@ -106,6 +111,8 @@ module _ (x : Point) (I : Invariant x) (f : ℕ) (of : Occupied (view (x .now)) 
         content = evict-content (view (x .now)) _ f (I .shape) E of nz leaf (mapOf (x .map)) (I .content);
         sound = I .sound;
         pins = pins-evicted (view (x .now)) _ f E of free (x .balance) (I .pins);
+        directory = J .directory;
+        chained = J .chained;
       }
     where
       store-octets : Octets (evicted (x .now) f .store)

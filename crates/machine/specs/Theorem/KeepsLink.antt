@@ -19,6 +19,7 @@ use Rattle.machine.specs.Theorem.Invariant.{Invariant, mapOf}
 use Rattle.machine.specs.Theorem.LinkEffect.{LinkedView, MapLinked, Unnamed, link-sound, link-shape, link-content}
 use Rattle.machine.specs.Theorem.PinsEffect.{pins-kept}
 use Rattle.machine.specs.Theorem.SlotChange.{slot-putSlot-other}
+use Rattle.machine.specs.Theorem.Chains.{steady-chained}
 use Rattle.machine.specs.Theorem.RecordChange.{SamePlace, change-here, change-other, change-same, change-steady, neat-change, neat-place, record-lt, lengths-kept}
 
 -- the map with the word y, which names n, with the mark l, in slot k of page p
@@ -59,7 +60,7 @@ module _ (x : Point) (I : Invariant x) (f : ℕ) (of : Occupied (view (x .now)) 
 
   linked : LinkedView v (view (relinked s f k y)) f k n l
   linked = record {
-    steady = change-steady s f r (putSlot (s .frames) f k y) (s .store) lt samePlace;
+    steady = change-steady s f r (putSlot (s .frames) f k y) (s .store) (s .directory) lt samePlace;
     pins = change-same rs f r (λ t. t .pins) lt refl;
     dirtyF = ap isDirty (change-here rs f r lt);
     dirty = λ g m. ap isDirty (change-other rs f r g m);
@@ -91,4 +92,6 @@ module _ (x : Point) (I : Invariant x) (f : ℕ) (of : Occupied (view (x .now)) 
     content = link-content v _ f k n l (I .shape) linked of hk old nN (mapOf (x .map)) (I .content) fresh noRoot _ mapLinked free bare;
     sound = link-sound _ _ (v .N) (v .page f) k n l mapLinked 1 _ nN fresh noRoot (I .sound);
     pins = pins-kept v _ (linked .steady) (x .balance) (I .pins) (linked .pins);
+    directory = I .directory;
+    chained = steady-chained s _ _ _ (s .directory) (linked .steady) (I .chained);
   }

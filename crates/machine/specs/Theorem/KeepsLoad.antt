@@ -20,6 +20,8 @@ use Rattle.machine.specs.Theorem.Invariant.{Invariant, mapOf}
 use Rattle.machine.specs.Theorem.LoadEffect.{Loaded, MayComeIn, absent-fits, empty-other, load-shape, load-content}
 use Rattle.machine.specs.Theorem.PinsEffect.{pins-loaded}
 use Rattle.machine.specs.Theorem.SlotChange.{slot-putSlot-other, mark-putSlot}
+use Rattle.chains.specs.ChainLaws.{entered-length}
+use Rattle.machine.specs.Theorem.Chains.{load-chained}
 use Rattle.machine.specs.Theorem.RecordChange.{change-here, change-other, neat-change, record-lt, lengths-kept}
 
 module _ (x : Point) (I : Invariant x) where
@@ -137,4 +139,6 @@ module _ (x : Point) (I : Invariant x) where
       content = load-content v _ f k e q (I .shape) load-effect of hk eF free names low nz qFits (mapOf (x .map)) (I .content);
       sound = I .sound;
       pins = pins-loaded v _ f k e q load-effect eF free qAbsent (x .balance) (I .pins);
+      directory = entered-length (s .directory) _ e ∙ I .directory;
+      chained = load-chained (s .pool) (I .shape .most) (s .directory) (I .directory) (I .chained) e lt eF free r refl;
     }

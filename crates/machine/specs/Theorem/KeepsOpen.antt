@@ -14,7 +14,7 @@ use Rattle.page.specs.Figures.{pageSize, slotCount, recordCount}
 use Rattle.page.specs.Word.{isMarked, nameOf}
 use Rattle.page.specs.Page.{slot, name, lock, byte, pageOf, putPage, pageOf-length, putPage-length, slot-putPage-same, byte-putPage-same, slot-pageOf, byte-pageOf, byte-first}
 use Rattle.page.specs.Octets.{Octets, octets-putPage, octets-pageOf}
-use Rattle.rules.specs.TestLaws.{clash, and-true, both, use⇒, every-true}
+use Rattle.rules.specs.TestLaws.{clash, and-true, use⇒, every-true}
 use Rattle.machine.specs.Machine.{State, blank, rootRecord, isUsed, isDirty, recordAt, openedPool}
 use Rattle.machine.specs.Soundness.{wordsBelow, wordsOnce, sound}
 use Rattle.machine.specs.Rules.{lengthsFit}
@@ -24,6 +24,10 @@ use Rattle.machine.specs.History.{start}
 use Rattle.machine.specs.Laws.PlainLaws.{plain-low}
 use Rattle.machine.specs.Theorem.View.{View, view, top, Occupied, Shape, Content, MapSound, single-root}
 use Rattle.machine.specs.Theorem.Invariant.{Neat, Invariant, mapOf}
+use Rattle.chains.specs.Chain.{bucketOf, openedDirectory}
+use Rattle.machine.specs.Laws.AgreementFacts.{make-occupied}
+use Rattle.machine.specs.Laws.DirectoryFacts.{homeOf, home-on, home-off}
+use Rattle.machine.specs.Theorem.Chains.{unused-empty, opened-size, opened-chained}
 use Rattle.machine.specs.Theorem.RecordChange.{change-here, change-other, neat-blank}
 
 -- ---- rule 16, as facts of the map
@@ -87,7 +91,7 @@ module _ (F N : ℕ) where
 
 module _ (fs st : List ℕ) (F N : ℕ) (of : Octets fs) (os : Octets st) (Z : Lengths F N fs st) (M : MapSound (mapOf st) N 1 N) where
   abbrev s : State
-  s = record { pool = openedPool F N; frames = putPage fs 0 (pageOf st 0); store = st }
+  s = record { pool = openedPool F N; frames = putPage fs 0 (pageOf st 0); store = st; directory = openedDirectory }
 
   abbrev v : View
   v = view s
@@ -182,6 +186,10 @@ module _ (fs st : List ℕ) (F N : ℕ) (of : Octets fs) (os : Octets st) (Z : L
     content = content;
     sound = rw (opened-pages F N) M;
     pins = record { count = λ f o. omega (arith, pins-zero f o); none = λ p a. refl; place = λ f o n. absurd (n (pins-zero f o)) };
+    directory = opened-size;
+    chained = opened-chained (homeOf (openedPool F N))
+        (home-on (openedPool F N) 0 (make-occupied (openedPool F N) 0 (rw (opened-count F N) (omega (arith, Z .least))) (ap isUsed (root-record F N))) ∙ ap (λ r. bucketOf (r .page .0)) (root-record F N))
+        (λ f n. home-off (openedPool F N) f (unused-empty (openedPool F N) f (ap isUsed (other-record F N f n))));
   }
 
 pub open-keeps : (fs st : List ℕ) → Octets fs → Octets st → lengthsFit (length fs / pageSize) (length st / pageSize) fs st ≡ true → sound st (length st / pageSize) ≡ true

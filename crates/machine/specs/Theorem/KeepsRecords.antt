@@ -18,6 +18,7 @@ use Rattle.machine.specs.Theorem.View.{View, view, Occupied}
 use Rattle.machine.specs.Theorem.Invariant.{NeatRecord, Neat, Pins, Invariant, mapOf}
 use Rattle.machine.specs.Theorem.KeepEffect.{Steady, KeptView, kept-shape, kept-content, quiet-rewritten}
 use Rattle.machine.specs.Theorem.PinsEffect.{pins-kept, pins-pinned, pins-unpinned}
+use Rattle.machine.specs.Theorem.Chains.{steady-chained}
 use Rattle.machine.specs.Theorem.RecordChange.{SamePlace, change-here, change-other, change-same, change-steady, neat-change, neat-place, record-lt}
 
 -- a record as a sweep leaves it is as neat: an empty frame's stays blank
@@ -69,6 +70,8 @@ module _ (x : Point) (I : Invariant x) where
         (record { bytes = λ g i. refl; dirty = dirty; storeWord = λ p k. refl; storeMark = λ p k. refl; storeBytes = λ p i. refl }));
     sound = rw (K .sameN) (I .sound);
     pins = B;
+    directory = I .directory;
+    chained = steady-chained s q (s .frames) (s .store) (s .directory) K (I .chained);
   }
     where
       kept : KeptView v (view (withPool s q))
@@ -86,7 +89,7 @@ module _ (x : Point) (I : Invariant x) where
         → ((g : ℕ) → g ≢ f → recordAt (withRecord (s .pool) f r .records) g .pins ≡ v .pins g) → Pins (view (withPool s (withRecord (s .pool) f r))) b)
         → Invariant (record { now = withPool s (withRecord (s .pool) f r); map = x .map; balance = b })
     repinned r P d hu hp b B =
-        let K : Steady v (view (withPool s (withRecord (s .pool) f r))) = change-steady s f r (s .frames) (s .store) lt P in
+        let K : Steady v (view (withPool s (withRecord (s .pool) f r))) = change-steady s f r (s .frames) (s .store) (s .directory) lt P in
         repooled (withRecord (s .pool) f r) K (length-set rs f r ∙ I .records)
         (neat-change (s .pool) f r lt (of .lt) (neat-place f (recordAt rs f) r (of .on) P (rw d (I .neat .at f .dirty)) hu hp (I .neat .at f)) (I .neat)) (change-same rs f r isDirty lt (same-flag d)) b
         (B K (ap (λ t. t .pins) (change-here rs f r lt)) (λ g n. ap (λ t. t .pins) (change-other rs f r g n)))

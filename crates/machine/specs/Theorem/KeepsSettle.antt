@@ -25,6 +25,7 @@ use Rattle.machine.specs.Theorem.PinsEffect.{pins-kept}
 use Rattle.machine.specs.Laws.MoveLaws.{writtenOutTo-length}
 use Rattle.machine.specs.Laws.FoundLaws.{found-holds, found-none}
 use Rattle.machine.specs.Theorem.ImageOut.{out-octets, out-slotStays, out-byteStays, out-word, out-mark, out-byte, plain-lt, plain-some}
+use Rattle.machine.specs.Theorem.Chains.{steady-chained}
 use Rattle.machine.specs.Theorem.RecordChange.{change-here, change-other, change-same, neat-change, lengths-kept}
 
 -- ---- the records marked clean
@@ -225,4 +226,6 @@ module _ (x : Point) (I : Invariant x) where
     content = content;
     sound = I .sound;
     pins = pins-kept v (view (settled s)) (kept .steady) (x .balance) (I .pins) (cleaned-same (λ r. r .pins) (λ r. refl) rs (v .F) enough);
+    directory = I .directory;
+    chained = steady-chained s _ _ _ (s .directory) (kept .steady) (I .chained);
   }

@@ -22,6 +22,7 @@ use Rattle.machine.specs.Theorem.View.{View, view, Occupied, Map, Free, 
 use Rattle.machine.specs.Theorem.Invariant.{Invariant, mapOf}
 use Rattle.machine.specs.Theorem.KeepEffect.{KeptView, kept-shape, kept-content, Rewritten}
 use Rattle.machine.specs.Theorem.PinsEffect.{pins-kept}
+use Rattle.machine.specs.Theorem.Chains.{steady-chained}
 use Rattle.machine.specs.Theorem.RecordChange.{SamePlace, change-here, change-other, change-same, change-steady, neat-change, neat-place, record-lt, lengths-kept}
 
 -- a map with the same words is as sound
@@ -74,7 +75,7 @@ module _ (x : Point) (I : Invariant x) (f : ℕ) (of : Occupied (view (x .now)) 
 
   kept : KeptView v w
   kept = record {
-    steady = change-steady s f r (putPayload (s .frames) f offset d) (s .store) lt samePlace;
+    steady = change-steady s f r (putPayload (s .frames) f offset d) (s .store) (s .directory) lt samePlace;
     word = λ g k hg hk. ap nameOf (slot-putPayload (s .frames) f offset d _ (I .sized .frames) (of .lt) fits g k hk);
     mark = λ g k hg hk. ap isMarked (slot-putPayload (s .frames) f offset d _ (I .sized .frames) (of .lt) fits g k hk);
   }
@@ -136,4 +137,6 @@ module _ (x : Point) (I : Invariant x) (f : ℕ) (of : Occupied (view (x .now)) 
     content = kept-content v w kept (I .shape) (mapOf (x .map)) (mapOf m) (I .content) rewritten;
     sound = same-sound (mapOf (x .map)) (mapOf m) (v .N) (rewritten .mapWord) 1 _ (I .sound);
     pins = pins-kept v w (kept .steady) (x .balance) (I .pins) (change-same rs f r (λ t. t .pins) lt samePins);
+    directory = I .directory;
+    chained = steady-chained s _ _ _ (s .directory) (kept .steady) (I .chained);
   }

@@ -224,7 +224,7 @@ module _ (x : Point) (I : Invariant x) where
 
   open-after : (p : ℕ) → Locked x p → (s : State) (Facts : Type 0) (o : Out) → Cases s Facts (out done (opened (x .now .frames) (x .now .store))) o → Same p (reopened o x .map)
   open-after p L s Facts o C =
-      let old : Point = record { now = state (x .now .pool) (o .left .frames) (o .left .store); map = m; balance = x .balance } in
+      let old : Point = record { now = state (x .now .pool) (o .left .frames) (o .left .store) (o .left .directory); map = m; balance = x .balance } in
       pick-by (λ (y : Point). Same p (y .map)) (accepted (o .answer)) (start (o .left)) old (λ t. rw (granted-of s Facts _ o C t .1) (locked-stored p L)) (λ t. refl)
 
   call-spares : (c : Call) (p : ℕ) → Locked x p → pageOf (next c x .map) p ≡ pageOf m p
@@ -271,4 +271,4 @@ locks-hold x I = record {
 }
 
 pub locked-pages : LockedPages
-locked-pages frames store bf bs e cs b = locks-hold _ (invariant-along frames store bf bs e cs b)
+locked-pages frames store directory bf bs e cs b = locks-hold _ (invariant-along frames store directory bf bs e cs b)

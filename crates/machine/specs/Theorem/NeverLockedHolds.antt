@@ -93,10 +93,10 @@ none-along [] x I U b w = unmarked-locks x I U
 none-along (c ∷ cs) x I U b w = none-along cs (next c x) (step-keeps x I c (b .0)) (step-leaves x I U c (w .0)) (b .1) (w .1)
 
 -- open leaves the store
-open-store : (fs st : List ℕ) → openCall fs st .left .store ≡ st
+open-store : (fs st d : List ℕ) → openCall fs st d .left .store ≡ st
 unfolding openCall decide verdict
-open-store fs st = pick-either (λ (o : Out). o .left .store ≡ st) (eqb (firstBroken (openRules fs st)) 0) (out done (opened fs st)) (out (refused (firstBroken (openRules fs st))) (state zeroPool fs st)) refl refl
+open-store fs st d = pick-either (λ (o : Out). o .left .store ≡ st) (eqb (firstBroken (openRules fs st d)) 0) (out done (opened fs st)) (out (refused (firstBroken (openRules fs st d))) (state zeroPool fs st d)) refl refl
 
 pub never-locked : NeverLocked
 unfolding AllBytes run
-never-locked frames store bf bs e U cs b w = none-along cs (start (openCall frames store .left)) (invariant-along frames store bf bs e [] tt) (rw (open-store frames store) U) b w
+never-locked frames store directory bf bs e U cs b w = none-along cs (start (openCall frames store directory .left)) (invariant-along frames store directory bf bs e [] tt) (rw (open-store frames store directory) U) b w

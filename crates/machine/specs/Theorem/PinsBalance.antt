@@ -25,6 +25,6 @@ balanced x I = record {
   none = λ p n. I .pins .none p (absent-of x I p n);
 }
 
-pub pins-balance : (frames store : List ℕ) → Octets frames → Octets store → openCall frames store .answer ≡ done
-    → (cs : List Call) → AllBytes cs → Balanced (run cs (start (openCall frames store .left)))
-pins-balance frames store bf bs e cs b = balanced _ (invariant-along frames store bf bs e cs b)
+pub pins-balance : (frames store directory : List ℕ) → Octets frames → Octets store → openCall frames store directory .answer ≡ done
+    → (cs : List Call) → AllBytes cs → Balanced (run cs (start (openCall frames store directory .left)))
+pins-balance frames store directory bf bs e cs b = balanced _ (invariant-along frames store directory bf bs e cs b)

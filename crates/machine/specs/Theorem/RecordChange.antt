@@ -41,9 +41,9 @@ pub record SamePlace (r t : FrameRecord) : Type 0 where
   pub parent : t .parent ≡ r .parent
   pub slot : t .slot ≡ r .slot
 
-pub change-steady : (s : State) (f : ℕ) (r : FrameRecord) (fs st : List ℕ) → f < length (s .pool .records) → SamePlace (recordAt (s .pool .records) f) r
-    → Steady (view s) (view (state (withRecord (s .pool) f r) fs st))
-change-steady s f r fs st h P = record {
+pub change-steady : (s : State) (f : ℕ) (r : FrameRecord) (fs st d : List ℕ) → f < length (s .pool .records) → SamePlace (recordAt (s .pool .records) f) r
+    → Steady (view s) (view (state (withRecord (s .pool) f r) fs st d))
+change-steady s f r fs st d h P = record {
   sameF = refl;
   sameN = refl;
   roots = refl;

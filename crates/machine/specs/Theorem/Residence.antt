@@ -1,64 +1,39 @@
 -- Demand 3's words for residence and pins, read by the invariant: the frame that find gives holds the page, and the balance is the records' pins. Assumes nothing.
 use Prim.Native.Nat.{ℕ, _+_, _<_}
-use mathlib.Core.Path.{_≡_, refl, sym, _∙_}
+use mathlib.Core.Path.{_≡_}
 use mathlib.Core.Logic.{_≢_}
-use mathlib.Core.List.{[], _∷_}
 use native.Mathlib.Omega.{arith}
-use borrow.Author.Tests.{lt-ltb, le-ltb, ltb-true}
-use Rattle.rules.specs.TestLaws.{kept-then, none-broken, pick-yes, pick-no}
-use Rattle.machine.specs.Machine.{pageNumber, found}
-use Rattle.machine.specs.Answers.{frame, nowhere, out}
-use Rattle.machine.specs.Rules.{rule6}
-use Rattle.machine.specs.Calls.{foundAnswer, findCall}
+use borrow.Author.Tests.{lt-ltb, ltb-true}
+use Rattle.machine.specs.Machine.{found}
 use Rattle.machine.specs.History.{Point}
 use Rattle.machine.specs.Demand3.{InFrame, Resident, Pinned}
+use Rattle.machine.specs.ByChain.{Recorded, Unrecorded, ByChain}
+use Rattle.machine.specs.Laws.FindByChain.{by-chain}
 use Rattle.machine.specs.Theorem.View.{view, Absent}
 use Rattle.machine.specs.Theorem.Invariant.{Invariant}
-use Rattle.machine.specs.Laws.Outcomes.{kept, broken, granted, denied, answers-as, refused-no-frame, absent-no-frame, one-found}
-use Rattle.machine.specs.Theorem.Holders.{Holder, place, held, unheld, found-holder, found-absent}
-use Rattle.machine.specs.Theorem.CallCases.{after-pool, find-case}
+use Rattle.machine.specs.Theorem.Holders.{occupied-of, of-occupied, Holder, place, held, unheld}
+use Rattle.machine.specs.Theorem.InvariantReads.{pool-kept}
 
 module _ (x : Point) (I : Invariant x) where
-  -- ---- find's answer
-  answer-held : (p f : ℕ) → Holder (view (x .now)) p f → (looks : ℕ) × (foundAnswer (x .now) p ≡ frame f looks)
-  unfolding foundAnswer
-  answer-held p f h =
-      let e : found (x .now .pool) p ≡ f = found-holder (x .now) (I .shape) p f h in
-      rw e (_, sym (pick-yes _ (lt-ltb f (x .now .pool .count) (h .at .lt)) refl))
-
-  answer-absent : (p : ℕ) → Absent (view (x .now)) p → (looks : ℕ) × (foundAnswer (x .now) p ≡ nowhere looks)
-  unfolding foundAnswer
-  answer-absent p a =
-      let e : found (x .now .pool) p ≡ x .now .pool .count = found-absent (x .now) p a in
-      (_, sym (pick-no _ (le-ltb (found (x .now .pool) p) (x .now .pool .count) (omega arith)) refl))
-
-  answers : (p : ℕ) → p < x .now .pool .pages → findCall (x .now) (pageNumber p) ≡ out (foundAnswer (x .now) p) (x .now)
-  unfolding findCall
-  answers p l = elim (after-pool x I (rule6 (x .now) p ∷ []) (out (foundAnswer (x .now) p) (x .now))) [
-    | kept b e ↦ e
-    | broken n z b e ↦ absurd (z (sym b ∙ kept-then 6 [] (lt-ltb p (x .now .pool .pages) l) ∙ none-broken))
-  ]
+  -- find and peek go by the directory rightly
+  pub goes-by-chain : ByChain (x .now)
+  goes-by-chain = by-chain (x .now) (pool-kept x I)
 
   -- ---- a page is in a frame exactly where that holds it
+  pub recorded-of : (p f : ℕ) → Holder (view (x .now)) p f → Recorded (x .now) p f
+  recorded-of p f h = record { at = of-occupied (x .now) f (h .at); page = h .page }
+
+  pub unrecorded-of : (p : ℕ) → Absent (view (x .now)) p → Unrecorded (x .now) p
+  unrecorded-of p a f r = a f (occupied-of (x .now) f (r .at)) (r .page)
+
   pub in-frame : (p f : ℕ) → Holder (view (x .now)) p f → InFrame x p f
-  in-frame p f h =
-      let a = answer-held p f h in
-      (a .0, answers-as (answers p (rw (h .page) at (I .shape .pageLt f (h .at)))) ∙ a .1)
+  in-frame p f h = goes-by-chain .found p f .1 (recorded-of p f h)
 
   pub resident-of : (p f : ℕ) → Holder (view (x .now)) p f → Resident x p
   resident-of p f h = (f, in-frame p f h)
 
-  found-answer : (p f looks : ℕ) → foundAnswer (x .now) p ≡ frame f looks → Holder (view (x .now)) p f
-  found-answer p f looks e = elim (place (x .now) p) [
-    | held h ↦ let q : found (x .now .pool) p ≡ f = one-found (sym (answer-held p _ h .1) ∙ e) .0 in rw q at h
-    | unheld a ↦ absurd (absent-no-frame (sym (answer-absent p a .1) ∙ e))
-  ]
-
   pub holder : (p f : ℕ) → InFrame x p f → Holder (view (x .now)) p f
-  holder p f (looks, e) = elim (find-case x I (pageNumber p)) [
-    | granted l q ↦ found-answer p f looks (sym (answers-as q) ∙ e)
-    | denied n u q ↦ absurd (refused-no-frame (sym (answers-as q) ∙ e))
-  ]
+  holder p f e = let r = goes-by-chain .found p f .0 e in record { at = occupied-of (x .now) f (r .at); page = r .page }
 
   pub not-resident : (p : ℕ) → Absent (view (x .now)) p → Resident x p → ⊥
   not-resident p a r = let h : Holder (view (x .now)) p (r .0) = holder p (r .0) (r .1) in a (r .0) (h .at) (h .page)

@@ -16,13 +16,17 @@ use Rattle.page.specs.Page.{name}
 use Rattle.page.specs.Octets.{Octets}
 use Rattle.machine.specs.declared.FrameRecord.{FrameRecord}
 use Rattle.rules.specs.Tests.{_and_, Rule, firstBroken}
-use Rattle.rules.specs.TestLaws.{clash, case, on, off, is-off, and-true, or-second, kept-then}
+use Rattle.rules.specs.TestLaws.{clash, case, on, off, is-off, and-true, both, or-second, kept-then}
 use Rattle.machine.specs.Machine.{State, isUsed, recordAt, occupied, blank, frameIndex, pageNumber}
 use Rattle.machine.specs.Agreement.{parentOf, isBlank, reachesRoot}
 use Rattle.machine.specs.Laws.Parents.{climb, climb-reach}
 use Rattle.machine.specs.Laws.AgreementFacts.{occupied-lt, occupied-used, make-occupied, Points, InRange, Agreed, tests}
+use Rattle.chains.specs.Chain.{directorySize}
+use Rattle.machine.specs.Directory.{chainsAgree}
+use Rattle.chains.specs.ChainFacts.{Chained}
+use Rattle.machine.specs.Laws.DirectoryFacts.{homeOf, chains-tests}
 use Rattle.machine.specs.Rules.{lengthsFit, rule1, rule2}
-use Rattle.machine.specs.Laws.Ready.{Sized, Kept, of-lengths}
+use Rattle.machine.specs.Laws.Ready.{Sized, Kept, of-lengths, of-directory}
 use Rattle.machine.specs.Theorem.View.{view, Reach, top, via, Occupied, Parent, Child, Shape, first-root, first-page, past-first, not-first}
 use Rattle.machine.specs.History.{Point}
 use Rattle.machine.specs.Theorem.Invariant.{NeatRecord, Neat, Invariant}
@@ -36,9 +40,11 @@ pub record Fit (s : State) : Type 0 where
   pub neat : Neat (s .pool)
   pub frameOctets : Octets (s .frames)
   pub shape : Shape (view s)
+  pub directory : length (s .directory) ≡ directorySize
+  pub chained : Chained (homeOf (s .pool)) (s .directory)
 
 pub fit-of : (x : Point) → Invariant x → Fit (x .now)
-fit-of x I = record { sized = I .sized; records = I .records; neat = I .neat; frameOctets = I .frameOctets; shape = I .shape }
+fit-of x I = record { sized = I .sized; records = I .records; neat = I .neat; frameOctets = I .frameOctets; shape = I .shape; directory = I .directory; chained = I .chained }
 
 -- ---- it passes rules 1 and 2
 
@@ -111,9 +117,13 @@ module _ (s : State) (I : Fit s) where
   pub fit-lengths : lengthsFit (s .pool .count) (s .pool .pages) (s .frames) (s .store) ≡ true
   fit-lengths = of-lengths _ _ _ _ (I .sized)
 
+  -- what rule 2 asks of the directory
+  pub fit-chains : chainsAgree (s .pool) (s .directory) ≡ true
+  fit-chains = chains-tests (s .pool) (I .shape .most) (s .directory) (I .chained)
+
   -- rules 1 and 2 are never broken, so that those after them decide
   pub fit-unbroken : (rs : List Rule) → firstBroken (rule1 s ∷ rule2 s ∷ rs) ≡ firstBroken rs
-  fit-unbroken rs = kept-then 1 _ fit-lengths ∙ kept-then 2 rs (tests _ _ fit-agreed)
+  fit-unbroken rs = kept-then 1 _ (both _ _ fit-lengths (of-directory _ (I .directory))) ∙ kept-then 2 rs (both _ _ (tests _ _ fit-agreed) fit-chains)
 
 -- ---- what passes rules 1 and 2 is one
 
@@ -200,4 +210,6 @@ module _ (s : State) (n : length (s .pool .records) ≡ recordCount) (o : Octets
       once = λ f k g j a hk b hj e z l. A .once f k g j (of-occupied s f a) hk (of-occupied s g b) hj z l e;
       reach = λ f u. reached (s .pool .count) f (A .reach f (of-occupied s f u));
     };
+    directory = K .directory;
+    chained = K .chained;
   }

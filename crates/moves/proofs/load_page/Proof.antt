@@ -24,6 +24,9 @@ renamed-requires c κs = search needs
 put-in-slot-requires : tie.Need-put-in-slot-requires
 put-in-slot-requires c κs = search needs
 
+enter-requires : tie.Need-enter-requires
+enter-requires c κs = search needs
+
 cast-loaded : tie.Need-cast-loaded
 cast-loaded c = search needs
 
@@ -33,15 +36,19 @@ loaded-requires c κs = search needs
 same-length : tie.Need-same-length
 same-length c = search needs
 
+same-length-2 : tie.Need-same-length-2
+same-length-2 c = search needs
+
 returns : tie.Need-returns
 unfolding broughtIn
 returns c =
-    let put = c .before .before .before in
+    let entered = c .before .before .before in
+    let put = entered .before .before .before .before in
     let word = put .before .before in
     let copied = word .before .before .before .before in
     let read = copied .before .before .before in
     let whole = rw (copied .before .place .ensures) at (copied .to-frame .ensures .0) in
-    (c .loaded .ensures, renamed-put _ _ _ _ _ _ _ _ _ _ _ whole refl (read .slot-word .ensures) (word .before .word .ensures) (word .renamed .ensures) (put .put-in-slot .ensures))
+    (c .loaded .ensures, renamed-put _ _ _ _ _ _ _ _ _ _ _ whole refl (read .slot-word .ensures) (word .before .word .ensures) (word .renamed .ensures) (put .put-in-slot .ensures), entered .enter .ensures)
 
 pub load-page-spec : {M : Type 1} → statement M
 load-page-spec =
@@ -53,7 +60,9 @@ load-page-spec =
     word-requires
     renamed-requires
     put-in-slot-requires
+    enter-requires
     cast-loaded
     loaded-requires
     same-length
+    same-length-2
     returns)

@@ -16,9 +16,12 @@ same-length c = search needs
 same-length-2 : tie.Need-same-length-2
 same-length-2 c = search needs
 
+same-length-3 : tie.Need-same-length-3
+same-length-3 c = search needs
+
 returns : tie.Need-returns
-returns c = let fix = c .before .before .before .before .before .fix in fixed-out (fix .result) _ _ (c .from-fix .ensures) (fix .ensures)
+returns c = let fix = c .before .before .before .before .before .before .before .fix in fixed-out (fix .result) _ _ _ (c .from-fix .ensures) (fix .ensures)
 
 pub pool-fix-spec : {M : Type 1} → statement M
 pool-fix-spec =
-    tie.close (tie.spec fix-requires from-fix-requires same-length same-length-2 returns)
+    tie.close (tie.spec fix-requires from-fix-requires same-length same-length-2 same-length-3 returns)

@@ -11,7 +11,7 @@ from-fix-requires : tie.Need-from-fix-requires
 from-fix-requires c κs = search needs
 
 returns : tie.Need-returns
-returns c = fixed-out (c .before .root .result) _ _ (c .from-fix .ensures) (c .before .root .ensures)
+returns c = fixed-out (c .before .root .result) _ _ _ (c .from-fix .ensures) (c .before .root .ensures)
 
 pub pool-root-spec : {M : Type 1} → statement M
 pool-root-spec = tie.close (tie.spec root-requires from-fix-requires returns)

@@ -1,4 +1,4 @@
--- `scan::find_frame` meets its contract. The loop's invariant: the frame that is found is found from `frame` on, and there were as many looks as frames lie before that. Assumes nothing.
+-- `scan::find_frame` meets its contract. The loop's invariant: the frame that is found is found from `frame` on. Assumes nothing.
 use Prim.Native.Nat.{ℕ, suc, _≤_, _<_, _-_, _+_}
 use mathlib.Core.Path.{_≡_, refl, sym, _∙_}
 use mathlib.Core.List.{List}
@@ -13,11 +13,10 @@ use Rattle.scan.proofs.find_frame.Statement.{statement}
 use Rattle.scan.proofs.find_frame.Tie as tie
 
 abbrev Inv-loop : tie.InvT-loop
-Inv-loop residents count page frame₀ looks₀ frame looks =
-    (foundBy residents (page .0) count 0 ≡ foundBy residents (page .0) (count - frame) frame) × (frame ≤ count) × (looks ≡ frame)
+Inv-loop residents count page frame₀ frame = foundBy residents (page .0) count 0 ≡ foundBy residents (page .0) (count - frame) frame
 
 abbrev μ-loop : tie.MeasureT-loop
-μ-loop residents count page frame₀ looks₀ frame looks = count - frame
+μ-loop residents count page frame₀ frame = count - frame
 
 module _ (residents : List ℕ) (q n i : ℕ) where
   here : i < n → pageBy residents i ≡ q → foundBy residents q (n - i) i ≡ i
@@ -33,10 +32,7 @@ module _ (residents : List ℕ) (q n i : ℕ) where
   past l = let s : n - i ≡ 0 = omega arith in rw s
 
 loop-holds : tie.Need-loop-holds Inv-loop μ-loop
-loop-holds c = (rw sub-zero, omega arith, refl)
-
-add-looks : tie.Need-add-looks Inv-loop μ-loop
-add-looks c = search needs
+loop-holds c = rw sub-zero
 
 mul-if1 : tie.Need-mul-if1 Inv-loop μ-loop
 mul-if1 c = search needs
@@ -49,8 +45,7 @@ returns : tie.Need-returns Inv-loop μ-loop
 returns c =
     let past-frames = c .before .before .before in
     let at-frames = past-frames .before in
-    let l : at-frames .loop .frame < at-frames .before .args .count = past-frames .loop-test .taken in
-    (sym (at-frames .loop .inv .0 ∙ here _ _ _ _ l (c .if1 .taken)), omega (arith, at-frames .loop .inv .2))
+    sym (at-frames .loop .inv ∙ here _ _ _ _ (past-frames .loop-test .taken) (c .if1 .taken))
 
 add-frame : tie.Need-add-frame Inv-loop μ-loop
 add-frame c = search needs
@@ -62,13 +57,11 @@ loop-again : tie.Need-loop-again Inv-loop μ-loop
 loop-again c =
     let past-frames = c .before .before .before in
     let at-frames = past-frames .before in
-    (at-frames .loop .inv .0 ∙ other _ _ _ _ (past-frames .loop-test .taken) (c .if1 .left), omega arith, omega (arith, at-frames .loop .inv .2))
+    at-frames .loop .inv ∙ other _ _ _ _ (past-frames .loop-test .taken) (c .if1 .left)
 
 -- none does
 returns-2 : tie.Need-returns-2 Inv-loop μ-loop
-returns-2 c =
-    let i = c .before .loop .inv in
-    (sym (i .0 ∙ past _ _ _ _ (c .loop-test .left)), omega (arith, i .1, i .2, c .loop-test .left))
+returns-2 c = sym (c .before .loop .inv ∙ past _ _ _ _ (c .loop-test .left))
 
 pub find-frame-spec : {M : Type 1} → statement M
 find-frame-spec =
@@ -77,7 +70,6 @@ find-frame-spec =
     Inv-loop
     μ-loop
     loop-holds
-    add-looks
     mul-if1
     element-copy-out-if1
     returns

@@ -11,10 +11,10 @@ use Rattle.workload.proofs.run_all.Statement.{statement}
 use Rattle.workload.proofs.run_all.Tie as tie
 
 abbrev Inv-loop : tie.InvT-loop
-Inv-loop frames₀ store₀ count as-records turn₀ left₀ frames store turn left = (left ≤ count) × (count < 2 ^ 32) × Reached (state (turn₀ .pool) frames₀ store₀) (turn₀ .generator) (count - left) (summed (state (turn .pool) frames store) (turn .generator) (turn .sum))
+Inv-loop frames₀ store₀ directory₀ count as-records turn₀ left₀ frames store directory turn left = (left ≤ count) × (count < 2 ^ 32) × Reached (state (turn₀ .pool) frames₀ store₀ directory₀) (turn₀ .generator) (count - left) (summed (state (turn .pool) frames store directory) (turn .generator) (turn .sum))
 
 abbrev μ-loop : tie.MeasureT-loop
-μ-loop frames₀ store₀ count as-records turn₀ left₀ frames store turn left = left
+μ-loop frames₀ store₀ directory₀ count as-records turn₀ left₀ frames store directory turn left = left
 
 empty-requires : tie.Need-empty-requires Inv-loop μ-loop
 empty-requires c κs = search needs
@@ -41,17 +41,17 @@ sub-left c = search needs
 
 loop-less : tie.Need-loop-less Inv-loop μ-loop
 loop-less c =
-    let at-next-count = c .before .before .before .before .before in
+    let at-next-count = c .before .before .before .before .before .before in
     let h = at-next-count .next-count .ensures in
     omega (arith, h .0, h .2 (at-next-count .before .loop-test .taken))
 
 loop-again : tie.Need-loop-again Inv-loop μ-loop
 loop-again c =
     let at-run-next = c .before .before in
-    let at-next-count = at-run-next .before .before .before in
+    let at-next-count = at-run-next .before .before .before .before in
     let l = at-next-count .before .before .loop in
     let h = at-next-count .next-count .ensures in
-    (omega arith, l .inv .1, block-reached _ _ _ (l .left) _ (h .0) (l .inv .0) (l .inv .1) (state (l .turn .pool) (l .frames) (l .store)) (l .turn .generator) (l .turn .sum) (l .inv .2) (at-run-next .run-next .ensures))
+    (omega arith, l .inv .1, block-reached _ _ _ (l .left) _ (h .0) (l .inv .0) (l .inv .1) (state (l .turn .pool) (l .frames) (l .store) (l .directory)) (l .turn .generator) (l .turn .sum) (l .inv .2) (at-run-next .run-next .ensures))
 
 returns-2 : tie.Need-returns-2 Inv-loop μ-loop
 returns-2 c =

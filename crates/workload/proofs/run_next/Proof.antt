@@ -50,8 +50,8 @@ returns : tie.Need-returns
 returns c =
     let at-add = c .before .before .before in
     let at-run = at-add .before .before .before .before .before in
-    let a = at-run .before .before .before .before .before .before .before .args in
-    block-summed (a .count) (state (a .turn .pool) (a .frames .now) (a .store .now)) (a .turn .generator) (a .turn .sum) (at-run .run-records .ensures .1) (at-add .add .ensures)
+    let a = at-run .before .before .before .before .before .before .before .before .args in
+    block-summed (a .count) (state (a .turn .pool) (a .frames .now) (a .store .now) (a .directory .now)) (a .turn .generator) (a .turn .sum) (at-run .run-records .ensures .1) (at-add .add .ensures)
 
 pub run-next-spec : {M : Type 1} → statement M
 run-next-spec =

@@ -10,6 +10,9 @@ slice-aggregate-open c = search needs
 slice-aggregate-open-2 : tie.Need-slice-aggregate-open-2
 slice-aggregate-open-2 c = search needs
 
+slice-aggregate-open-3 : tie.Need-slice-aggregate-open-3
+slice-aggregate-open-3 c = search needs
+
 open-requires : tie.Need-open-requires
 open-requires c κs = search needs
 
@@ -21,9 +24,9 @@ run-all-requires c κs = search needs
 
 returns : tie.Need-returns
 returns c =
-    let at-seeded = c .before .before .before in
-    let at-open = at-seeded .before .before .before in
-    let a = at-open .before .before .before .args in
+    let at-seeded = c .before .before .before .before in
+    let at-open = at-seeded .before .before .before .before in
+    let a = at-open .before .before .before .before .args in
     λ e. from-seed (a .seed) (a .count) _ _ (at-open .«open» .ensures) (at-seeded .seeded .ensures) (c .run-all .ensures e)
 
 pub run-seed-spec : {M : Type 1} → statement M
@@ -32,6 +35,7 @@ run-seed-spec =
     (tie.spec
     slice-aggregate-open
     slice-aggregate-open-2
+    slice-aggregate-open-3
     open-requires
     seeded-requires
     run-all-requires

@@ -2,7 +2,7 @@
 use borrow.Author.Needs.{needs}
 use borrow.Author.Tests.{eq-eqb, ne-eqb, not-true, not-false}
 use native.Mathlib.Omega.{arith}
-use Rattle.agreement.specs.Deciding.{decided, fails, decide-by}
+use Rattle.rules.specs.Deciding.{decided, fails, decide-by}
 use Rattle.agreement.specs.Fit.{ResidentFits}
 use Rattle.agreement.specs.FitLaws.{fits-root, fits-linked, fits-empty}
 use Rattle.agreement.proofs.frame.is_fitting.Statement.{statement}

@@ -3,7 +3,7 @@ use mathlib.Core.Path.{sym, _∙_, ap}
 use mathlib.Core.Bool.{true, false}
 use Rattle.page.specs.Word.{nameOf, marked, frame-named, named-frame}
 use Rattle.rules.specs.TestLaws.{clash}
-use Rattle.agreement.specs.Deciding.{decide-equal}
+use Rattle.rules.specs.Deciding.{decide-equal}
 use borrow.Author.Needs.{needs}
 use Rattle.agreement.proofs.frame.is_linked.Statement.{statement}
 use Rattle.agreement.proofs.frame.is_linked.Tie as tie

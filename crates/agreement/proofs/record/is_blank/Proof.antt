@@ -1,6 +1,6 @@
 -- `is_blank` meets its contract. Assumes nothing.
 use borrow.Author.Needs.{needs}
-use Rattle.agreement.specs.Deciding.{decide-equal}
+use Rattle.rules.specs.Deciding.{decide-equal}
 use Rattle.agreement.specs.Fit.{Blank}
 use Rattle.agreement.proofs.record.is_blank.Statement.{statement}
 use Rattle.agreement.proofs.record.is_blank.Tie as tie

@@ -2,7 +2,7 @@
 use borrow.Author.Needs.{needs}
 use native.Mathlib.Omega.{arith}
 use Rattle.agreement.specs.Fit.{RootFits}
-use Rattle.agreement.specs.Deciding.{decide-flag}
+use Rattle.rules.specs.Deciding.{decide-flag}
 use Rattle.agreement.proofs.record.root_fits.Statement.{statement}
 use Rattle.agreement.proofs.record.root_fits.Tie as tie
 

@@ -4,7 +4,7 @@ use Prim.Native.Nat.{_≤_, _<_, _-_}
 use native.Mathlib.Omega.{arith}
 use mathlib.Core.Path.{_≡_, ap}
 use mathlib.Core.Logic.{⊎-elim}
-use Rattle.agreement.specs.Deciding.{Decides}
+use Rattle.rules.specs.Deciding.{Decides}
 use Rattle.agreement.specs.Fit.{entry}
 use Rattle.agreement.specs.ParentSteps.{AtRoot, Jumped, jumped-none, jumped-more, jumps-of, at-root-more}
 use Rattle.agreement.proofs.steps.jump.Statement.{statement}

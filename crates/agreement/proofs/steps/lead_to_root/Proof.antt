@@ -3,7 +3,7 @@ use borrow.Author.Needs.{needs}
 use Prim.Native.Nat.{ℕ, _≤_, _+_, _*_, _-_}
 use native.Mathlib.Omega.{arith}
 use mathlib.Core.Path.{_≡_, refl}
-use Rattle.agreement.specs.Deciding.{decided, fails}
+use Rattle.rules.specs.Deciding.{decided, fails}
 use Rattle.agreement.specs.Fit.{entry}
 use Rattle.agreement.specs.ParentSteps.{Below, AtRoot, Steps, steps-one, lead-of, at-root, lead-in-order}
 use Rattle.agreement.proofs.steps.lead_to_root.Statement.{statement}

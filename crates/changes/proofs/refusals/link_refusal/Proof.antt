@@ -24,7 +24,7 @@ use Rattle.changes.proofs.refusals.link_refusal.Tie as tie
 
 -- the points that are gone by: the start, past the rules of a change, past rule 6
 abbrev start : tie.Else1 → tie.Start
-start c = c .before .before .before .before .before .before
+start c = c .before .before .before .before .before .before .before
 
 abbrev past-change : tie.Else3 → tie.Else1
 past-change c = c .before .before .before .before
@@ -33,7 +33,7 @@ abbrev past-number : tie.After-is-named → tie.Else3
 past-number c = c .before .before .before
 
 abbrev given : tie.Start → State
-given c = let a = c .args in state (a .pool) (a .frames .now) (a .store .now)
+given c = let a = c .args in state (a .pool) (a .frames .now) (a .store .now) (a .directory .now)
 
 -- what comes after rule 6, and after the rules of a change
 abbrev last : tie.Start → List Rule
@@ -91,7 +91,7 @@ edit-refusal-requires c κs = search needs
 -- rules 1 to 4, and 26
 returns : tie.Need-returns
 returns c =
-    let at-start = c .before .before .before .before .before .before in
+    let at-start = c .before .before .before .before .before .before .before in
     let a = at-start .args in
     edit-stops (given at-start) (a .handle) (a .slot) (rest at-start) (c .before .edit-refusal .ensures .0) (c .if1 .taken)
 

@@ -17,11 +17,11 @@ use Rattle.changes.proofs.refusals.unlink_refusal.Statement.{statement}
 use Rattle.changes.proofs.refusals.unlink_refusal.Tie as tie
 
 abbrev given : tie.Start → State
-given c = let a = c .args in state (a .pool) (a .frames .now) (a .store .now)
+given c = let a = c .args in state (a .pool) (a .frames .now) (a .store .now) (a .directory .now)
 
 -- the start, from past the rules of a change
 abbrev start : tie.Else1 → tie.Start
-start c = c .before .before .before .before .before .before
+start c = c .before .before .before .before .before .before .before
 
 -- what comes after the rules of a change
 abbrev rest : tie.Start → List Rule
@@ -41,7 +41,7 @@ edit-refusal-requires c κs = search needs
 returns : tie.Need-returns
 returns c =
     let at-edit-refusal = c .before in
-    let at-entry = at-edit-refusal .before .before .before .before .before in
+    let at-entry = at-edit-refusal .before .before .before .before .before .before in
     edit-stops (given at-entry) (at-entry .args .handle) (at-entry .args .slot) (rest at-entry) (at-edit-refusal .edit-refusal .ensures .0) (c .if1 .taken)
 
 slot-name-requires : tie.Need-slot-name-requires

@@ -15,11 +15,11 @@ use Rattle.changes.proofs.refusals.write_refusal.Statement.{statement}
 use Rattle.changes.proofs.refusals.write_refusal.Tie as tie
 
 abbrev given : tie.Start → State
-given c = let a = c .args in state (a .pool) (a .frames .now) (a .store .now)
+given c = let a = c .args in state (a .pool) (a .frames .now) (a .store .now) (a .directory .now)
 
 -- the points that are gone by: the start, past the rules of the handle
 abbrev start : tie.Else1 → tie.Start
-start c = c .before .before .before .before .before .before
+start c = c .before .before .before .before .before .before .before
 
 abbrev past-handle : tie.Else2 → tie.Else1
 past-handle c = c .before .before
@@ -53,7 +53,7 @@ handle-refusal-requires c κs = search needs
 returns : tie.Need-returns
 returns c =
     let at-handle-refusal = c .before in
-    let at-entry = at-handle-refusal .before .before .before .before .before in
+    let at-entry = at-handle-refusal .before .before .before .before .before .before in
     handle-stops (given at-entry) (at-entry .args .handle) (rest at-entry) (at-handle-refusal .handle-refusal .ensures .0) (c .if1 .taken)
 
 range-fits-requires : tie.Need-range-fits-requires

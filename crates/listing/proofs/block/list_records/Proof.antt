@@ -14,15 +14,15 @@ use Rattle.listing.proofs.block.list_records.Statement.{statement}
 use Rattle.listing.proofs.block.list_records.Tie as tie
 
 abbrev Inv-loop : tie.InvT-loop
-Inv-loop frames₀ store₀ block text₀ count pool₀ end₀ odd₀ i₀ frames store text pool end odd i = (i ≤ count) × (16 * count ≤ length block) × (end ≤ 24 * i) × (24 * count ≤ length text₀) × (length frames ≡ length frames₀) × (length store ≡ length store₀) × (length text ≡ length text₀) × (listedFrom count block 0 (printed [] (state pool₀ frames₀ store₀)) ≡ listedFrom (count - i) block i (printed (take end text) (state pool frames store)))
+Inv-loop frames₀ store₀ directory₀ block text₀ count pool₀ end₀ odd₀ i₀ frames store directory text pool end odd i = (i ≤ count) × (16 * count ≤ length block) × (end ≤ 24 * i) × (24 * count ≤ length text₀) × (length frames ≡ length frames₀) × (length store ≡ length store₀) × (length directory ≡ length directory₀) × (length text ≡ length text₀) × (listedFrom count block 0 (printed [] (state pool₀ frames₀ store₀ directory₀)) ≡ listedFrom (count - i) block i (printed (take end text) (state pool frames store directory)))
 
 abbrev μ-loop : tie.MeasureT-loop
-μ-loop frames₀ store₀ block text₀ count pool₀ end₀ odd₀ i₀ frames store text pool end odd i = count - i
+μ-loop frames₀ store₀ directory₀ block text₀ count pool₀ end₀ odd₀ i₀ frames store directory text pool end odd i = count - i
 
 loop-holds : tie.Need-loop-holds Inv-loop μ-loop
 loop-holds c =
-    let at-entry = c .before .before .before .before in
-    (search needs, omega arith, search needs, at-entry .pre, refl, refl, refl, all-listed _ _ _)
+    let at-entry = c .before .before .before .before .before in
+    (search needs, omega arith, search needs, at-entry .pre, refl, refl, refl, refl, all-listed _ _ _)
 
 mul-at : tie.Need-mul-at Inv-loop μ-loop
 mul-at c = search needs
@@ -60,8 +60,8 @@ put-line-requires c κs = search needs
 add-i : tie.Need-add-i Inv-loop μ-loop
 add-i c =
     let at-oddity = c .before .before .before .before .before .before in
-    let at-list-record = at-oddity .before .before .before .before .before in
-    let at-copy-into = at-list-record .before .before .before .before .before in
+    let at-list-record = at-oddity .before .before .before .before .before .before .before in
+    let at-copy-into = at-list-record .before .before .before .before .before .before in
     let past-entry = at-copy-into .before .before in
     let h = add-copy-into past-entry .fits in record { fits = omega (arith, h) }
 
@@ -72,15 +72,18 @@ loop-again : tie.Need-loop-again Inv-loop μ-loop
 loop-again c =
     let at-put-line = c .before .before .before in
     let at-oddity = at-put-line .before .before .before in
-    let at-list-record = at-oddity .before .before .before .before .before in
-    let at-copy-into = at-list-record .before .before .before .before .before in
+    let at-directory = at-oddity .before .before in
+    let at-store = at-directory .before .before in
+    let at-frames = at-store .before .before in
+    let at-list-record = at-frames .before in
+    let at-copy-into = at-list-record .before .before .before .before .before .before in
     let past-records = at-copy-into .before .before .before in
     let at-records = past-records .before in
-    let at-entry = at-records .before .before .before .before .before in
+    let at-entry = at-records .before .before .before .before .before .before in
     let l = at-records .loop in
     let b = at-entry .args .block .now in
     let run = one-printed (take (l .end) (l .text)) _ (at-list-record .list-record .ensures) (at-put-line .put-line .ensures .1) in
-    (omega arith, l .inv .1, omega arith, l .inv .3, omega arith, omega arith, omega arith, l .inv .7 ∙ one-listed b (length b / 16) (l .i) (take (l .end) (l .text)) (state (l .pool) (l .frames) (l .store)) (past-records .loop-test .taken) (at-copy-into .copy-into .ensures .0) run)
+    (omega arith, l .inv .1, omega arith, l .inv .3, omega (arith, at-frames .frames .given, l .inv .4), omega (arith, at-store .store .given, l .inv .5), omega (arith, at-directory .directory .given, l .inv .6), omega arith, l .inv .8 ∙ one-listed b (length b / 16) (l .i) (take (l .end) (l .text)) (state (l .pool) (l .frames) (l .store) (l .directory)) (past-records .loop-test .taken) (at-copy-into .copy-into .ensures .0) run)
 
 same-length : tie.Need-same-length Inv-loop μ-loop
 same-length c = c .before .loop .inv .4
@@ -91,14 +94,17 @@ same-length-2 c = c .before .loop .inv .5
 same-length-3 : tie.Need-same-length-3 Inv-loop μ-loop
 same-length-3 c = c .before .loop .inv .6
 
+same-length-4 : tie.Need-same-length-4 Inv-loop μ-loop
+same-length-4 c = c .before .loop .inv .7
+
 returns : tie.Need-returns Inv-loop μ-loop
 returns c =
     let at-records = c .before in
-    let at-entry = at-records .before .before .before .before .before in
+    let at-entry = at-records .before .before .before .before .before .before in
     let l = at-records .loop in
     let b = at-entry .args .block .now in
     let h : l .end ≤ length (l .text) = omega arith in
-    (counts _ _ h, sym (l .inv .7 ∙ none-listed b (length b / 16) (l .i) _ (c .loop-test .left)))
+    (counts _ _ h, sym (l .inv .8 ∙ none-listed b (length b / 16) (l .i) _ (c .loop-test .left)))
 
 pub list-records-spec : {M : Type 1} → statement M
 list-records-spec =
@@ -124,4 +130,5 @@ list-records-spec =
     same-length
     same-length-2
     same-length-3
+    same-length-4
     returns)

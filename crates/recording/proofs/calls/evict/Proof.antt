@@ -19,13 +19,16 @@ same-length c = search needs
 same-length-2 : tie.Need-same-length-2
 same-length-2 c = search needs
 
+same-length-3 : tie.Need-same-length-3
+same-length-3 c = search needs
+
 returns : tie.Need-returns
 returns c =
-    let at-evict = c .before .before .before .before .before in
-    let at-page = at-evict .before .before .before in
+    let at-evict = c .before .before .before .before .before .before .before in
+    let at-page = at-evict .before .before .before .before in
     line-listed _ _ _ (c .of-done .ensures) (rw (at-page .page .ensures) at (at-evict .evict .ensures))
 
 pub evict-spec : {M : Type 1} → statement M
 evict-spec =
     tie.close
-    (tie.spec page-requires evict-requires of-done-requires same-length same-length-2 returns)
+    (tie.spec page-requires evict-requires of-done-requires same-length same-length-2 same-length-3 returns)

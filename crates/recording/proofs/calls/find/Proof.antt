@@ -18,9 +18,9 @@ returns : tie.Need-returns
 returns c =
     let at-find = c .before in
     let at-page = at-find .before in
-    let at-entry = at-page .before .before .before in
+    let at-entry = at-page .before .before .before .before in
     let a = at-entry .args in
-    let s : State = state (a .pool) (a .frames .now) (a .store .now) in
+    let s : State = state (a .pool) (a .frames .now) (a .store .now) (a .directory .now) in
     line-listed _ _ _ (c .of-find .ensures) (rw (at-page .page .ensures) at (find-leaves s (at-page .page .result) (at-find .find .ensures)))
 
 pub find-spec : {M : Type 1} → statement M

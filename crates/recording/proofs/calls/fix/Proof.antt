@@ -22,10 +22,13 @@ same-length c = search needs
 same-length-2 : tie.Need-same-length-2
 same-length-2 c = search needs
 
+same-length-3 : tie.Need-same-length-3
+same-length-3 c = search needs
+
 returns : tie.Need-returns
 returns c =
-    let at-fix = c .before .before .before .before .before in
-    let at-slot = at-fix .before .before .before in
+    let at-fix = c .before .before .before .before .before .before .before in
+    let at-slot = at-fix .before .before .before .before in
     let at-handle = at-slot .before in
     line-listed _ _ _ (c .of-fix .ensures) (rw (at-handle .handle .ensures, at-slot .slot .ensures) at (at-fix .fix .ensures))
 
@@ -39,4 +42,5 @@ fix-spec =
     of-fix-requires
     same-length
     same-length-2
+    same-length-3
     returns)

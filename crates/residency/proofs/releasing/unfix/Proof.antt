@@ -20,7 +20,7 @@ element-copy-out-rec c = search needs
 handle-refusal-requires : tie.Need-handle-refusal-requires
 handle-refusal-requires c κs =
     let at-record-place = c .before .before .before in
-    let at-entry = at-record-place .before .before .before in
+    let at-entry = at-record-place .before .before .before .before in
     (ap (recordAt (at-entry .args .pool .records)) (at-record-place .record-place .ensures), record { noPage = refl; noneSeen = refl })
 
 -- refused
@@ -33,8 +33,8 @@ unpinned-requires c κs =
     let tested = c .before in
     unfix-pinned _ _ (tested .handle-refusal .ensures .0) (c .if1 .left) (tested .before .before .before .before .record-place .ensures)
 
-mul-t13 : tie.Need-mul-t13
-mul-t13 c = search needs
+mul-t14 : tie.Need-mul-t14
+mul-t14 c = search needs
 
 element-set-from-next : tie.Need-element-set-from-next
 element-set-from-next c = search needs
@@ -55,6 +55,6 @@ unfix-spec =
     handle-refusal-requires
     returns
     unpinned-requires
-    mul-t13
+    mul-t14
     element-set-from-next
     returns-2)

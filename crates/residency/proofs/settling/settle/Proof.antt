@@ -1,8 +1,10 @@
 -- `residency::settling::settle` meets its contract. Assumes nothing.
 use mathlib.Core.Path.{sym, _∙_}
+use mathlib.Core.List.{[]}
 use Rattle.machine.specs.Calls.{settleCall}
 use Rattle.machine.specs.Laws.Ready.{rules-kept, ready}
 use Rattle.machine.specs.Laws.RuleLaws.{done-no, done-yes}
+use Rattle.moves.specs.MoveSteps.{ready-with}
 use borrow.Author.Needs.{needs}
 use Rattle.residency.proofs.settling.settle.Statement.{statement}
 use Rattle.residency.proofs.settling.settle.Tie as tie
@@ -19,7 +21,10 @@ unfolding settleCall
 returns c = done-no _ _ _ (c .before .table-refusal .ensures .0) (c .if1 .taken)
 
 settle-pages-requires : tie.Need-settle-pages-requires
-settle-pages-requires c κs = (ready _ (rules-kept _ (sym (c .before .before .before .table-refusal .ensures .0) ∙ c .before .before .if1 .left)), c .before .before .before .table-refusal .ensures .1 (c .before .before .if1 .left) .held)
+settle-pages-requires c κs =
+    let past-refusal = c .before .before in
+    let at-table-refusal = past-refusal .before in
+    (ready-with _ [] (ready _ (rules-kept _ (sym (at-table-refusal .table-refusal .ensures .0) ∙ past-refusal .if1 .left))), at-table-refusal .table-refusal .ensures .1 (past-refusal .if1 .left) .held)
 
 same-length-2 : tie.Need-same-length-2
 same-length-2 c = search needs
@@ -31,7 +36,7 @@ returns-2 c =
     let at-settle-pages = c .before .before in
     let past-refusal = at-settle-pages .before .before .before in
     let at-table-refusal = past-refusal .before in
-    done-yes _ _ (at-table-refusal .table-refusal .ensures .0) (past-refusal .if1 .left) (at-settle-pages .settle-pages .ensures)
+    done-yes _ _ (at-table-refusal .table-refusal .ensures .0) (past-refusal .if1 .left) (at-settle-pages .settle-pages .ensures _)
 
 pub settle-spec : {M : Type 1} → statement M
 settle-spec =
