@@ -1,7 +1,7 @@
 /*
  * A pool of 4 frames over a store of 80 empty pages: links and fixes a few pages, writes, reads back, locks a page, settles, and
  * reads the store again through a new pool, where the page is freed. Then tells from its fixes what caches of a few sizes hit.
- * Prints what it did, as demo.rs does.
+ * Prints what it did, as demo.rs does. stores.c has several stores over one set of frames.
  */
 #include "pagepool.h"
 
@@ -18,6 +18,9 @@ static uint8_t frames[FRAMES * POOL_PAGE_SIZE];
 static uint8_t directory[POOL_DIRECTORY_SIZE];
 /* What every call on the pool is lent. */
 #define LENT frames, sizeof frames, store, sizeof store, directory, sizeof directory
+/* The only store, by its number, which may fill every frame. */
+#define ONLY 0
+static const struct pool_ceilings ceilings = {{FRAMES}};
 static struct pool pool;
 /* The recording: the page of each fix. */
 static uint16_t recorded[POOL_MOST_REFERENCES];
@@ -41,10 +44,10 @@ static void done(struct pool_done answer)
 
 static struct pool_handle open_pool(void)
 {
-    done(pool_open(LENT));
+    done(pool_open(LENT, 1, ceilings));
     printf("open: %d pages, %d frames\n", pool.pages, pool.count);
 
-    struct pool_fixed fixed = pool_root(pool, LENT);
+    struct pool_fixed fixed = pool_root(pool, LENT, ONLY);
     accept(fixed.refusal);
     pool = fixed.pool;
     printf("root: page %d in frame %d\n", fixed.handle.page, fixed.handle.frame);
@@ -111,7 +114,7 @@ static void write_text(struct pool_handle handle, const char *text)
 
 static void evict_page(pool_page_number page)
 {
-    struct pool_done answer = pool_evict(pool, LENT, page);
+    struct pool_done answer = pool_evict(pool, LENT, ONLY, page);
     if (answer.refusal != POOL_ACCEPTED) {
         printf("evict page %d: refused by rule %d: %s\n", page, answer.refusal, reason(answer.refusal));
         return;
@@ -131,7 +134,7 @@ static void relink_page(struct pool_handle parent, size_t slot, struct pool_hand
 
 static void find_page(pool_page_number page)
 {
-    struct pool_found found = pool_find(pool, LENT, page);
+    struct pool_found found = pool_find(pool, LENT, ONLY, page);
     accept(found.refusal);
     if (found.present)
         printf("find page %d: frame %d, %d compared\n", page, found.frame, found.compared);
@@ -157,7 +160,7 @@ static void show_page(struct pool_handle handle)
 
 static void peek_page(pool_page_number page)
 {
-    print_payload("peek", page, pool_peek(pool, LENT, page));
+    print_payload("peek", page, pool_peek(pool, LENT, ONLY, page));
 }
 
 static void print_word(struct pool_handle handle, size_t slot)

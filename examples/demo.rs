@@ -1,7 +1,13 @@
 //! A pool of 4 frames over a store of 80 empty pages: links and fixes a few pages, writes, reads back, locks a page, settles, and
 //! reads the store again through a new pool, where the page is freed. Then tells from its fixes what caches of a few sizes hit.
 //! Prints what it did, as demo.c does.
-use pagepool::{Found, Handle, Named, PageNumber, PagePool, Refusal, Share, Tally, PAGE_SIZE};
+use pagepool::{
+    Found, Handle, Named, PageNumber, PagePool, Refusal, Share, StoreNumber, Stores, Tally,
+    PAGE_SIZE,
+};
+
+/// The only store.
+const ONLY: StoreNumber = StoreNumber(0);
 
 /// The pool with its buffers. Each method makes a call and prints it.
 struct Demo {
@@ -32,12 +38,12 @@ fn text(payload: &[u8]) -> String {
 impl Demo {
     /// Opens the pool, and pins its root.
     fn open(&mut self) -> Result<Handle, Refusal> {
-        self.pool.open()?;
+        self.pool.open(Stores::one(4))?;
         println!(
             "open: {} pages, {} frames",
             self.pool.records.pages, self.pool.records.count
         );
-        let root = self.pool.root()?.handle;
+        let root = self.pool.root(ONLY)?.handle;
         println!("root: page {} in frame {}", root.page, root.frame);
         Ok(root)
     }
@@ -66,7 +72,7 @@ impl Demo {
 
     fn fix(&mut self, parent: Handle, slot: usize) -> Result<Handle, Refusal> {
         let fixed = self.pool.fix(parent, slot)?;
-        let Handle { frame, page } = fixed.handle;
+        let Handle { frame, page, .. } = fixed.handle;
         self.recorded.push(page.0);
         let looks = fixed.looks;
         println!(
@@ -90,7 +96,7 @@ impl Demo {
     }
 
     fn evict(&mut self, page: PageNumber) {
-        match self.pool.evict(page) {
+        match self.pool.evict(ONLY, page) {
             Ok(()) => println!("evict page {page}"),
             Err(refusal) => println!("evict page {page}: {refusal}"),
         }
@@ -111,7 +117,7 @@ impl Demo {
     }
 
     fn find(&self, page: PageNumber) -> Result<(), Refusal> {
-        let Found { frame, compared } = self.pool.find(page)?;
+        let Found { frame, compared } = self.pool.find(ONLY, page)?;
         match frame {
             Some(frame) => println!("find page {page}: frame {frame}, {compared} compared"),
             None => println!("find page {page}: absent, {compared} compared"),
@@ -129,7 +135,7 @@ impl Demo {
     }
 
     fn peek(&self, page: PageNumber) -> Result<(), Refusal> {
-        println!("peek page {page}: {}", text(self.pool.peek(page)?));
+        println!("peek page {page}: {}", text(self.pool.peek(ONLY, page)?));
         Ok(())
     }
 

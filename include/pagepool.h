@@ -5,19 +5,20 @@
  *     cc program.c $(PKG_CONFIG_PATH=PREFIX/lib/pkgconfig pkg-config --cflags --libs pagepool)
  * In this tree, `./archive` writes target/staticlib/libpagepool.a; examples/demo.c is a program that links it.
  *
- * The host owns everything. It keeps the store (N pages of 256 bytes), the frames (F of 256 bytes), the directory (131 bytes) and
- * the pool's records, and hands all four to every call; a call keeps nothing. The records are passed by value: go on with those in
- * the answer. A tally of recorded fixes stands by itself: its calls take no pool.
+ * The host owns everything. It keeps the store (N pages of 256 bytes, or up to four stores of so many, one after another), the
+ * frames (F of 256 bytes), the directory (131 bytes) and the pool's records, and hands all four to every call; a call keeps
+ * nothing. The records are passed by value: go on with those in the answer. A tally of recorded fixes stands by itself: its calls
+ * take no pool.
  *
  * Answers. `refusal` is 0 where the call was accepted, and otherwise the number of the first broken rule (enum pool_refusal).
  * An accepted answer's fields all count. A refused call has changed nothing: the records in its answer are those that it was
  * handed, to go on with, and so are the generator in draw's and the tally in add's; every other field is 0. Open alone takes no
  * records: refused, it answers all-zero ones, and the host goes on with its old ones.
  *
- * Handles. A handle is a frame and the page in it. It is good from the answer of root or fix that gave it until each of the
- * page's pins was taken off by an unfix: as long as the page is pinned it stays in that frame, whatever else is called but
- * open. A stale handle is refused by 3 and never reaches another page; it is good again where its page is pinned in that frame
- * again.
+ * Handles. A handle is a frame and the page in it, by its store and its number there. It is good from the answer of root or fix
+ * that gave it until each of the page's pins was taken off by an unfix: as long as the page is pinned it stays in that frame,
+ * whatever else is called but open. A stale handle is refused by 3 and never reaches another page, of its store or of another; it
+ * is good again where its page is pinned in that frame again.
  *
  * Payloads. Show and peek answer a place in the host's own buffers, to be read there until the next call that takes that
  * buffer without const. A part of frames or store must not be handed to write as its bytes. To copy a payload to another
@@ -25,27 +26,49 @@
  *     uint8_t copy[POOL_PAYLOAD_SIZE];
  *     memcpy(copy, pool_payload(place, frames, store), sizeof copy);
  *
- * Directory. In its 131 bytes find and peek look up the resident pages, each in the chain of its number's remainder by 67. Byte b
- * below 67 holds 1 plus the frame at the head of chain b, byte 67 + f holds 1 plus the frame after f in its chain, and either 0
- * where there is none. Open sets it, whatever it held, with page 0 alone in it. Loading a page puts it at its chain's head, and
- * evicting one takes it out, by evict or by a sweep of fix; the others of a chain keep their order. No other call changes it, and a
- * refused one leaves it byte for byte, open too. Go on with it as it was left. Another length is refused by 1, and by 2 a directory
- * whose chains don't give exactly the resident pages of their remainders, each once in any order, or with another byte that isn't
- * 0: that of a frame which is empty or not below F.
+ * Stores. One set of frames serves T stores, 1 to 4, each a tree of its own below its own page 0. They have N pages each and are
+ * lent one after another as one buffer: page p of store t begins at byte 256 * (t * N + p). Open is told T and a ceiling for each
+ * store, and finds N by the buffer's size; the records keep them, and every call goes by those. A page is named by its store, 0 to
+ * T - 1, and its number there: handles have both, root takes the store, peek, find and evict take both, and what a word names is a
+ * page of the store that the word stands in. Two stores can have the same page numbers, and neither knows of the other's. F is at
+ * least T + 1, since frame t holds the root of store t for as long as the pool is open.
+ *
+ * A ceiling, 1 to F, is the most pages of its store that are resident at once, the root among them. A store below its ceiling loads
+ * a page into an empty frame, and where there is none a sweep goes over the pages of all stores, so that it may evict a
+ * neighbour's: which is as before nevertheless, its words, its payload and what is pinned of it, and comes in again when it is
+ * fixed. A store at its ceiling makes room by a sweep of its own pages alone, even where frames are empty: a frame that is empty, a
+ * neighbour's or a root's costs a look and stays as it is. So ceilings that come to F in all keep frames for each store, and
+ * ceilings of F leave the frames to whoever fixes. A store whose ceiling is 1 holds its root alone.
+ *
+ * A load that finds no frame is refused by one of two numbers. By 15 where its store is below its ceiling: no frame is empty, and
+ * each page of all stores but the roots is pinned or has a resident child. By 27 where its store is at its ceiling: each of its own
+ * resident pages but its root is pinned or has a resident child, whatever the neighbours and the empty frames are. With one store
+ * 27 is answered and never 15: where no frame is empty, one store is at its ceiling.
+ *
+ * A program with one store opens with T 1 and ceilings {F, 0, 0, 0}, and names store 0 throughout.
+ *
+ * Directory. In its 131 bytes find and peek look up the resident pages of all stores, each in the chain of its number's remainder
+ * by 67. Byte b below 67 holds 1 plus the frame at the head of chain b, byte 67 + f holds 1 plus the frame after f in its chain,
+ * and either 0 where there is none. Open sets it, whatever it held, with the roots alone in it, entered from store 0 on. Loading a
+ * page puts it at its chain's head, and evicting one takes it out, by evict or by a sweep of fix; the others of a chain keep their
+ * order. No other call changes it, and a refused one leaves it byte for byte, open too. Go on with it as it was left. Another
+ * length is refused by 1, and by 2 a directory whose chains don't give exactly the resident pages of their remainders, each once in
+ * any order, or with another byte that isn't 0: that of a frame which is empty or not below F.
  *
  * Locked pages. A word can mark the page that it names as locked; link puts the mark there, and word tells it. Write, link and
  * unlink in a locked page are refused by 26, so that its payload and its words stay as they are while the marked word stands: it
  * is never dirty, and the store holds its bytes. It is fixed, shown, loaded and evicted as any other, and so are the pages that
- * it names, which are locked only where their own words are marked. The root is never locked, since no word names it. Loading,
+ * it names, which are locked only where their own words are marked. A root is never locked, since no word names it. Loading,
  * evicting, settling and sweeps keep each mark. To lock a page that is linked without the mark, evict it if it is resident (as
  * evict asks, without pins and with the pages that it names out of their frames), unlink the word that names it, and link it again
  * with the mark; to free it, the same without. Both change the page that has the word, which mustn't be locked itself: else free
  * that one first. The mark gets to the store with that page: settle before open, as after any change.
  *
- * Arguments. A call takes any lengths, records, handle, slot, offset, page number and tally, and refuses what it can't use. Of
- * the pointers it asks what C asks: each has as many bytes behind it as its size says, or elements as its length says, and a
- * buffer that is not const overlaps no other. NULL with a length of 0 is fine throughout: frames, store, directory, counters, hits
- * and recordings of no length are refused by 1, and a write of no bytes changes nothing. NULL with any other length is not.
+ * Arguments. A call takes any lengths, records, handle, slot, offset, store number, page number, T, ceilings and tally, and refuses
+ * what it can't use. Of the pointers it asks what C asks: each has as many bytes behind it as its size says, or elements as its
+ * length says, and a buffer that is not const overlaps no other. NULL with a length of 0 is fine throughout: frames, store,
+ * directory, counters, hits and recordings of no length are refused by 1, and a write of no bytes changes nothing. NULL with any
+ * other length is not.
  */
 #ifndef PAGEPOOL_H
 #define PAGEPOOL_H
@@ -64,7 +87,7 @@ extern "C" {
  * Raised by each new call and by each change of a signature, a struct or an answer: MINOR where programs that were written and
  * compiled for the version before go on working with the new archive, otherwise MAJOR.
  */
-#define PAGEPOOL_VERSION_MAJOR 5
+#define PAGEPOOL_VERSION_MAJOR 6
 #define PAGEPOOL_VERSION_MINOR 0
 #define PAGEPOOL_VERSION (1000 * PAGEPOOL_VERSION_MAJOR + PAGEPOOL_VERSION_MINOR)
 
@@ -83,6 +106,9 @@ extern "C" {
 #define POOL_LOCK_BIT 0x40000000u
 /* N is at most this, and at least 1. */
 #define POOL_MOST_PAGES 4096
+/* T is at most this, and at least 1. */
+#define POOL_MOST_STORES 4
+/* F, which is at least T + 1 too. */
 #define POOL_LEAST_FRAMES 2
 #define POOL_MOST_FRAMES 64
 #define POOL_MAX_USAGE 3
@@ -96,15 +122,17 @@ extern "C" {
 #define POOL_MOST_REFERENCES 4096
 #define POOL_MOST_RECORDINGS 65535
 
-/* ---- refusals, in checking order: 26 is tested after 5, 9 before 8, and 20 to 22 after 11 */
+/* ---- refusals, in checking order: 28 is tested after 2, 26 after 5, 9 before 8, 20 to 22 after 11, and 27 beside 15 */
 
 enum pool_refusal {
     POOL_ACCEPTED = 0,
-    /* Frames, store, directory, counters, hits or recording have a wrong length, or not that of opening, or the tally is full. */
+    /* A wrong length (frames, store, directory, counters, hits, recording), T or a ceiling out of its range, or a full tally. */
     POOL_WRONG_LENGTH = 1,
-    /* Records, frames and directory don't agree, or a tally's references with its recordings or its counters. */
+    /* Records, frames, directory and ceilings don't agree, or a tally's references with its recordings or its counters. */
     POOL_DISAGREE = 2,
-    /* The handle's frame isn't below F or doesn't hold its page, or that has no pins. */
+    /* The store number isn't below T. */
+    POOL_BAD_STORE = 28,
+    /* The handle's frame isn't below F or doesn't hold its page of its store, or that has no pins. */
     POOL_BAD_HANDLE = 3,
     /* The slot is above 15. */
     POOL_BAD_SLOT = 4,
@@ -116,7 +144,7 @@ enum pool_refusal {
     POOL_BAD_PAGE = 6,
     /* Fix or unlink meets a word of 0. */
     POOL_EMPTY_SLOT = 7,
-    /* Link's page is named already, by a word of any page. */
+    /* Link's page is named already, by a word of any page of its store. */
     POOL_ALREADY_NAMED = 9,
     /* Link meets a word that isn't 0. */
     POOL_FULL_SLOT = 8,
@@ -134,15 +162,18 @@ enum pool_refusal {
     POOL_TOO_MANY_PINS = 13,
     /* The stored page to be loaded has words that it can't have: only after the store was altered from outside. */
     POOL_BAD_STORED_PAGE = 14,
-    /* No frame is empty, and a sweep could take none. */
+    /* The store is below its ceiling, no frame is empty, and a sweep could take none. */
     POOL_NO_FRAME = 15,
-    /* Open's store isn't sound: a word names no page below N, or a number stands in two words. */
+    /* The store is at its ceiling, and has no page of its own that a sweep could take. */
+    POOL_AT_CEILING = 27,
+    /* A store of open isn't sound: a word names no page below N, or a number stands in two words of it. */
     POOL_UNSOUND_STORE = 16
 };
 
 /* ---- records */
 
 typedef uint8_t pool_frame_index;
+typedef uint8_t pool_store_number;
 typedef uint16_t pool_page_number;
 
 /*
@@ -155,29 +186,40 @@ struct pool_record {
     uint8_t dirty;
     /*
      * The usage count of the clock sweep, 0 to 3. Up to 3 each pin raises it by one, and so does each look of a sweep that
-     * passes over the page while it is pinned, unless it is the root; a look at a page that evict would accept lowers it by
-     * one, and at 0 takes the page.
+     * passes over the page while it is pinned, unless it is a root; a look at a page that evict would accept lowers it by
+     * one, and at 0 takes the page. A sweep for a store at its ceiling leaves the usages of all other stores.
      */
     uint8_t usage;
-    /* The slot of the parent's word that names the page, and the parent's frame. */
+    /* The slot of the parent's word that names the page, and the parent's frame. Both are 0 for a root. */
     uint8_t slot;
     pool_frame_index parent;
+    /* The store that the page is of, and its parent too. */
+    pool_store_number store;
     uint16_t pins;
     pool_page_number page;
 };
 
-/* The pool's records: one for each of up to 64 frames, F, N and the clock hand. */
+/* The pool's records: one for each of up to 64 frames, F, N, T, the stores' ceilings and the clock hand. */
 struct pool {
     struct pool_record records[POOL_MOST_FRAMES];
-    /* F and N. */
+    /* F, N and T. */
     uint16_t count;
     uint16_t pages;
+    uint8_t stores;
+    /* The most resident pages of each store, its root included; 0 from T on. */
+    uint8_t ceilings[POOL_MOST_STORES];
     pool_frame_index hand;
 };
 
-/* A pinned page: its frame and its number. */
+/* The ceilings as open takes them: 1 to F for each of the T stores, and 0 for the others. */
+struct pool_ceilings {
+    uint8_t most[POOL_MOST_STORES];
+};
+
+/* A pinned page: its frame, its store and its number there. */
 struct pool_handle {
     pool_frame_index frame;
+    pool_store_number store;
     pool_page_number page;
 };
 
@@ -277,53 +319,60 @@ static inline const uint8_t *pool_payload(struct pool_place place, const uint8_t
 /* ---- the calls */
 
 /*
- * Begins with a store as it is: page 0 is copied to frame 0, not pinned, and every other frame is empty. F and N are the sizes
- * over 256. Gives the records, and sets the directory over what it held. Whatever earlier records of this store had not settled
- * is forgotten, and their handles are stale: settle first. Refused: 1, 16.
+ * Begins with the stores as they are: page 0 of store t is copied to frame t, not pinned, and every other frame is empty. F is the
+ * frames' size over 256, N the store's over 256 * stores. Gives the records, and sets the directory over what it held. Whatever
+ * earlier records of these stores had not settled is forgotten, and their handles are stale: settle first. Refused: 1, 16.
+ *
+ * By 1 where `stores`, T, isn't 1 to 4 or doesn't divide the store into whole pages, where F isn't T + 1 to 64 or N not 1 to 4,096,
+ * where the ceiling of a store isn't 1 to F, and where one from T on isn't 0. T and the ceilings can be others at each open. By 16
+ * where any of the stores isn't sound; a number may stand in two of them.
  */
 struct pool_done pool_open(uint8_t *frames, size_t frames_size, const uint8_t *store, size_t store_size, uint8_t *directory,
-                           size_t directory_size);
+                           size_t directory_size, uint8_t stores, struct pool_ceilings ceilings);
 
-/* Pins page 0 and gives its handle. Refused: 1, 2, 13. */
+/* Pins page 0 of a store and gives its handle. Refused: 1, 2, 28, 13. */
 struct pool_fixed pool_root(struct pool pool, const uint8_t *frames, size_t frames_size, const uint8_t *store,
-                            size_t store_size, const uint8_t *directory, size_t directory_size);
+                            size_t store_size, const uint8_t *directory, size_t directory_size, pool_store_number of_store);
 
 /*
  * Pins the page that a slot of the handle's page names, and gives its handle. A page that isn't resident is loaded first,
- * into an empty frame or one that a sweep takes, whose page is evicted. Refused: 1, 2, 3, 4, 7; 13 if it is resident, 14 and
- * 15 if not.
+ * into an empty frame or one that a sweep takes, whose page is evicted. Refused: 1, 2, 28, 3, 4, 7; 13 if it is resident, 14, 15
+ * and 27 if not.
  *
  * A sweep takes a page that evict would accept: one of least usage, of several the first from the hand on. Pinned pages that it
- * passes over, the root excepted, gain usage by each look, to 3 at most, so that a page which was held is still warm once its
- * pins are gone. A fix that makes no sweep leaves the usage of every other page as it was.
+ * passes over, the roots excepted, gain usage by each look, to 3 at most, so that a page which was held is still warm once its pins
+ * are gone. A fix that makes no sweep leaves the usage of every other page as it was. Where the store is at its ceiling the sweep
+ * takes, warms and cools its own pages alone. A sweep takes at most 4 * F looks, whose number is in the answer.
  *
- * After 15 every frame holds the root, a pinned page or a page with a resident child. Unfix a page that has none until its
- * pins are gone, and fix again; before that, evict would be refused for every resident page too, by 20, 21 or 22. A host that
- * keeps so many pages pinned at once needs more frames: settle, and open with a larger F.
+ * After 15 every frame holds a root, a pinned page or a page with a resident child. Unfix a page that has none until its pins are
+ * gone, whichever store it is of, and fix again; before that, evict would be refused for every resident page too, by 20, 21 or 22.
+ * After 27 the same is so of the store's own pages: unfix one of these, or unfix and evict one. A host that keeps so many pages
+ * pinned at once needs more frames, or a higher ceiling for that store: settle, and open with a larger F, or with other ceilings.
  */
 struct pool_fixed pool_fix(struct pool pool, uint8_t *frames, size_t frames_size, uint8_t *store, size_t store_size,
                            uint8_t *directory, size_t directory_size, struct pool_handle handle, size_t slot);
 
-/* Takes one pin off the handle's page. Refused: 1, 2, 3. */
+/* Takes one pin off the handle's page. Refused: 1, 2, 28, 3. */
 struct pool_done pool_unfix(struct pool pool, const uint8_t *frames, size_t frames_size, const uint8_t *store,
                             size_t store_size, const uint8_t *directory, size_t directory_size, struct pool_handle handle);
 
-/* Gives the place of the payload of the handle's page. Refused: 1, 2, 3. */
+/* Gives the place of the payload of the handle's page. Refused: 1, 2, 28, 3. */
 struct pool_place pool_show(struct pool pool, const uint8_t *frames, size_t frames_size, const uint8_t *store,
                             size_t store_size, const uint8_t *directory, size_t directory_size, struct pool_handle handle);
 
-/* Gives the place of the payload of a page: in its frame if it is resident, otherwise in the store. Refused: 1, 2, 6. */
+/* Gives the place of the payload of a page: in its frame if it is resident, otherwise in its store. Refused: 1, 2, 28, 6. */
 struct pool_place pool_peek(struct pool pool, const uint8_t *frames, size_t frames_size, const uint8_t *store,
-                            size_t store_size, const uint8_t *directory, size_t directory_size, pool_page_number page);
+                            size_t store_size, const uint8_t *directory, size_t directory_size, pool_store_number of_store,
+                            pool_page_number page);
 
-/* Gives the page number in a slot of the handle's page, 0 for none, and whether that page is locked. Refused: 1, 2, 3, 4. */
+/* Gives the page number in a slot of the handle's page, 0 for none, and whether that page is locked. Refused: 1, 2, 28, 3, 4. */
 struct pool_named pool_word(struct pool pool, const uint8_t *frames, size_t frames_size, const uint8_t *store,
                             size_t store_size, const uint8_t *directory, size_t directory_size, struct pool_handle handle,
                             size_t slot);
 
 /*
  * Puts bytes at an offset of the payload of the handle's page, which is then dirty unless there are none. In a locked page a write
- * of no bytes is refused too. Refused: 1, 2, 3, 5, 26.
+ * of no bytes is refused too. Refused: 1, 2, 28, 3, 5, 26.
  */
 struct pool_done pool_write(struct pool pool, uint8_t *frames, size_t frames_size, const uint8_t *store, size_t store_size,
                             const uint8_t *directory, size_t directory_size, struct pool_handle handle, size_t offset,
@@ -331,10 +380,11 @@ struct pool_done pool_write(struct pool pool, uint8_t *frames, size_t frames_siz
 
 /*
  * Stores a page number in an empty slot of the handle's page, which is then dirty; with `locked`, the word marks the page of that
- * number as locked. Refused: 1, 2, 3, 4, 26, 6, 9, 8.
+ * number, of the handle's store, as locked. Refused: 1, 2, 28, 3, 4, 26, 6, 9, 8.
  *
  * A page that is named already is refused by 9 whether the slot is taken or not, also where that very slot names it. So after 8
- * the page can go into an empty slot, and after 9 into none until the word that names it is unlinked.
+ * the page can go into an empty slot, and after 9 into none until the word that names it is unlinked. Words of other stores name
+ * other pages: they don't count.
  *
  * A linked page gets the mark, or loses it, by three calls: evict it if it is resident, unlink it, and link it anew. 26 is about
  * the page that it is linked in, whether the mark is put or not.
@@ -343,34 +393,35 @@ struct pool_done pool_link(struct pool pool, uint8_t *frames, size_t frames_size
                            const uint8_t *directory, size_t directory_size, struct pool_handle handle, size_t slot,
                            pool_page_number page, bool locked);
 
-/* Clears a slot of the handle's page, which is then dirty. A mark there goes with it. Refused: 1, 2, 3, 4, 26, 7, 10. */
+/* Clears a slot of the handle's page, which is then dirty. A mark there goes with it. Refused: 1, 2, 28, 3, 4, 26, 7, 10. */
 struct pool_done pool_unlink(struct pool pool, uint8_t *frames, size_t frames_size, const uint8_t *store, size_t store_size,
                              const uint8_t *directory, size_t directory_size, struct pool_handle handle, size_t slot);
 
 /*
- * Takes a page out of its frame, to the store if it is dirty. Refused: 1, 2, 6, 11, 20, 21, 22.
+ * Takes a page out of its frame, to its store if it is dirty. Refused: 1, 2, 28, 6, 11, 20, 21, 22.
  *
- * A resident page that has to stay is refused by the first of three reasons that holds. After 20 nothing helps: the root stays,
+ * A resident page that has to stay is refused by the first of three reasons that holds. After 20 nothing helps: a root stays,
  * pinned or not. After 21 unfix the page until its pins are gone; one that names resident pages too is refused by 22 then. After
  * 22 first evict the resident pages that it names: the used records whose parent is its frame have their numbers. Where one of
  * them is refused by 21 or 22 in turn, do there what is said here.
  */
 struct pool_done pool_evict(struct pool pool, uint8_t *frames, size_t frames_size, uint8_t *store, size_t store_size,
-                            uint8_t *directory, size_t directory_size, pool_page_number page);
+                            uint8_t *directory, size_t directory_size, pool_store_number of_store, pool_page_number page);
 
-/* Writes each dirty page to the store, and marks it clean. Refused: 1, 2. */
+/* Writes each dirty page to its store, in all stores, and marks it clean. Refused: 1, 2. */
 struct pool_done pool_settle(struct pool pool, const uint8_t *frames, size_t frames_size, uint8_t *store, size_t store_size,
                              const uint8_t *directory, size_t directory_size);
 
 /*
- * Tells whether a page is resident, in which frame, and how many entries of its chain were compared. Refused: 1, 2, 6.
+ * Tells whether a page is resident, in which frame, and how many entries of its chain were compared. Refused: 1, 2, 28, 6.
  *
  * It goes along the page's chain in the directory from the head on, and ends at the page's entry. A page that is absent takes the
  * whole chain, as the last one in it does: `present` tells them apart. So it never takes more than there are resident pages with
- * the page's remainder by 67.
+ * the page's remainder by 67, of all stores: their entries share the chains, and each that is compared counts.
  */
 struct pool_found pool_find(struct pool pool, const uint8_t *frames, size_t frames_size, const uint8_t *store,
-                            size_t store_size, const uint8_t *directory, size_t directory_size, pool_page_number page);
+                            size_t store_size, const uint8_t *directory, size_t directory_size, pool_store_number of_store,
+                            pool_page_number page);
 
 /*
  * ---- a workload that anyone can repeat
@@ -383,7 +434,8 @@ struct pool_found pool_find(struct pool pool, const uint8_t *frames, size_t fram
  *     generator = drawn.generator;
  * and then the call of drawn.entry. The same seed, F, N and store give the same records and answers on every machine. Kept one
  * after the other the records are a recording; ./listing gives the same answers for it where the pool is the listing's, 4 frames
- * and 16 pages of zeros.
+ * and one store of 16 pages of zeros, with a ceiling of 4. A record names no store: on a pool of several, which one its call is
+ * made in is for the host to say, in the same way on every machine.
  */
 
 /* Gives the generator of a seed. A seed of 0 is read as 1. */
@@ -469,28 +521,35 @@ POOL_OFFSET(pool_record, dirty, 1);
 POOL_OFFSET(pool_record, usage, 2);
 POOL_OFFSET(pool_record, slot, 3);
 POOL_OFFSET(pool_record, parent, 4);
+POOL_OFFSET(pool_record, store, 5);
 POOL_OFFSET(pool_record, pins, 6);
 POOL_OFFSET(pool_record, page, 8);
 
-POOL_SIZE(pool, 646);
+POOL_SIZE(pool, 650);
 POOL_OFFSET(pool, records, 0);
 POOL_OFFSET(pool, count, 640);
 POOL_OFFSET(pool, pages, 642);
-POOL_OFFSET(pool, hand, 644);
+POOL_OFFSET(pool, stores, 644);
+POOL_OFFSET(pool, ceilings, 645);
+POOL_OFFSET(pool, hand, 649);
+
+POOL_SIZE(pool_ceilings, 4);
+POOL_OFFSET(pool_ceilings, most, 0);
 
 POOL_SIZE(pool_handle, 4);
 POOL_OFFSET(pool_handle, frame, 0);
+POOL_OFFSET(pool_handle, store, 1);
 POOL_OFFSET(pool_handle, page, 2);
 
-POOL_SIZE(pool_done, 648);
+POOL_SIZE(pool_done, 652);
 POOL_OFFSET(pool_done, pool, 0);
-POOL_OFFSET(pool_done, refusal, 646);
+POOL_OFFSET(pool_done, refusal, 650);
 
-POOL_SIZE(pool_fixed, 654);
+POOL_SIZE(pool_fixed, 658);
 POOL_OFFSET(pool_fixed, pool, 0);
-POOL_OFFSET(pool_fixed, refusal, 646);
-POOL_OFFSET(pool_fixed, handle, 648);
-POOL_OFFSET(pool_fixed, looks, 652);
+POOL_OFFSET(pool_fixed, refusal, 650);
+POOL_OFFSET(pool_fixed, handle, 652);
+POOL_OFFSET(pool_fixed, looks, 656);
 
 POOL_SIZE(pool_named, 4);
 POOL_OFFSET(pool_named, refusal, 0);

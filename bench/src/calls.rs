@@ -1,11 +1,11 @@
 //! The calls that are timed, each with the state that it is made on.
 use crate::boundary;
 use crate::timing::{repeat, Variant};
-use pagepool::{Entry, Generator, PageNumber, Refusal, MAX_PINS, MAX_USAGE, PAGE_SIZE};
+use pagepool::{Entry, FrameRecord, Generator, Refusal, Stores, MAX_PINS, MAX_USAGE, PAGE_SIZE};
 use pool_bench::baseline;
 use pool_bench::shapes::{
-    absent, absent_from_chain, last_named, last_of_chain, last_resident, pinned, unnamed, State, EMPTY_SLOT,
-    ROOT,
+    absent, absent_from_chain, last_named, last_of_chain, last_resident, last_store, pinned, present,
+    put_records, unnamed, Page, State, EMPTY_SLOT, ROOT,
 };
 use std::cell::Cell;
 use std::hint::black_box;
@@ -24,9 +24,13 @@ pub fn accept<T>(answer: Result<T, Refusal>) {
     assert!(black_box(answer).is_ok());
 }
 
-/// A link's refusal by 8 or 9: an archive that tests them in the other order can be timed too.
-fn refuse_link<T>(answer: Result<T, Refusal>) {
-    assert!(matches!(black_box(answer), Err(Refusal::FullSlot | Refusal::AlreadyNamed)));
+/// A refusal of a link, since its slot is taken, and one since its page is named.
+fn refuse_slot<T>(answer: Result<T, Refusal>) {
+    assert!(matches!(black_box(answer), Err(Refusal::FullSlot)));
+}
+
+fn refuse_named<T>(answer: Result<T, Refusal>) {
+    assert!(matches!(black_box(answer), Err(Refusal::AlreadyNamed)));
 }
 
 /// A refusal of an edit, since its page is locked.
@@ -37,6 +41,11 @@ fn refuse_edit<T>(answer: Result<T, Refusal>) {
 /// A refusal of an evict, since its page names a resident one.
 fn refuse_parent<T>(answer: Result<T, Refusal>) {
     assert!(matches!(black_box(answer), Err(Refusal::IsParent)));
+}
+
+/// A refusal of a load at the ceiling: by 15 before request A.11.
+fn refuse_load<T>(answer: Result<T, Refusal>) {
+    assert!(matches!(black_box(answer), Err(Refusal::AtCeiling | Refusal::NoFrame)));
 }
 
 /// The four variants of a call with what it must answer, what copies its records and what undoes it.
@@ -112,7 +121,7 @@ fn undo(before: &State, after: &State) -> impl Fn(&mut State) + Clone {
     let bytes: Vec<(usize, u8)> =
         bytes.filter(|(_, (old, new))| old != new).map(|(at, (old, _))| (at, *old)).collect();
     move |state| {
-        state.records = records;
+        put_records(state, &records);
         for (start, page) in &pages {
             state.frames[*start..*start + PAGE_SIZE].copy_from_slice(page);
         }
@@ -131,7 +140,8 @@ pub fn dirtied(state: &State) -> State {
 
 /// A page that is resident.
 pub fn fix_hit(state: &State) -> (State, Variants) {
-    repeated!(state.clone(), boundary::in_and_out, fix(ROOT, 1))
+    let (page, slot) = present(state);
+    repeated!(state.clone(), boundary::in_and_out, fix(page, slot))
 }
 
 /// A page that isn't resident. In a shape with full frames every open one has usage 1, so that the sweep goes round once.
@@ -166,6 +176,41 @@ pub fn fix_one_open(state: &State) -> (State, Variants) {
     fix_clean(&state)
 }
 
+/// The state with ceilings that come to F in all, so that each store is at its own. In a shape with full frames alone.
+fn at_ceilings(state: &State) -> State {
+    let (mut state, stores) = (state.clone(), state.records.stores);
+    state.records.ceilings = state.records.ceilings.map(|ceiling| ceiling / stores);
+    state
+}
+
+/// A load of a store at its ceiling, in full frames: the sweep passes over the neighbours' pages. In `Four` alone.
+pub fn fix_at_ceiling(state: &State) -> (State, Variants) {
+    fix_clean(&at_ceilings(state))
+}
+
+/// The same with the neighbours' frames empty, but for their roots'.
+pub fn fix_at_ceiling_alone(state: &State) -> (State, Variants) {
+    let (mut state, own) = (at_ceilings(state), last_store(state));
+    let State { records, frames, store, directory, .. } = &mut state;
+    for frame in (usize::from(records.stores)..usize::from(records.count)).rev() {
+        let FrameRecord { store: of_store, page, .. } = records.records[frame];
+        if of_store != own {
+            records.records[frame].pins = 0;
+            accept(baseline::evict(records, frames, store, directory, of_store, page));
+        }
+    }
+    fix_clean(&state)
+}
+
+/// A load that is denied, since the store is at its ceiling, and each page of it is pinned.
+pub fn fix_denied(state: &State) -> (State, Variants) {
+    let (mut state, own) = (at_ceilings(state), last_store(state));
+    let is_own = |record: &&mut FrameRecord| record.is_used() && record.store == own;
+    state.records.records.iter_mut().filter(is_own).for_each(|record| record.pins = 1);
+    let (page, slot) = absent(&state);
+    refused!(refuse_load, state, fix(page, slot))
+}
+
 pub fn unfix(state: &State) -> (State, Variants) {
     let (mut state, page) = (state.clone(), pinned(state));
     state.records.record_mut(page.frame).pins = MAX_PINS;
@@ -173,22 +218,23 @@ pub fn unfix(state: &State) -> (State, Variants) {
 }
 
 pub fn root(state: &State) -> (State, Variants) {
-    repeated!(state.clone(), boundary::in_and_out, root())
+    let store = last_store(state);
+    repeated!(state.clone(), boundary::in_and_out, root(store))
 }
 
-fn find(state: &State, page: PageNumber) -> (State, Variants) {
-    repeated!(state.clone(), boundary::only_in, find(page))
+fn find(state: &State, (store, page): Page) -> (State, Variants) {
+    repeated!(state.clone(), boundary::only_in, find(store, page))
 }
 
 /// The root, in frame 0.
 pub fn find_first(state: &State) -> (State, Variants) {
-    find(state, ROOT.page)
+    find(state, (ROOT.store, ROOT.page))
 }
 
 /// The page in frame F / 2. In a shape with full frames alone.
 pub fn find_middle(state: &State) -> (State, Variants) {
-    let middle = usize::from(state.records.count) / 2;
-    find(state, state.records.records[middle].page)
+    let FrameRecord { store, page, .. } = state.records.records[usize::from(state.records.count) / 2];
+    find(state, (store, page))
 }
 
 pub fn find_last(state: &State) -> (State, Variants) {
@@ -197,7 +243,7 @@ pub fn find_last(state: &State) -> (State, Variants) {
 
 /// A page that isn't resident.
 pub fn find_absent(state: &State) -> (State, Variants) {
-    find(state, unnamed(state))
+    find(state, (last_store(state), unnamed(state)))
 }
 
 /// A resident page, the last of a longest chain.
@@ -212,14 +258,14 @@ pub fn find_absent_from_chain(state: &State) -> (State, Variants) {
 
 /// A page that isn't resident.
 pub fn peek(state: &State) -> (State, Variants) {
-    let page = unnamed(state);
-    repeated!(state.clone(), boundary::only_in, peek(page))
+    let (store, page) = (last_store(state), unnamed(state));
+    repeated!(state.clone(), boundary::only_in, peek(store, page))
 }
 
 /// The page in the last frame.
 pub fn peek_resident(state: &State) -> (State, Variants) {
-    let page = last_resident(state);
-    repeated!(state.clone(), boundary::only_in, peek(page))
+    let (store, page) = last_resident(state);
+    repeated!(state.clone(), boundary::only_in, peek(store, page))
 }
 
 pub fn show(state: &State) -> (State, Variants) {
@@ -228,7 +274,8 @@ pub fn show(state: &State) -> (State, Variants) {
 }
 
 pub fn word(state: &State) -> (State, Variants) {
-    repeated!(state.clone(), boundary::only_in, word(ROOT, 1))
+    let (page, slot) = present(state);
+    repeated!(state.clone(), boundary::only_in, word(page, slot))
 }
 
 pub fn write(state: &State) -> (State, Variants) {
@@ -242,7 +289,6 @@ pub fn write_locked(state: &State) -> (State, Variants) {
     refused!(refuse_edit, state.clone(), write(page, 0, &[7; 8]))
 }
 
-/// An archive from before request A.8 can be timed too: the mark is the last argument, and it doesn't look for it.
 pub fn link(state: &State) -> (State, Variants) {
     let (page, named) = (pinned(state), unnamed(state));
     undone!(state.clone(), link(page, EMPTY_SLOT, named, false))
@@ -263,13 +309,13 @@ pub fn link_locked(state: &State) -> (State, Variants) {
 /// A page that no word names, into a slot that is taken: rule 9's pass goes over the whole store before 8 is answered.
 pub fn link_taken(state: &State) -> (State, Variants) {
     let page = unnamed(state);
-    refused!(refuse_link, state.clone(), link(ROOT, 0, page, false))
+    refused!(refuse_slot, state.clone(), link(ROOT, 0, page, false))
 }
 
 /// A page that is named, into a slot that another page has: the pass ends at the stored page that names it.
 pub fn link_named(state: &State) -> (State, Variants) {
     let page = last_named(state);
-    refused!(refuse_link, state.clone(), link(ROOT, 0, page, false))
+    refused!(refuse_named, state.clone(), link(ROOT, 0, page, false))
 }
 
 pub fn unlink(state: &State) -> (State, Variants) {
@@ -284,22 +330,22 @@ pub fn unlink_locked(state: &State) -> (State, Variants) {
 }
 
 pub fn evict_dirty(state: &State) -> (State, Variants) {
-    let page = last_resident(state);
-    undone!(dirtied(state), evict(page))
+    let (store, page) = last_resident(state);
+    undone!(dirtied(state), evict(store, page))
 }
 
 /// The page in frame 1 without its pin, and with the page that was left out below it: refused once all its words were looked at.
 /// In `Full` alone.
 pub fn evict_parent(state: &State) -> (State, Variants) {
     let (mut state, (parent, slot)) = (state.clone(), absent(state));
-    let State { records, frames, store, directory } = &mut state;
+    let State { records, frames, store, directory, .. } = &mut state;
     let child =
         baseline::fix(records, frames, store, directory, parent, slot).expect("a frame is open").handle;
     for handle in [child, parent] {
         baseline::unfix(records, frames, store, directory, handle).expect("it was pinned");
     }
-    let page = parent.page;
-    refused!(refuse_parent, state, evict(page))
+    let (store, page) = (parent.store, parent.page);
+    refused!(refuse_parent, state, evict(store, page))
 }
 
 pub fn settle_dirty(state: &State) -> (State, Variants) {
@@ -307,7 +353,8 @@ pub fn settle_dirty(state: &State) -> (State, Variants) {
 }
 
 pub fn open(state: &State) -> (State, Variants) {
-    repeated!(state.clone(), boundary::only_out, open())
+    let stores = Stores { count: state.records.stores, ceilings: state.records.ceilings };
+    repeated!(state.clone(), boundary::only_out, open(stores))
 }
 
 /// Draws by a generator of its own that goes along, so that the records differ.

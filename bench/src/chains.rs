@@ -1,21 +1,20 @@
 //! Forms of rule 2's test of the directory, alone, all in safe Rust: that of the library and the baseline, and others that were
 //! tried against it. Each is lent records that agree with their frames, and a directory of any bytes.
-use crate::baseline::directory::{agrees, gives, Directory, Pages, NOWHERE};
+use crate::baseline::directory::{agrees, gives, Directory, NOWHERE};
+use crate::baseline::keys::Keys;
 use pagepool::{FrameRecord, Pool, BUCKETS, MOST_FRAMES};
 
-/// What is tested: the records of the F frames, the page in each of 64, 0 for none, as rule 2's other tests leave it, and the
-/// bytes.
-#[derive(Clone)]
+/// What is tested: the records of the F frames, the page in each of 64, as rule 2's other tests leave it, and the bytes.
 pub struct Lent {
     records: Vec<FrameRecord>,
-    pages: Pages,
+    keys: Keys,
     directory: Directory,
 }
 
 impl Lent {
     pub fn new(pool: &Pool, directory: Directory) -> Lent {
         let records = pool.records[..usize::from(pool.count)].to_vec();
-        Lent { records, pages: pool.records.map(|record| record.page.0), directory }
+        Lent { records, keys: Keys::of(&pool.records), directory }
     }
 }
 
@@ -39,7 +38,7 @@ fn link_of(frame: usize) -> usize {
 
 #[inline(never)]
 fn by_rows(lent: &Lent) -> bool {
-    agrees(&lent.pages, &lent.directory)
+    agrees(&lent.keys, &lent.directory)
 }
 
 #[inline(never)]

@@ -74,8 +74,8 @@ const PARTS_HEAD: &str = "\
 |---|---|--:|--:|--:|--:|--:|
 ";
 
-/// What rows take more than others on the same state, and what a call takes that does little but rules 1 and 2: where A is from
-/// before request A.3, it takes the directory's test more in B. None where a program has no such row.
+/// What rows take more than others on the same state, and what a call takes that does little but rules 1 and 2. None where a program
+/// has no such row.
 fn parts(rounds: &[Vec<Vec<Round>>; 2]) -> String {
     let time = |side: usize, label: &str, state: &str| {
         let times = of_row(&rounds[side], &format!("{label} | {state}"));

@@ -13,7 +13,9 @@ mod tallies;
 mod timing;
 
 use asked::{once, Asked};
+use pool_bench::shapes::Shape;
 use report::Part;
+use rows::{OF_ONE_STORE, OF_SEVERAL_STORES};
 use std::path::Path;
 use std::process::ExitCode;
 use std::{env, fs, io};
@@ -27,7 +29,7 @@ const DOCS: &str = concat!(env!("CARGO_MANIFEST_DIR"), "/../docs");
 const USAGE: &str = "\
 usage: pool-bench [CALL]                   print the tables, or the rows of one call
        pool-bench --forms                  print the forms of counting depths, and of the directory's test, side by side
-       pool-bench --write [PART]           put them into docs/, or one part: pool, tally or forms
+       pool-bench --write [PART]           put them into docs/, or one part: pool, stores, tally or forms
        pool-bench --check FOLDER           put them into another folder, after one pass, and print nothing
        pool-bench --figures [CALL]..       print a round of a comparison
        pool-bench --compare A B [CALL]..   print the table of two programs; -CALL leaves rows out
@@ -73,7 +75,8 @@ fn part_of(name: &str) -> Option<Part> {
 
 /// How rows begin, all of them.
 fn labels() -> impl Iterator<Item = &'static str> {
-    rows::labels().chain(tallies::labels())
+    let pool = [&OF_ONE_STORE[..], &OF_SEVERAL_STORES].into_iter().flat_map(rows::labels);
+    pool.chain(tallies::labels())
 }
 
 /// What is printed of a part, and its plot, by the file's name.
@@ -86,9 +89,13 @@ impl Part {
     fn measured(self, asked: &Asked, passes: u32) -> Measured {
         match self {
             Part::Pool => {
-                let figures = rows::measured(asked, passes);
-                let text = report::text(&figures, &stack::measured());
+                let figures = rows::measured(&OF_ONE_STORE, asked, passes);
+                let text = report::text(&figures, &stack::measured(Shape::Full));
                 Measured { text, plot: Some(("performance.svg", plot::of_pool(&figures))) }
+            }
+            Part::Stores => {
+                let figures = rows::measured(&OF_SEVERAL_STORES, asked, passes);
+                Measured { text: report::stores::text(figures, &stack::measured(Shape::Four)), plot: None }
             }
             Part::Tally => {
                 let figures = tallies::measured(asked, passes);
@@ -107,14 +114,17 @@ impl Part {
 /// The tables that have rows which are asked for.
 fn tables(asked: &Asked) -> String {
     let mut parts = Vec::new();
-    parts.extend(rows::labels().any(|label| asked.has(label)).then_some(Part::Pool));
-    parts.extend(tallies::labels().any(|label| asked.has(label)).then_some(Part::Tally));
+    let mut add = |part, has: bool| parts.extend(has.then_some(part));
+    add(Part::Pool, rows::labels(&OF_ONE_STORE).any(|label| asked.has(label)));
+    add(Part::Stores, rows::labels(&OF_SEVERAL_STORES).any(|label| asked.has(label)));
+    add(Part::Tally, tallies::labels().any(|label| asked.has(label)));
     let texts: Vec<String> = parts.into_iter().map(|part| part.measured(asked, PASSES).text).collect();
     texts.join("\n")
 }
 
 fn round(asked: &Asked) -> String {
-    let of_pool = rows::measured(asked, PASSES_OF_A_ROUND);
+    let mut of_pool = rows::measured(&OF_ONE_STORE, asked, PASSES_OF_A_ROUND);
+    of_pool.extend(rows::measured(&OF_SEVERAL_STORES, asked, PASSES_OF_A_ROUND));
     compare::lines(&of_pool, &tallies::measured(asked, PASSES_OF_A_ROUND))
 }
 

@@ -14,7 +14,10 @@ const CELL: (f64, f64) = (250.0, 205.0);
 const DRAWN: (f64, f64) = (174.0, 120.0);
 /// Where that part begins in its cell.
 const INSET: (f64, f64) = (62.0, 34.0);
-const HEAD: f64 = 66.0;
+/// What is above the panels: so many rows of the legend.
+const HEAD_ROW: f64 = 22.0;
+/// The colours of a row there.
+const COLOURS: usize = 7;
 
 fn colour(shape: Shape) -> &'static str {
     match shape {
@@ -27,6 +30,8 @@ fn colour(shape: Shape) -> &'static str {
         Shape::Marked => "#0c8599",
         Shape::Fours => "#b08900",
         Shape::OneChain => "#7a5c3e",
+        Shape::Four | Shape::FourOpened => "#1f5fa8",
+        Shape::One | Shape::OneOpened => "#d9700b",
     }
 }
 
@@ -51,8 +56,9 @@ pub fn of_pool(figures: &[Figure]) -> String {
         });
         Scale::new(axis, curves.collect())
     });
-    let shapes = Shape::ALL.map(|shape| (shape.name(), colour(shape)));
-    svg(&scales, &legend(&shapes, "N = 256 where F grows, 16 with few pages; F = 16 where N grows"))
+    let drawn = Shape::ALL.into_iter().filter(|shape| figures.iter().any(|figure| figure.shape == *shape));
+    let shapes: Vec<(&str, &str)> = drawn.map(|shape| (shape.name(), colour(shape))).collect();
+    svg(&scales, &shapes, "N = 256 where F grows, 16 with few pages; F = 16 where N grows")
 }
 
 /// A tally's add, by recording.
@@ -67,20 +73,23 @@ pub fn of_tally(figures: &[tallies::Figure]) -> String {
         });
         Curve { label: recording.name(), colour: colour(Shape::Full), points: points.collect() }
     });
-    svg(&[Scale::new("references", curves.collect())], &legend(&[], "add of one recording"))
+    svg(&[Scale::new("references", curves.collect())], &[], "add of one recording")
 }
 
-fn svg(scales: &[Scale], legend: &str) -> String {
+/// The panels under the legend: what the colours stand for, and what else is to be said.
+fn svg(scales: &[Scale], colours: &[(&str, &str)], note: &str) -> String {
     let (mut panels, mut cell) = (String::new(), 0);
+    let rows = 1 + colours.len().div_ceil(COLOURS);
+    let (head, legend) = (22.0 + HEAD_ROW * rows as f64, legend(colours, note));
     for scale in scales {
         for label in once(scale.curves.iter().map(|curve| curve.label)) {
-            let corner = (CELL.0 * (cell % COLUMNS) as f64, HEAD + CELL.1 * (cell / COLUMNS) as f64);
+            let corner = (CELL.0 * (cell % COLUMNS) as f64, head + CELL.1 * (cell / COLUMNS) as f64);
             panels += &Panel { corner, label, scale }.drawn();
             cell += 1;
         }
         cell = cell.next_multiple_of(COLUMNS);
     }
-    let (width, height) = (CELL.0 * COLUMNS as f64, HEAD + CELL.1 * (cell / COLUMNS) as f64);
+    let (width, height) = (CELL.0 * COLUMNS as f64, head + CELL.1 * (cell / COLUMNS) as f64);
     format!(
         "<svg xmlns=\"http://www.w3.org/2000/svg\" viewBox=\"0 0 {width} {height}\" font-family=\"sans-serif\" \
          font-size=\"11\">\n<rect width=\"100%\" height=\"100%\" fill=\"white\"/>\n{legend}{panels}</svg>\n"
@@ -91,15 +100,17 @@ fn svg(scales: &[Scale], legend: &str) -> String {
 fn legend(colours: &[(&str, &str)], note: &str) -> String {
     let mut out = String::new();
     for (place, (name, colour)) in colours.iter().enumerate() {
-        let x = 62.0 + 130.0 * place as f64;
-        let _ = writeln!(out, "<circle cx=\"{x}\" cy=\"20\" r=\"4\" fill=\"{colour}\"/>");
-        let _ = writeln!(out, "<text x=\"{}\" y=\"24\" font-size=\"12\">{name}</text>", x + 10.0);
+        let x = 62.0 + 130.0 * (place % COLOURS) as f64;
+        let y = 20.0 + HEAD_ROW * (place / COLOURS) as f64;
+        let _ = writeln!(out, "<circle cx=\"{x}\" cy=\"{y}\" r=\"4\" fill=\"{colour}\"/>");
+        let _ = writeln!(out, "<text x=\"{}\" y=\"{}\" font-size=\"12\">{name}</text>", x + 10.0, y + 4.0);
     }
+    let y = 20.0 + HEAD_ROW * colours.len().div_ceil(COLOURS) as f64;
     for (x, name, dash) in [(62.0, "library", ""), (192.0, "baseline", DASH)] {
-        let _ = writeln!(out, "<path d=\"M{x} 42h34\" stroke=\"black\" stroke-width=\"1.5\"{dash}/>");
-        let _ = writeln!(out, "<text x=\"{}\" y=\"46\" font-size=\"12\">{name}</text>", x + 42.0);
+        let _ = writeln!(out, "<path d=\"M{x} {y}h34\" stroke=\"black\" stroke-width=\"1.5\"{dash}/>");
+        let _ = writeln!(out, "<text x=\"{}\" y=\"{}\" font-size=\"12\">{name}</text>", x + 42.0, y + 4.0);
     }
-    let _ = writeln!(out, "<text x=\"322\" y=\"46\" font-size=\"12\" fill=\"#555\">{note}</text>");
+    let _ = writeln!(out, "<text x=\"322\" y=\"{}\" font-size=\"12\" fill=\"#555\">{note}</text>", y + 4.0);
     out
 }
 

@@ -1,6 +1,9 @@
 //! The recordings that the tally's calls are timed on.
 use crate::shapes::State;
-use pagepool::{FrameIndex, Generator, Handle, PageNumber, MOST_PAGES, MOST_REFERENCES, PAGE_SIZE, SLOTS};
+use pagepool::{
+    FrameIndex, Generator, Handle, PageNumber, StoreNumber, Stores, MOST_PAGES, MOST_REFERENCES, PAGE_SIZE,
+    SLOTS,
+};
 use random::Random;
 use std::sync::OnceLock;
 use words::record::{call_of, Call};
@@ -133,6 +136,9 @@ fn walks(length: usize, mut leaf: impl FnMut() -> usize) -> Vec<u16> {
     pages
 }
 
+/// A record names no store: the listing's pool has this one.
+const STORE: StoreNumber = StoreNumber(0);
+
 /// So many are gathered of a workload, in half a second: one call in some thousands is an accepted fix.
 const FIXES: usize = 256;
 
@@ -152,13 +158,14 @@ fn workload(length: usize) -> Vec<u16> {
 }
 
 fn opened() -> State {
-    crate::shapes::opened(4, vec![0; 16 * PAGE_SIZE])
+    crate::shapes::opened(4, Stores::one(4), vec![0; 16 * PAGE_SIZE])
 }
 
 /// Makes a call of a record, whatever it answers. Gives the page of an accepted fix.
 fn fixed(state: &mut State, call: &Call) -> Option<PageNumber> {
     let held = |handle: &words::record::Handle| Handle {
         frame: FrameIndex(handle.frame),
+        store: STORE,
         page: PageNumber(handle.page),
     };
     let done = match call {
@@ -166,14 +173,14 @@ fn fixed(state: &mut State, call: &Call) -> Option<PageNumber> {
             let fixed = state.fix(held(handle), usize::from(*slot));
             return fixed.ok().map(|fixed| fixed.handle.page);
         }
-        Call::Root => state.root().map(|_| ()),
+        Call::Root => state.root(STORE).map(|_| ()),
         Call::Unfix { handle } => state.unfix(held(handle)),
         Call::Write { offset, data, handle } => state.write(held(handle), usize::from(*offset), data),
         Call::Link { page, slot, handle } => {
             state.link(held(handle), usize::from(*slot), PageNumber(*page), false)
         }
         Call::Unlink { slot, handle } => state.unlink(held(handle), usize::from(*slot)),
-        Call::Evict { page } => state.evict(PageNumber(*page)),
+        Call::Evict { page } => state.evict(STORE, PageNumber(*page)),
         _ => state.settle(),
     };
     let _ = done;

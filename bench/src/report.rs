@@ -1,5 +1,6 @@
 //! The figures as text: a line about the machine, the table, and the rows that miss the goal. Here those of the pool's calls.
 pub mod forms;
+pub mod stores;
 pub mod tally;
 
 use crate::rows::{Figure, Grows, Times, DIFFERENCES};
@@ -19,16 +20,18 @@ const MET: &str = "met";
 #[derive(Clone, Copy, Debug, PartialEq)]
 pub enum Part {
     Pool,
+    Stores,
     Tally,
     Forms,
 }
 
 impl Part {
-    pub const ALL: [Part; 3] = [Part::Pool, Part::Tally, Part::Forms];
+    pub const ALL: [Part; 4] = [Part::Pool, Part::Stores, Part::Tally, Part::Forms];
 
     pub fn name(self) -> &'static str {
         match self {
             Part::Pool => "pool",
+            Part::Stores => "stores",
             Part::Tally => "tally",
             Part::Forms => "forms",
         }
@@ -55,6 +58,11 @@ const HEAD: &str = "\
 ";
 
 pub fn text(figures: &[Figure], depths: &[Depth]) -> String {
+    table(figures, depths) + &slopes(figures) + &differences(figures)
+}
+
+/// The rows, with what they miss of the goal.
+fn table(figures: &[Figure], depths: &[Depth]) -> String {
     let mut text = format!("{}\n\n{HEAD}", machine());
     let mut missed = Vec::new();
     for figure in figures {
@@ -70,7 +78,7 @@ pub fn text(figures: &[Figure], depths: &[Depth]) -> String {
         let missed = missed.iter().filter(|missed| **missed == shape).count();
         let _ = write!(text, "{} {} {missed} of {rows}", if place == 0 { ":" } else { "," }, shape.name());
     }
-    text + ".\n" + &slopes(figures) + &differences(figures)
+    text + ".\n"
 }
 
 /// Lines under the head of their table, or nothing where there are none.

@@ -2,12 +2,13 @@
 use crate::asked::Asked;
 use crate::calls::{
     draw, evict_dirty, evict_parent, find_absent, find_absent_from_chain, find_first, find_last,
-    find_last_of_chain, find_middle, fix_clean, fix_dirty, fix_half_pinned, fix_hit, fix_one_open, link,
-    link_locked, link_marked, link_named, link_taken, open, peek, peek_resident, root, settle_dirty, show,
-    unfix, unlink, unlink_locked, word, write, write_locked, Variants,
+    find_last_of_chain, find_middle, fix_at_ceiling, fix_at_ceiling_alone, fix_clean, fix_denied, fix_dirty,
+    fix_half_pinned, fix_hit, fix_one_open, link, link_locked, link_marked, link_named, link_taken, open,
+    peek, peek_resident, root, settle_dirty, show, unfix, unlink, unlink_locked, word, write, write_locked,
+    Variants,
 };
 use crate::timing::{deeper, Race};
-use pool_bench::shapes::{has_marks, Shape, State, FOURS, ONE_CHAIN};
+use pool_bench::shapes::{put_records, Shape, State, FOURS, ONE_CHAIN, STORES};
 
 /// A measured row.
 pub struct Figure {
@@ -38,7 +39,7 @@ pub enum Grows {
 type Call = (&'static str, fn(&State) -> (State, Variants));
 
 /// Calls that are made on states of a shape, for each pair of F and N.
-struct Block {
+pub struct Block {
     shape: Shape,
     grows: Grows,
     sizes: &'static [(usize, usize)],
@@ -52,7 +53,7 @@ const SMALL: &[(usize, usize)] = &[(4, 16), (16, 16)];
 const WITH_FULL_FRAMES: &[Call] = &[
     ("fix, hit", fix_hit),
     ("unfix", unfix),
-    ("fix, sweep, clean victim", fix_clean),
+    (SWEEP, fix_clean),
     ("fix, sweep, dirty victim", fix_dirty),
     ("root", root),
     ("find, first frame", find_first),
@@ -62,7 +63,7 @@ const WITH_FULL_FRAMES: &[Call] = &[
     ("peek", peek),
     ("peek, resident", peek_resident),
     (SHOW, show),
-    (WORD, word),
+    ("word", word),
     ("write, 8 bytes", write),
     ("unlink", unlink),
     ("evict, dirty", evict_dirty),
@@ -80,10 +81,10 @@ const WITH_OTHER_PINS: &[Call] = &[
 /// of a locked page.
 const WITH_MARKS: &[Call] = &[
     ("fix, hit", fix_hit),
-    ("fix, sweep, clean victim", fix_clean),
+    (SWEEP, fix_clean),
     ("fix, sweep, dirty victim", fix_dirty),
     ("root", root),
-    (WORD, word),
+    ("word", word),
     ("evict, dirty", evict_dirty),
     ("settle, all dirty", settle_dirty),
     ("write, locked page", write_locked),
@@ -95,7 +96,7 @@ const WITH_MARKS: &[Call] = &[
 const WITH_CHAINS: &[Call] = &[
     ("root", root),
     ("fix, hit", fix_hit),
-    ("fix, sweep, clean victim", fix_clean),
+    (SWEEP, fix_clean),
     ("find, first frame", find_first),
     ("find, last frame", find_last),
     ("find, last of a chain", find_last_of_chain),
@@ -115,7 +116,7 @@ const ON_THE_ROOT: &[Call] = &[
     ("find, absent", find_absent),
     ("peek", peek),
     (SHOW, show),
-    (WORD, word),
+    ("word", word),
     ("write, 8 bytes", write),
     ("link", link),
     ("unlink", unlink),
@@ -129,7 +130,7 @@ const OF_EVERY_USER: &[Call] = &[
     ("unfix", unfix),
     ("find, last frame", find_last),
     (SHOW, show),
-    (WORD, word),
+    ("word", word),
     ("write, 8 bytes", write),
     ("draw", draw),
 ];
@@ -146,8 +147,8 @@ pub const DIFFERENCES: [(&str, &str, &str); 5] = [
     ("peek past rule 2, resident", "peek, resident", SHOW),
 ];
 
-/// A call whose answer tells a mark.
-const WORD: &str = "word";
+/// A load in full frames.
+const SWEEP: &str = "fix, sweep, clean victim";
 
 /// A call whose pass over the store ends before the store does.
 const NAMED_PAGE: &str = "link, named page";
@@ -170,7 +171,8 @@ const fn by_pages(shape: Shape, calls: &'static [Call]) -> Block {
     Block { shape, grows: Grows::Pages, sizes: BY_PAGES, calls }
 }
 
-static BLOCKS: [Block; 12] = [
+/// Of one store, whose ceiling is F.
+pub static OF_ONE_STORE: [Block; 12] = [
     by_frames(Shape::Full, WITH_FULL_FRAMES),
     by_frames(Shape::Full, WITH_OTHER_PINS),
     by_pages(Shape::Full, OVER_THE_STORE),
@@ -184,6 +186,78 @@ static BLOCKS: [Block; 12] = [
     Block { shape: Shape::Fours, grows: Grows::Frames, sizes: &FOURS, calls: WITH_CHAINS },
     Block { shape: Shape::OneChain, grows: Grows::Frames, sizes: &ONE_CHAIN, calls: WITH_CHAINS },
 ];
+
+/// The loads of four stores in full frames: of one below its ceiling, whose sweep takes a neighbour's page, and of one at its ceiling,
+/// where the neighbours' frames are full or empty.
+const NEIGHBOUR: &str = "fix, sweep, neighbour's page";
+const AT_CEILING: &str = "fix, sweep, at the ceiling";
+const AT_CEILING_ALONE: &str = "fix, sweep, at the ceiling, empty frames";
+
+const DENIED: &str = "fix, denied at the ceiling";
+
+const WITH_FOUR_STORES: &[Call] = &[
+    (SHOW, show),
+    ("word", word),
+    ("find, last frame", find_last),
+    ("find, last of a chain", find_last_of_chain),
+    ("find, absent", find_absent),
+    ("peek", peek),
+    ("root", root),
+    ("fix, hit", fix_hit),
+    (NEIGHBOUR, fix_clean),
+    (AT_CEILING, fix_at_ceiling),
+    (AT_CEILING_ALONE, fix_at_ceiling_alone),
+    (DENIED, fix_denied),
+    ("write, 8 bytes", write),
+    ("link", link),
+    ("evict, dirty", evict_dirty),
+    ("settle, all dirty", settle_dirty),
+];
+
+const WITH_ONE_STORE: &[Call] = &[
+    (SHOW, show),
+    ("word", word),
+    ("find, last frame", find_last),
+    ("find, last of a chain", find_last_of_chain),
+    ("find, absent", find_absent),
+    ("peek", peek),
+    ("root", root),
+    ("fix, hit", fix_hit),
+    (SWEEP, fix_clean),
+    (DENIED, fix_denied),
+    ("write, 8 bytes", write),
+    ("link", link),
+    ("evict, dirty", evict_dirty),
+    ("settle, all dirty", settle_dirty),
+];
+
+/// F and N of four stores, and of one with as many pages.
+const FOUR_BY_FRAMES: &[(usize, usize)] = &[(8, 1024), (16, 1024), (64, 1024)];
+const ONE_BY_FRAMES: &[(usize, usize)] = &[(8, 4096), (16, 4096), (64, 4096)];
+const FOUR_BY_PAGES: &[(usize, usize)] = &[(16, 64), (16, 256), (16, 1024)];
+const ONE_BY_PAGES: &[(usize, usize)] = &[(16, 256), (16, 1024), (16, 4096)];
+
+const JUST_OPENED: &[Call] = &[("fix, empty frame", fix_clean)];
+const OPENING: &[Call] = &[("open", open)];
+
+/// Of four stores, and of one beside them.
+pub static OF_SEVERAL_STORES: [Block; 6] = [
+    Block { shape: Shape::Four, grows: Grows::Frames, sizes: FOUR_BY_FRAMES, calls: WITH_FOUR_STORES },
+    Block { shape: Shape::FourOpened, grows: Grows::Frames, sizes: FOUR_BY_FRAMES, calls: JUST_OPENED },
+    Block { shape: Shape::Four, grows: Grows::Pages, sizes: FOUR_BY_PAGES, calls: OPENING },
+    Block { shape: Shape::One, grows: Grows::Frames, sizes: ONE_BY_FRAMES, calls: WITH_ONE_STORE },
+    Block { shape: Shape::OneOpened, grows: Grows::Frames, sizes: ONE_BY_FRAMES, calls: JUST_OPENED },
+    Block { shape: Shape::One, grows: Grows::Pages, sizes: ONE_BY_PAGES, calls: OPENING },
+];
+
+/// The row of one store that is looked at beside one of four, on as many resident pages.
+pub fn beside(label: &str) -> Option<&str> {
+    match label {
+        NEIGHBOUR | AT_CEILING => Some(SWEEP),
+        AT_CEILING_ALONE => None,
+        _ => Some(label),
+    }
+}
 
 impl Figure {
     pub fn ratio(&self) -> f64 {
@@ -219,15 +293,14 @@ fn call_of(label: &str) -> &str {
 }
 
 /// How the rows begin: with the names of the calls, and what they meet.
-pub fn labels() -> impl Iterator<Item = &'static str> {
-    BLOCKS.iter().flat_map(|block| block.calls).map(|(label, _)| *label)
+pub fn labels(blocks: &'static [Block]) -> impl Iterator<Item = &'static str> {
+    blocks.iter().flat_map(|block| block.calls).map(|(label, _)| *label)
 }
 
 /// The rows that are asked for and that the library can be timed on, in so many passes.
-pub fn measured(asked: &Asked, passes: u32) -> Vec<Figure> {
-    let has_marks = has_marks();
-    let timed = |block: &Block, label: &str| asked.has(label) && (has_marks || !block.needs_marks(label));
-    let mut rows: Vec<Row> = BLOCKS.iter().flat_map(|block| block.rows(timed)).collect();
+pub fn measured(blocks: &'static [Block], asked: &Asked, passes: u32) -> Vec<Figure> {
+    let timed = blocks.iter().filter(|block| block.shape.stores() <= STORES);
+    let mut rows: Vec<Row> = timed.flat_map(|block| block.rows(asked)).collect();
     for pass in 0..passes {
         deeper(pass, &mut || rows.iter_mut().for_each(|row| row.race.pass()));
     }
@@ -244,23 +317,18 @@ struct Row {
 }
 
 impl Block {
-    /// Whether a row is only for a library that knows marks: its store has some, or its answer tells them. In word's struct from
-    /// before request A.8 the mark is padding, and no bool may be read there.
-    fn needs_marks(&self, label: &str) -> bool {
-        self.shape == Shape::Marked || label == WORD
-    }
-
-    /// The rows that pass a test: the sizes of a call one after the other.
-    fn rows(&'static self, test: impl Fn(&Block, &str) -> bool) -> Vec<Row> {
-        let calls = self.calls.iter().filter(|(label, _)| test(self, label));
+    /// The rows that are asked for: the sizes of a call one after the other.
+    fn rows(&'static self, asked: &Asked) -> Vec<Row> {
+        let calls = self.calls.iter().filter(|(label, _)| asked.has(label));
         let sized =
             calls.flat_map(|call| self.sizes.iter().map(move |(count, pages)| (call, *count, *pages)));
         sized
             .map(|((label, make), count, pages)| {
-                let (state, Variants { library, baseline, copy, undo }) =
+                let (mut state, Variants { library, baseline, copy, undo }) =
                     make(&self.shape.state(count, pages));
                 let records = state.records;
-                let restore = move |now: &mut State| now.records = records;
+                put_records(&mut state, &records);
+                let restore = move |now: &mut State| put_records(now, &records);
                 let race = Race::new(state, restore, [library, baseline, copy, undo]);
                 Row { block: self, label, count, pages, race }
             })

@@ -5,11 +5,25 @@ use crate::former::PagePool;
 #[cfg(not(feature = "former"))]
 use pagepool::PagePool;
 use pagepool::{
-    FrameIndex, Handle, PageNumber, BUCKETS, LOCK_BIT, MOST_FRAMES, PAGE_SIZE, PAYLOAD_START, SLOTS,
+    FrameIndex, FrameRecord, Handle, PageNumber, Pool, StoreNumber, Stores, BUCKETS, LOCK_BIT, MOST_FRAMES,
+    MOST_STORES, PAGE_SIZE, PAYLOAD_START, SLOTS,
 };
 
 /// The records, the frames, the store and the directory of a host.
 pub type State = PagePool<Vec<u8>, Vec<u8>>;
+
+/// The most stores that the linked library takes: one before request A.11.
+pub const STORES: usize = if cfg!(feature = "former") { 1 } else { MOST_STORES };
+
+/// Puts records into a state.
+pub fn put_records(state: &mut State, records: &Pool) {
+    #[cfg(not(feature = "former"))]
+    {
+        state.records = *records;
+    }
+    #[cfg(feature = "former")]
+    state.put_records(records);
+}
 
 #[derive(Clone, Copy, Debug, PartialEq)]
 pub enum Shape {
@@ -31,15 +45,25 @@ pub enum Shape {
     Fours,
     /// The same over the pages that share the root's chain, which so holds every resident page. The frames are full.
     OneChain,
+    /// Four stores, the pages of each as in `Full`. The frames are full, of the same places of each store.
+    Four,
+    /// Pages as in `Four`. The roots are resident alone.
+    FourOpened,
+    /// The state of `Full`, with as many pages as in `Four`, for a look at both.
+    One,
+    /// That of `Opened`, with as many pages as in `FourOpened`.
+    OneOpened,
 }
 
-pub const ROOT: Handle = Handle { frame: FrameIndex(0), page: PageNumber(0) };
+/// The handle of a store's root.
+pub const fn root_of(store: StoreNumber) -> Handle {
+    Handle { frame: FrameIndex(store.0), store, page: PageNumber(0) }
+}
+
+pub const ROOT: Handle = root_of(StoreNumber(0));
 
 /// A slot that is empty in every pinned page, except in the root of `Leaves`.
 pub const EMPTY_SLOT: usize = 15;
-
-/// The place of a page that isn't taken in, so that a resident page names one that is not; in `Full` it names pages itself.
-const LEFT_OUT: usize = 16;
 
 /// The places of `Fours`: as many as there can be frames, and four more, since one page isn't taken in and four share each chain.
 const FOURS_PLACES: usize = MOST_FRAMES + 4;
@@ -57,7 +81,7 @@ pub fn sharing() -> impl Iterator<Item = (Shape, usize, usize)> {
 }
 
 impl Shape {
-    pub const ALL: [Shape; 9] = [
+    pub const ALL: [Shape; 13] = [
         Shape::Full,
         Shape::Leaves,
         Shape::Opened,
@@ -67,6 +91,10 @@ impl Shape {
         Shape::Marked,
         Shape::Fours,
         Shape::OneChain,
+        Shape::Four,
+        Shape::FourOpened,
+        Shape::One,
+        Shape::OneOpened,
     ];
 
     pub fn name(self) -> &'static str {
@@ -80,6 +108,18 @@ impl Shape {
             Shape::Marked => "marked",
             Shape::Fours => "four to a chain",
             Shape::OneChain => "all in one chain",
+            Shape::Four => "four stores",
+            Shape::FourOpened => "four stores, just opened",
+            Shape::One => "one store",
+            Shape::OneOpened => "one store, just opened",
+        }
+    }
+
+    /// T.
+    pub fn stores(self) -> usize {
+        match self {
+            Shape::Four | Shape::FourOpened => 4,
+            _ => 1,
         }
     }
 
@@ -102,6 +142,16 @@ impl Shape {
         }
     }
 
+    /// The place of a page that isn't taken in, so that a pinned page names one that is not; in `Full` and `Four` it names pages
+    /// itself.
+    fn left_out(self) -> usize {
+        if self.stores() == 1 {
+            16
+        } else {
+            15
+        }
+    }
+
     /// The places whose pages are named, for F frames and N pages. The last page never is.
     fn named(self, count: usize, pages: usize) -> impl Iterator<Item = usize> {
         let end = match self {
@@ -119,6 +169,7 @@ impl Shape {
         self.number(place) as u32 | if self == Shape::Marked { LOCK_BIT } else { 0 }
     }
 
+    /// A store of so many pages.
     pub fn store(self, count: usize, pages: usize) -> Vec<u8> {
         let mut store = vec![0; PAGE_SIZE * pages];
         for (page, bytes) in store.chunks_exact_mut(PAGE_SIZE).enumerate() {
@@ -132,63 +183,94 @@ impl Shape {
         store
     }
 
-    /// A pool over such a store, by the baseline's calls, its frames filled in the order of places. The pages in the first two
-    /// frames are pinned, and each page has usage 1.
+    /// A pool over such stores, by the baseline's calls, its frames filled in the order of places, each place in every store. The
+    /// pages in the roots' frames and the next one are pinned, and each page has usage 1. A ceiling is F.
     pub fn state(self, count: usize, pages: usize) -> State {
-        let mut state = opened(count, self.store(count, pages));
-        let root = baseline::root(&mut state.records, &state.frames, &state.store, &state.directory);
-        let mut handles = vec![root.expect("the root can be pinned").handle];
-        let taken_in = |place: &usize| self.in_chain() || *place != LEFT_OUT;
-        let most = if self == Shape::Opened { 0 } else { count - 1 };
-        for place in self.named(count, pages).filter(taken_in).take(most) {
+        let stores = Stores { count: self.stores() as u8, ceilings: self.ceilings(count) };
+        let mut state = opened(count, stores, self.store(count, pages).repeat(self.stores()));
+        let mut handles: Vec<Vec<Handle>> =
+            (0..stores.count).map(|store| vec![root_of(StoreNumber(store))]).collect();
+        state.records.records[..self.stores()].iter_mut().for_each(|root| root.pins = 1);
+        let taken_in = |place: &usize| self.in_chain() || *place != self.left_out();
+        let most = if self.is_just_opened() { 0 } else { count - self.stores() };
+        let of_each = |place| (0..self.stores()).map(move |store| (place, store));
+        for (place, store) in self.named(count, pages).filter(taken_in).flat_map(of_each).take(most) {
             let (parent, slot) = self.parent(place);
             if self == Shape::Turned {
                 state.records.hand = FrameIndex((count - place) as u8);
             }
-            let State { records, frames, store, directory } = &mut state;
-            let fixed = baseline::fix(records, frames, store, directory, handles[parent], slot);
-            handles.push(fixed.expect("a frame is empty").handle);
+            let parent = handles[store][parent];
+            let State { records, frames, store: pages, directory, .. } = &mut state;
+            let fixed = baseline::fix(records, frames, pages, directory, parent, slot);
+            handles[store].push(fixed.expect("a frame is empty").handle);
         }
         state.records.hand = FrameIndex(0);
-        release_all_but_two(&mut state);
+        release_most(&mut state);
         state
+    }
+
+    fn ceilings(self, count: usize) -> [u8; MOST_STORES] {
+        std::array::from_fn(|store| if store < self.stores() { count as u8 } else { 0 })
     }
 
     fn in_chain(self) -> bool {
         matches!(self, Shape::Chain | Shape::Turned)
     }
-}
 
-/// Whether the linked library knows marks. An archive from before request A.8 opens no store with them.
-pub fn has_marks() -> bool {
-    State::new(vec![0; PAGE_SIZE * 2], Shape::Marked.store(2, 4)).open().is_ok()
+    fn is_just_opened(self) -> bool {
+        matches!(self, Shape::Opened | Shape::FourOpened | Shape::OneOpened)
+    }
 }
 
 /// A pool just opened, by the baseline, nothing pinned.
-pub fn opened(count: usize, store: Vec<u8>) -> State {
+pub fn opened(count: usize, stores: Stores, store: Vec<u8>) -> State {
     let mut state = State::new(vec![0; PAGE_SIZE * count], store);
-    let State { records, frames, store, directory } = &mut state;
-    baseline::open(records, frames, store, directory).expect("the store is sound");
+    let State { records, frames, store, directory, .. } = &mut state;
+    baseline::open(records, frames, store, directory, stores).expect("the stores are sound");
+    let records = *records;
+    put_records(&mut state, &records);
     state
 }
 
-fn release_all_but_two(state: &mut State) {
-    let records = state.records.records.iter_mut().enumerate();
-    for (frame, record) in records.filter(|(_, record)| record.is_used()) {
-        record.pins = u16::from(frame < 2);
+/// Leaves the pages in the roots' frames and in the next one pinned.
+fn release_most(state: &mut State) {
+    let Pool { records, stores, .. } = &mut state.records;
+    for (frame, record) in records.iter_mut().enumerate().filter(|(_, record)| record.is_used()) {
+        record.pins = u16::from(frame <= usize::from(*stores));
         record.usage = 1;
     }
 }
 
-/// The page in frame 1, which is pinned, or the root where it is alone.
-pub fn pinned(state: &State) -> Handle {
-    let frame = FrameIndex(state.records.records[1].used);
-    Handle { frame, page: state.records.record(frame).page }
+/// The records of the frames that aren't empty.
+fn used(state: &State) -> impl DoubleEndedIterator<Item = &FrameRecord> {
+    state.records.records.iter().filter(|record| record.is_used())
 }
 
-/// A slot of a pinned page that names a page that isn't resident.
+/// A page by its store and its number there.
+pub type Page = (StoreNumber, PageNumber);
+
+fn page_of(record: &FrameRecord) -> Page {
+    (record.store, record.page)
+}
+
+/// The page in the first frame after the roots', which is pinned, or a root where these are alone.
+pub fn pinned(state: &State) -> Handle {
+    let after = FrameIndex(state.records.stores);
+    let frame = if state.records.record(after).is_used() { after } else { FrameIndex(0) };
+    let (store, page) = page_of(state.records.record(frame));
+    Handle { frame, store, page }
+}
+
+/// The last store.
+pub fn last_store(state: &State) -> StoreNumber {
+    StoreNumber(state.records.stores - 1)
+}
+
+/// A slot of a pinned page that names a page that isn't resident: of the last store, where there are several.
 pub fn absent(state: &State) -> (Handle, usize) {
-    let slots = [pinned(state), ROOT].into_iter().flat_map(|page| (0..SLOTS).map(move |slot| (page, slot)));
+    let root = root_of(last_store(state));
+    let pages = if root == ROOT { vec![pinned(state), ROOT] } else { vec![root] };
+    let slots = pages.into_iter().flat_map(|page| (0..SLOTS).map(move |slot| (page, slot)));
     let mut absent = slots.filter(|(page, slot)| {
         let word = &state.frames[PAGE_SIZE * usize::from(page.frame) + 4 * slot..][..4];
         word != [0; 4] && word[3] < 0x80
@@ -196,10 +278,15 @@ pub fn absent(state: &State) -> (Handle, usize) {
     absent.next().expect("a page was left out")
 }
 
+/// A slot of a root that names a resident page: of the last store's, where there are several.
+pub fn present(state: &State) -> (Handle, usize) {
+    let root = root_of(last_store(state));
+    (root, usize::from(root == ROOT))
+}
+
 /// The page in the last frame that isn't empty.
-pub fn last_resident(state: &State) -> PageNumber {
-    let used = state.records.records.iter().rev().find(|record| record.is_used());
-    used.expect("the root is resident").page
+pub fn last_resident(state: &State) -> Page {
+    page_of(used(state).next_back().expect("the root is resident"))
 }
 
 /// The last page that a word names, where all but the last page are named.
@@ -207,24 +294,20 @@ pub fn last_named(state: &State) -> PageNumber {
     PageNumber(state.records.pages - 2)
 }
 
-/// A page that isn't resident and that no word names.
+/// A page that isn't resident and that no word names, in every store.
 pub fn unnamed(state: &State) -> PageNumber {
     PageNumber(state.records.pages - 1)
 }
 
 /// The resident page for which find compares the most entries: the last of a longest chain.
-pub fn last_of_chain(state: &State) -> PageNumber {
-    let used = state.records.records.iter().filter(|record| record.is_used());
-    used.map(|record| record.page).max_by_key(|page| compared(state, *page)).expect("the root is resident")
+pub fn last_of_chain(state: &State) -> Page {
+    used(state).map(page_of).max_by_key(|page| compared(state, *page)).expect("the root is resident")
 }
 
-/// A page that isn't resident, for which find compares the most entries.
-pub fn absent_from_chain(state: &State) -> PageNumber {
-    let resident = |page: &PageNumber| {
-        let mut used = state.records.records.iter().filter(|record| record.is_used());
-        used.any(|record| record.page == *page)
-    };
-    let absent = (0..state.records.pages).map(PageNumber).filter(|page| !resident(page));
+/// A page of the first store that isn't resident, for which find compares the most entries.
+pub fn absent_from_chain(state: &State) -> Page {
+    let pages = (0..state.records.pages).map(|page| (StoreNumber(0), PageNumber(page)));
+    let absent = pages.filter(|page| used(state).all(|record| page_of(record) != *page));
     absent.max_by_key(|page| compared(state, *page)).expect("more pages than frames")
 }
 
@@ -240,7 +323,7 @@ pub fn reverse_chain(state: &mut State, page: PageNumber) {
 }
 
 /// The entries that find compares for a page.
-fn compared(state: &State, page: PageNumber) -> u16 {
-    let found = baseline::find(&state.records, &state.frames, &state.store, &state.directory, page);
+fn compared(state: &State, (store, page): Page) -> u16 {
+    let found = baseline::find(&state.records, &state.frames, &state.store, &state.directory, store, page);
     found.expect("records, frames and directory agree").compared
 }

@@ -1,11 +1,11 @@
 //! The deepest stack of each exported call: a thread's stack is painted, and what the call leaves of the paint tells.
 use crate::calls::{accept, dirtied};
 use crate::tallies;
-use pagepool::{
-    tally_add, tally_report, tally_share, FrameIndex, Generator, Handle, PageNumber, DEPTHS, MOST_REFERENCES,
-};
+use pagepool::{tally_add, tally_report, tally_share, Generator, Stores, DEPTHS, MOST_REFERENCES};
 use pool_bench::recordings::Recording;
-use pool_bench::shapes::{Shape, State, EMPTY_SLOT, ROOT};
+use pool_bench::shapes::{
+    absent, last_resident, last_store, pinned, present, put_records, unnamed, Shape, State, EMPTY_SLOT,
+};
 use std::hint::black_box;
 use std::ptr;
 use std::thread::Builder;
@@ -27,38 +27,45 @@ type Call<S> = fn(&mut S);
 
 const COUNT: usize = 64;
 const PAGES: usize = 4096;
-const CHILD: Handle = Handle { frame: FrameIndex(1), page: PageNumber(1) };
-const LAST_PAGE: PageNumber = PageNumber(PAGES as u16 - 1);
-/// A page in the last frame, which has no swizzled word.
-const LAST_RESIDENT: PageNumber = PageNumber(COUNT as u16);
-
-macro_rules! call {
-    ($name:ident($($argument:expr),*)) => {
-        (stringify!($name), |s| accept(s.$name($($argument),*)))
-    };
-}
 
 /// Each call on its longest way.
 const CALLS: [(&str, Call<State>); 14] = [
-    call!(open()),
-    call!(root()),
-    call!(fix(CHILD, 0)),
-    call!(unfix(CHILD)),
-    call!(show(CHILD)),
-    call!(peek(LAST_PAGE)),
-    call!(word(ROOT, 0)),
-    call!(write(CHILD, 0, &[7; 8])),
-    call!(link(CHILD, EMPTY_SLOT, LAST_PAGE, false)),
-    call!(unlink(CHILD, 0)),
-    call!(evict(LAST_RESIDENT)),
-    call!(settle()),
-    call!(find(LAST_PAGE)),
-    call!(draw(&mut Generator { number: 1 })),
+    ("open", |s| {
+        let stores = Stores { count: s.records.stores, ceilings: s.records.ceilings };
+        accept(s.open(stores));
+    }),
+    ("root", |s| accept(s.root(last_store(s)))),
+    ("fix", |s| {
+        let (page, slot) = absent(s);
+        accept(s.fix(page, slot));
+    }),
+    ("unfix", |s| accept(s.unfix(pinned(s)))),
+    ("show", |s| accept(s.show(pinned(s)))),
+    ("peek", |s| accept(s.peek(last_store(s), unnamed(s)))),
+    ("word", |s| {
+        let (page, slot) = present(s);
+        accept(s.word(page, slot));
+    }),
+    ("write", |s| accept(s.write(pinned(s), 0, &[7; 8]))),
+    ("link", |s| accept(s.link(pinned(s), EMPTY_SLOT, unnamed(s), false))),
+    ("unlink", |s| {
+        let (page, slot) = absent(s);
+        accept(s.unlink(page, slot));
+    }),
+    ("evict", |s| {
+        let (store, page) = last_resident(s);
+        accept(s.evict(store, page));
+    }),
+    ("settle", |s| accept(s.settle())),
+    ("find", |s| accept(s.find(last_store(s), unnamed(s)))),
+    ("draw", |s| accept(s.draw(&mut Generator { number: 1 }))),
 ];
 
-/// At F = 64 and N = 4,096, every page dirty.
-pub fn measured() -> Vec<Depth> {
-    let state = dirtied(&Shape::Full.state(COUNT, PAGES));
+/// On a shape with full frames, at F = 64 and N = 4,096, every page dirty.
+pub fn measured(shape: Shape) -> Vec<Depth> {
+    let mut state = dirtied(&shape.state(COUNT, PAGES));
+    let records = state.records;
+    put_records(&mut state, &records);
     depths_of(&CALLS, &state)
 }
 

@@ -1,10 +1,10 @@
 //! The baseline answers and leaves exactly what the linked library does, on random calls, refused ones too.
 use pagepool::{
-    FrameIndex, Generator, Handle, PageNumber, Pool, Refusal, BUCKETS, DIRECTORY_SIZE, LOCK_BIT, MAX_USAGE,
-    PAGE_SIZE, PAYLOAD_SIZE, SLOTS,
+    FrameIndex, Generator, Handle, PageNumber, Pool, Refusal, StoreNumber, Stores, BUCKETS, DIRECTORY_SIZE,
+    LOCK_BIT, MAX_USAGE, MOST_STORES, PAGE_SIZE, PAYLOAD_SIZE, SLOTS,
 };
 use pool_bench::baseline;
-use pool_bench::shapes::{opened, reverse_chain, sharing, Shape, State};
+use pool_bench::shapes::{opened, reverse_chain, sharing, Page, Shape, State};
 use random::Random;
 use std::collections::BTreeMap;
 use std::fmt::Debug;
@@ -12,6 +12,9 @@ use std::fmt::Debug;
 /// Shapes of every store: each other has the store of one of these.
 const STORES: [Shape; 6] =
     [Shape::Full, Shape::Leaves, Shape::Chain, Shape::Marked, Shape::Fours, Shape::OneChain];
+
+/// Four stores, and F.
+const FOUR: [(Shape, usize); 3] = [(Shape::Four, 8), (Shape::Four, 16), (Shape::Four, 64)];
 
 /// A call's name and what both answered, 0 for accepted.
 type Pair = (&'static str, u8);
@@ -33,9 +36,9 @@ macro_rules! same {
 
 /// The same for a call that answers a part of a buffer.
 macro_rules! same_part {
-    ($a:ident, $b:ident, $name:ident($argument:expr)) => {{
-        let library = $a.$name($argument);
-        let baseline = baseline::$name(&$b.records, &$b.frames, &$b.store, &$b.directory, $argument);
+    ($a:ident, $b:ident, $name:ident($($argument:expr),*)) => {{
+        let library = $a.$name($($argument),*);
+        let baseline = baseline::$name(&$b.records, &$b.frames, &$b.store, &$b.directory $(, $argument)*);
         agreed(stringify!($name), library.map(|part| place(part, $a)), baseline.map(|part| place(part, $b)))
     }};
 }
@@ -65,6 +68,8 @@ struct Trial {
     warmed: BTreeMap<usize, usize>,
     /// How many finds compared so many entries, to the page's or not.
     compared: BTreeMap<(bool, u16), usize>,
+    /// How many sweeps were made for a store at its ceiling, and took a page of its own.
+    taken: BTreeMap<(bool, bool), usize>,
     /// How many records of each call were drawn, with data or not.
     drawn: BTreeMap<(u8, bool), usize>,
     generator: Generator,
@@ -77,6 +82,7 @@ impl Trial {
             given: BTreeMap::new(),
             warmed: BTreeMap::new(),
             compared: BTreeMap::new(),
+            taken: BTreeMap::new(),
             drawn: BTreeMap::new(),
             generator: Generator::seeded(seed as u32),
         }
@@ -109,20 +115,27 @@ impl Trial {
         self.given.iter().filter(|((_, given), _)| *given == number).map(|(_, times)| times).sum()
     }
 
+    /// Each of these answers was given some times.
+    fn assert_often(&self, pairs: &[Pair]) {
+        let seldom: Vec<&Pair> =
+            pairs.iter().filter(|pair| self.given.get(pair).is_none_or(|times| *times < 20)).collect();
+        assert!(seldom.is_empty(), "calls seldom answered so: {seldom:?}");
+    }
+
     /// How many calls warmed so many pages or more.
     fn warmed_from(&self, pages: usize) -> usize {
         self.warmed.range(pages..).map(|(_, calls)| calls).sum()
     }
 
     fn any_call(&mut self, a: &mut State, b: &mut State) -> Pair {
-        let (handle, slot, page) = (self.handle(a), self.slot(), self.page(a));
+        let (handle, slot, (store, page)) = (self.handle(a), self.slot(), self.page(a));
         match self.random.below(42) {
             0 => self.open(a, b),
-            1 | 2 => same!(a, b, root()),
-            3..=14 => same!(a, b, fix(handle, slot)),
+            1 | 2 => same!(a, b, root(store)),
+            3..=14 => self.fix(a, b, handle, slot),
             15..=22 => same!(a, b, unfix(handle)),
             23 => same_part!(a, b, show(handle)),
-            24 => same_part!(a, b, peek(page)),
+            24 => same_part!(a, b, peek(store, page)),
             25 | 26 => same!(a, b, word(handle, slot)),
             27..=29 => self.write(a, b, handle),
             30 | 31 => {
@@ -130,19 +143,35 @@ impl Trial {
                 same!(a, b, link(handle, slot, page, locked))
             }
             32 | 33 => same!(a, b, unlink(handle, slot)),
-            34..=36 => same!(a, b, evict(page)),
+            34..=36 => same!(a, b, evict(store, page)),
             37 => same!(a, b, settle()),
-            38 | 39 => self.find(a, b, page),
+            38 | 39 => self.find(a, b, (store, page)),
             _ => self.draw(a, b),
         }
     }
 
-    fn find(&mut self, a: &mut State, b: &mut State, page: PageNumber) -> Pair {
-        let library = a.find(page);
+    fn fix(&mut self, a: &mut State, b: &mut State, handle: Handle, slot: usize) -> Pair {
+        let before = a.records;
+        let answer = same!(a, b, fix(handle, slot));
+        let mut taken = before
+            .records
+            .iter()
+            .zip(&a.records.records)
+            .filter(|(old, new)| old.is_used() && (old.store, old.page) != (new.store, new.page));
+        if let Some((old, new)) = taken.next() {
+            let own = before.records.iter().filter(|record| record.is_used() && record.store == new.store);
+            let at_ceiling = own.count() >= before.ceilings[usize::from(new.store)].into();
+            *self.taken.entry((at_ceiling, old.store == new.store)).or_default() += 1;
+        }
+        answer
+    }
+
+    fn find(&mut self, a: &mut State, b: &mut State, (store, page): Page) -> Pair {
+        let library = a.find(store, page);
         if let Ok(found) = library {
             *self.compared.entry((found.frame.is_some(), found.compared)).or_default() += 1;
         }
-        agreed("find", library, baseline::find(&b.records, &b.frames, &b.store, &b.directory, page))
+        agreed("find", library, baseline::find(&b.records, &b.frames, &b.store, &b.directory, store, page))
     }
 
     /// A draw by a generator that goes along.
@@ -157,15 +186,52 @@ impl Trial {
         agreed("draw", library, baseline)
     }
 
-    /// An open; accepted, it is undone nine times in ten.
+    /// An open, now and then with other figures; accepted, it is undone nine times in ten.
     fn open(&mut self, a: &mut State, b: &mut State) -> Pair {
         let before = a.clone();
-        let answer = same!(a, b, open());
+        let mut stores = Stores { count: a.records.stores, ceilings: a.records.ceilings };
+        if self.random.percent(30) {
+            let count = self.random.below(MOST_STORES + 2);
+            stores = self.stores(count, a.frames.len() / PAGE_SIZE);
+            if self.random.percent(20) {
+                stores.ceilings[self.random.below(MOST_STORES)] = self.random.below(70) as u8;
+            }
+        }
+        let answer = same!(a, b, open(stores));
         if answer.1 == 0 && !self.random.percent(10) {
             assert!(a == b, "states differ after open");
             (*a, *b) = (before.clone(), before);
         }
         answer
+    }
+
+    /// So many stores over so many frames: all of their ceilings are F, or a part of it, or any.
+    fn stores(&mut self, count: usize, frames: usize) -> Stores {
+        let kind = self.random.below(4);
+        let ceilings = std::array::from_fn(|store| match kind {
+            _ if store >= count => 0,
+            0 | 1 => frames as u8,
+            2 => frames.div_ceil(count) as u8,
+            _ => self.random.between(1, frames) as u8,
+        });
+        Stores { count: count as u8, ceilings }
+    }
+
+    /// A pool of so many stores just opened, each with pages of another shape.
+    fn opened(&mut self, first: usize, stores: usize, count: usize, pages: usize) -> State {
+        let shapes = STORES.iter().cycle().skip(first).take(stores);
+        let store = shapes.flat_map(|shape| shape.store(count, pages)).collect();
+        opened(count, self.stores(stores, count), store)
+    }
+
+    /// Gives each store any ceiling that it keeps to, as often as not the least.
+    fn lower_ceilings(&mut self, state: &mut State) {
+        let Pool { records, count, stores, ceilings, .. } = &mut state.records;
+        for (store, ceiling) in (0..*stores).zip(ceilings) {
+            let own = records.iter().filter(|record| record.is_used() && record.store.0 == store);
+            let held = own.count();
+            *ceiling = self.random.pick(&[held, held, held + 1, usize::from(*count)]) as u8;
+        }
     }
 
     fn write(&mut self, a: &mut State, b: &mut State, handle: Handle) -> Pair {
@@ -213,50 +279,50 @@ impl Trial {
             0 => FrameIndex(0),
             most => pinned[self.random.below(most)],
         };
-        let page = state.records.record(frame).page;
-        match self.random.below(20) {
-            0 => Handle { frame: FrameIndex(self.random.below(256) as u8), page },
-            1 => Handle { frame, page: self.page(state) },
-            _ => Handle { frame, page },
+        let (store, page) = page_of(state, frame.into());
+        match self.random.below(30) {
+            0 => Handle { frame: FrameIndex(self.random.below(256) as u8), store, page },
+            1 => Handle { frame, store, page: self.page(state).1 },
+            2 | 3 => Handle { frame, store: StoreNumber(self.random.below(MOST_STORES + 2) as u8), page },
+            _ => Handle { frame, store, page },
         }
+    }
+
+    /// The number of a store most of the time.
+    fn store(&mut self, state: &State) -> StoreNumber {
+        let below = usize::from(state.records.stores).max(1);
+        let store = if self.random.percent(5) { self.random.below(256) } else { self.random.below(below) };
+        StoreNumber(store as u8)
     }
 
     fn slot(&mut self) -> usize {
         self.random.below(SLOTS + 1)
     }
 
-    /// A page number below N most of the time, as often as not of the last page or one that is resident.
-    fn page(&mut self, state: &State) -> PageNumber {
-        let pages = usize::from(state.records.pages);
+    /// A page number below N most of the time, as often as not of the last page or one that is resident, in its store or another.
+    fn page(&mut self, state: &State) -> Page {
+        let (store, pages) = (self.store(state), usize::from(state.records.pages));
         match self.random.below(20) {
-            0 => PageNumber(self.random.below(65_536) as u16),
-            1..=3 => PageNumber(state.records.pages.wrapping_sub(1)),
-            4..=10 => self.resident(state),
-            11 | 12 => self.sharing(state),
-            _ => PageNumber(self.random.below(pages.max(1)) as u16),
+            0 => (store, PageNumber(self.random.below(65_536) as u16)),
+            1..=3 => (store, PageNumber(state.records.pages.wrapping_sub(1))),
+            4..=9 => self.resident(state),
+            10 => (store, self.resident(state).1),
+            11 | 12 => (store, self.sharing(state)),
+            _ => (store, PageNumber(self.random.below(pages.max(1)) as u16)),
         }
     }
 
     /// A page that shares a resident one's chain.
     fn sharing(&mut self, state: &State) -> PageNumber {
-        let (pages, resident) = (usize::from(state.records.pages), usize::from(self.resident(state)));
+        let (pages, resident) = (usize::from(state.records.pages), usize::from(self.resident(state).1));
         let number = resident % BUCKETS + BUCKETS * self.random.below(pages / BUCKETS + 1);
         PageNumber(number as u16)
     }
 
-    /// A resident page, page 0 where there is none.
-    fn resident(&mut self, state: &State) -> PageNumber {
-        let used: Vec<PageNumber> = state
-            .records
-            .records
-            .iter()
-            .filter(|record| record.is_used())
-            .map(|record| record.page)
-            .collect();
-        match used.len() {
-            0 => PageNumber(0),
-            most => used[self.random.below(most)],
-        }
+    /// A resident page, a root where there is none.
+    fn resident(&mut self, state: &State) -> Page {
+        let frames = (0..64).filter(|frame| state.records.records[*frame].is_used());
+        self.random.choose(frames).map_or_else(Page::default, |frame| page_of(state, frame))
     }
 
     /// Alters a field, a word, a length or who is whose parent.
@@ -266,7 +332,7 @@ impl Trial {
             9 => self.mark(state, 5),
             10 => state.directory[self.random.below(DIRECTORY_SIZE)] = self.random.below(70) as u8,
             11 => self.damage_entry(state),
-            12 => reverse_chain(state, self.resident(state)),
+            12 => reverse_chain(state, self.resident(state).1),
             0 => self.damage_sizes(state),
             1..=3 => self.damage_record(state),
             4 => self.damage_parents(state),
@@ -281,14 +347,18 @@ impl Trial {
 
     /// Changes the head of a resident page's chain, or the link of any frame.
     fn damage_entry(&mut self, state: &mut State) {
-        let page = self.resident(state);
+        let (_, page) = self.resident(state);
         let frame = self.random.below(64);
         let at = if self.random.percent(50) { usize::from(page) % BUCKETS } else { BUCKETS + frame };
         state.directory[at] = self.random.below(usize::from(state.records.count) + 2) as u8;
     }
 
     fn damage_sizes(&mut self, state: &mut State) {
-        match self.random.below(5) {
+        let store = self.random.below(MOST_STORES);
+        match self.random.below(8) {
+            5 => state.records.stores = self.random.below(MOST_STORES + 2) as u8,
+            6 => state.records.ceilings[store] = self.random.below(70) as u8,
+            7 => state.records.ceilings.swap(0, store),
             0 => state.records.count = self.random.below(70) as u16,
             1 => state.records.pages = self.random.below(4200) as u16,
             2 => state.records.hand = FrameIndex(self.random.below(256) as u8),
@@ -299,22 +369,24 @@ impl Trial {
 
     fn damage_record(&mut self, state: &mut State) {
         let frame = self.random.below(usize::from(state.records.count) + 2).min(63);
-        let (small, page) = (self.random.below(80) as u8, self.page(state));
+        let (small, (_, page)) = (self.random.below(80) as u8, self.page(state));
         let record = &mut state.records.records[frame];
-        match self.random.below(7) {
+        match self.random.below(8) {
             0 => record.used = small % 3,
             1 => record.dirty = small % 3,
             2 => record.usage = small % 5,
             3 => record.slot = small % 18,
             4 => record.parent = FrameIndex(small),
             5 => record.pins = u16::MAX,
+            6 => record.store = StoreNumber(small % (MOST_STORES as u8 + 1)),
             _ => record.page = page,
         }
     }
 
     /// Makes a resident page the child of another, or of itself: rule 2 is broken by nothing else where they are in a circle.
     fn damage_parents(&mut self, state: &mut State) {
-        let used: Vec<usize> = (1..64).filter(|frame| state.records.records[*frame].is_used()).collect();
+        let first = usize::from(state.records.stores);
+        let used: Vec<usize> = (first..64).filter(|frame| state.records.records[*frame].is_used()).collect();
         if used.is_empty() {
             return;
         }
@@ -339,6 +411,10 @@ impl Trial {
     }
 }
 
+fn page_of(state: &State, frame: usize) -> Page {
+    (state.records.records[frame].store, state.records.records[frame].page)
+}
+
 /// The pages that a call warmed by looks alone: their pins are as they were.
 fn warmed(before: &Pool, after: &Pool) -> usize {
     let records = before.records.iter().zip(&after.records);
@@ -356,7 +432,9 @@ fn small_pools() {
     let mut trial = Trial::new(1);
     for turn in 0..60 {
         let (count, pages) = (2 + turn % 7, 2 + 15 * (turn / STORES.len() % 4));
-        let state = trial.marked(opened(count, STORES[turn % STORES.len()].store(count, pages)));
+        let stores = trial.random.between(1, MOST_STORES.min(count - 1));
+        let state = trial.opened(turn, stores, count, pages);
+        let state = trial.marked(state);
         trial.run(state, 1000);
     }
     println!("{:?}, drawn {:?}", trial.given, trial.drawn);
@@ -364,9 +442,9 @@ fn small_pools() {
     let never: Vec<u8> = refusals.filter(|number| trial.given(*number) == 0).collect();
     assert!(never.is_empty(), "refusals never given: {never:?}");
     let edits = ["write", "link", "unlink"].map(|edit| (edit, Refusal::IsLocked.number()));
-    let seldom: Vec<Pair> =
-        edits.into_iter().filter(|edit| trial.given.get(edit).is_none_or(|times| *times < 20)).collect();
-    assert!(seldom.is_empty(), "edits of a locked page seldom refused: {seldom:?}");
+    trial.assert_often(&edits);
+    let stores = ["root", "fix", "unfix", "show", "peek", "word", "write", "link", "unlink", "evict", "find"];
+    trial.assert_often(&stores.map(|call| (call, Refusal::BadStore.number())));
     let records = (1..=9).map(|call| (call, false)).chain([(5, true)]);
     let seldom: Vec<_> =
         records.filter(|kind| trial.drawn.get(kind).is_none_or(|times| *times < 20)).collect();
@@ -376,9 +454,10 @@ fn small_pools() {
 #[test]
 fn large_pools() {
     let mut trial = Trial::new(2);
-    for shape in STORES {
-        for (count, pages) in [(16, 256), (64, 256), (16, 4096), (64, 4096)] {
-            let state = trial.marked(opened(count, shape.store(count, pages)));
+    for shape in 0..STORES.len() {
+        for (stores, count, pages) in [(4, 16, 256), (1, 64, 256), (1, 16, 4096), (3, 64, 1024)] {
+            let state = trial.opened(shape, stores, count, pages);
+            let state = trial.marked(state);
             trial.run(state, 2000);
         }
     }
@@ -390,7 +469,8 @@ fn large_pools() {
 #[test]
 fn shared_chains() {
     let mut trial = Trial::new(5);
-    for (shape, count, pages) in sharing() {
+    let four = [8, 16, 64].map(|count| (Shape::Four, count, 64));
+    for (shape, count, pages) in sharing().chain(four) {
         for _ in 0..40 {
             let state = trial.marked(shape.state(count, pages));
             trial.run(state, 100);
@@ -420,17 +500,44 @@ fn turned_frames() {
     assert!(trial.given(0) > 1000 && trial.given(2) > 100, "accepted, and records that disagree");
 }
 
-/// Short runs from full frames with most pages pinned, so that sweeps warm many.
+/// Short runs from full frames with most pages pinned, so that sweeps warm many, and find none to take.
 #[test]
 fn held_pages() {
     let mut trial = Trial::new(4);
-    for count in [4, 16, 64] {
+    for (shape, count) in [4, 16, 64].map(|count| (Shape::Full, count)).into_iter().chain(FOUR) {
         for _ in 0..200 {
-            let state = trial.held(Shape::Full.state(count, 256));
-            let state = trial.marked(state);
+            let state = trial.held(shape.state(count, 256));
+            let mut state = trial.marked(state);
+            trial.lower_ceilings(&mut state);
             trial.run(state, 10);
         }
     }
     println!("{:?}, pages warmed {:?}", trial.given, trial.warmed);
     assert!(trial.warmed_from(2) > 200 && trial.warmed_from(32) > 20, "sweeps that warm pages");
+    trial.assert_often(&[
+        ("fix", 0),
+        ("fix", Refusal::NoFrame.number()),
+        ("fix", Refusal::AtCeiling.number()),
+    ]);
+}
+
+/// Short runs from full frames of four stores, at their ceilings or below.
+#[test]
+fn ceilings() {
+    let mut trial = Trial::new(6);
+    for (shape, count) in FOUR {
+        for _ in 0..200 {
+            let mut state = trial.marked(shape.state(count, 256));
+            trial.lower_ceilings(&mut state);
+            trial.run(state, 20);
+        }
+    }
+    println!("{:?}, taken {:?}", trial.given, trial.taken);
+    let met = [(true, true), (false, true), (false, false)];
+    let seldom: Vec<_> =
+        met.into_iter().filter(|met| trial.taken.get(met).is_none_or(|times| *times < 20)).collect();
+    assert!(
+        seldom.is_empty(),
+        "sweeps at the ceiling or below, that take an own page or not, seldom: {seldom:?}"
+    );
 }

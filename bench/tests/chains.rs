@@ -32,7 +32,14 @@ fn turn(random: &mut Random, state: &mut State) {
 #[test]
 fn forms_agree() {
     let (mut random, mut answers) = (Random::new(1), [0; 2]);
-    let alone = [(Shape::Full, 4), (Shape::Full, 64), (Shape::Opened, 16), (Shape::Leaves, 16)];
+    let alone = [
+        (Shape::Full, 4),
+        (Shape::Full, 64),
+        (Shape::Opened, 16),
+        (Shape::Leaves, 16),
+        (Shape::Four, 16),
+        (Shape::FourOpened, 8),
+    ];
     for (shape, count, pages) in alone.map(|(shape, count)| (shape, count, 256)).into_iter().chain(sharing())
     {
         let state = shape.state(count, pages);

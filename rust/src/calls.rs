@@ -1,6 +1,6 @@
 //! The thirteen calls, and the draw of a workload's next one, each on records, frames, store and directory lent by the caller.
 use crate::raw;
-use crate::records::{Entry, FrameIndex, Generator, Handle, PageNumber, Pool};
+use crate::records::{Entry, FrameIndex, Generator, Handle, PageNumber, Pool, StoreNumber, Stores};
 use crate::refusal::{unless_refused, Refusal};
 
 /// The answer of root and fix.
@@ -77,11 +77,16 @@ impl raw::Place {
     }
 }
 
-/// Begins with a store: page 0 is copied to frame 0, not pinned, and every other frame is empty. The directory is set over
-/// what it held: page 0 is alone in it. What an earlier pool has not settled is forgotten. Refused: 1, 16.
-pub fn open(frames: &mut [u8], store: &[u8], directory: &mut [u8]) -> Result<Pool, Refusal> {
+/// Begins with the stores as they are, one after another in `store`: page 0 of store t is copied to frame t, not pinned, and every
+/// other frame is empty. The directory is set over what it held: the roots are alone in it, entered from store 0 on. What an
+/// earlier pool has not settled is forgotten. Refused: 1, 16.
+///
+/// By [`WrongLength`](Refusal::WrongLength) too where T isn't 1 to 4 or doesn't divide the store into whole pages, where F is below
+/// T + 1, where the ceiling of a store isn't 1 to F, and where one from T on isn't 0. T and the ceilings can be others at each
+/// open.
+pub fn open(frames: &mut [u8], store: &[u8], directory: &mut [u8], stores: Stores) -> Result<Pool, Refusal> {
     let mut pool = Pool::ZERO;
-    open_into(&mut pool, frames, store, directory).map(|()| pool)
+    open_into(&mut pool, frames, store, directory, stores).map(|()| pool)
 }
 
 /// As [`open`], with the records put where they belong. Refused, those stay as they were, as the directory does.
@@ -90,6 +95,7 @@ pub(crate) fn open_into(
     frames: &mut [u8],
     store: &[u8],
     directory: &mut [u8],
+    stores: Stores,
 ) -> Result<(), Refusal> {
     // SAFETY: as in `call`.
     let done = unsafe {
@@ -100,24 +106,34 @@ pub(crate) fn open_into(
             store.len(),
             directory.as_mut_ptr(),
             directory.len(),
+            stores.count,
+            raw::Ceilings { most: stores.ceilings },
         )
     };
     unless_refused(done.refusal, ()).map(|()| *pool = done.pool)
 }
 
-/// Pins page 0. Refused: 1, 2, 13.
-pub fn root(pool: &mut Pool, frames: &[u8], store: &[u8], directory: &[u8]) -> Result<Fixed, Refusal> {
-    call!(pool_root(*pool, frames.as_ptr, store.as_ptr, directory.as_ptr)).answer(pool)
+/// Pins page 0 of a store. Refused: 1, 2, 28, 13.
+pub fn root(
+    pool: &mut Pool,
+    frames: &[u8],
+    store: &[u8],
+    directory: &[u8],
+    of_store: StoreNumber,
+) -> Result<Fixed, Refusal> {
+    call!(pool_root(*pool, frames.as_ptr, store.as_ptr, directory.as_ptr, of_store)).answer(pool)
 }
 
 /// Pins the page that a slot of the handle's page names, and loads it first if it isn't resident, into an empty frame or one
-/// that a sweep takes, whose page is evicted. Refused: 1, 2, 3, 4, 7; 13 if it is resident, 14 and 15 if not.
+/// that a sweep takes, whose page is evicted. Refused: 1, 2, 28, 3, 4, 7; 13 if it is resident, 14, 15 and 27 if not.
 ///
 /// A sweep takes a page that evict would accept: one of least usage, of several the first from the hand on. Pinned pages that
-/// it passes over, the root excepted, gain usage by each look, to 3 at most, so that a page which was held is still warm once
-/// its pins are gone. A fix that makes no sweep leaves the usage of every other page as it was.
+/// it passes over, the roots excepted, gain usage by each look, to 3 at most, so that a page which was held is still warm once
+/// its pins are gone. A fix that makes no sweep leaves the usage of every other page as it was. Where the store is at its ceiling,
+/// the sweep takes, warms and cools its own pages alone. A sweep takes at most 4 F looks.
 ///
-/// After [`NoFrame`](Refusal::NoFrame), unfix a page without resident children and fix again, or open with more frames.
+/// After [`NoFrame`](Refusal::NoFrame), unfix a page without resident children, of any store, and fix again, or open with more
+/// frames. After [`AtCeiling`](Refusal::AtCeiling) it has to be one of the store's own, or the store needs a higher ceiling.
 pub fn fix(
     pool: &mut Pool,
     frames: &mut [u8],
@@ -130,7 +146,7 @@ pub fn fix(
         .answer(pool)
 }
 
-/// Takes one pin off the handle's page. Refused: 1, 2, 3.
+/// Takes one pin off the handle's page. Refused: 1, 2, 28, 3.
 pub fn unfix(
     pool: &mut Pool,
     frames: &[u8],
@@ -141,15 +157,15 @@ pub fn unfix(
     call!(pool_unfix(*pool, frames.as_ptr, store.as_ptr, directory.as_ptr, handle)).answer(pool)
 }
 
-/// The payload of the handle's page, a part of the frames. Refused: 1, 2, 3.
+/// The payload of the handle's page, a part of the frames. Refused: 1, 2, 28, 3.
 ///
 /// Records and store can be changed while it is held:
 ///
 /// ```
-/// # use pagepool::{DIRECTORY_SIZE, PAGE_SIZE, PAYLOAD_SIZE};
+/// # use pagepool::{StoreNumber, Stores, DIRECTORY_SIZE, PAGE_SIZE, PAYLOAD_SIZE};
 /// # let (mut frames, mut store, mut directory) = ([0; 2 * PAGE_SIZE], [0; PAGE_SIZE], [0; DIRECTORY_SIZE]);
-/// # let mut pool = pagepool::open(&mut frames, &store, &mut directory)?;
-/// # let root = pagepool::root(&mut pool, &frames, &store, &directory)?.handle;
+/// # let mut pool = pagepool::open(&mut frames, &store, &mut directory, Stores::one(2))?;
+/// # let root = pagepool::root(&mut pool, &frames, &store, &directory, StoreNumber(0))?.handle;
 /// let payload = pagepool::show(&pool, &frames, &store, &directory, root)?;
 /// pagepool::settle(&mut pool, &frames, &mut store, &directory)?;
 /// assert_eq!(payload, [0; PAYLOAD_SIZE]);
@@ -165,19 +181,20 @@ pub fn show<'a>(
     call!(pool_show(*pool, frames.as_ptr, store.as_ptr, directory.as_ptr, handle)).part(frames)
 }
 
-/// The payload of a page, in the frames if it is resident, otherwise in the store. Refused: 1, 2, 6.
+/// The payload of a page, in the frames if it is resident, otherwise in its store. Refused: 1, 2, 28, 6.
 pub fn peek<'a>(
     pool: &Pool,
     frames: &'a [u8],
     store: &'a [u8],
     directory: &[u8],
+    of_store: StoreNumber,
     page: PageNumber,
 ) -> Result<&'a [u8], Refusal> {
-    let place = call!(pool_peek(*pool, frames.as_ptr, store.as_ptr, directory.as_ptr, page));
+    let place = call!(pool_peek(*pool, frames.as_ptr, store.as_ptr, directory.as_ptr, of_store, page));
     place.part(if place.in_store { store } else { frames })
 }
 
-/// The page that a slot of the handle's page names, if it names one, and whether that page is locked. Refused: 1, 2, 3, 4.
+/// The page that a slot of the handle's page names, if it names one, and whether that page is locked. Refused: 1, 2, 28, 3, 4.
 pub fn word(
     pool: &Pool,
     frames: &[u8],
@@ -192,7 +209,7 @@ pub fn word(
 }
 
 /// Puts bytes at an offset of the payload of the handle's page, which is then dirty unless there are none. In a locked page a write
-/// of no bytes is refused too. Refused: 1, 2, 3, 5, 26.
+/// of no bytes is refused too. Refused: 1, 2, 28, 3, 5, 26.
 pub fn write(
     pool: &mut Pool,
     frames: &mut [u8],
@@ -216,20 +233,21 @@ pub fn write(
 }
 
 /// Stores a page number in an empty slot of the handle's page, which is then dirty; with `locked`, the word marks the page of that
-/// number as locked. After [`FullSlot`](Refusal::FullSlot) the page can go into an empty slot, after
-/// [`AlreadyNamed`](Refusal::AlreadyNamed) into none until the word that names it is unlinked. Refused: 1, 2, 3, 4, 26, 6, 9, 8.
+/// number, of the handle's store, as locked. After [`FullSlot`](Refusal::FullSlot) the page can go into an empty slot, after
+/// [`AlreadyNamed`](Refusal::AlreadyNamed) into none until the word that names it is unlinked; words of other stores name other
+/// pages. Refused: 1, 2, 28, 3, 4, 26, 6, 9, 8.
 ///
 /// A linked page gets the mark, or loses it, by three calls: evict it if it is resident, unlink it, and link it anew:
 ///
 /// ```
-/// # use pagepool::{Named, PageNumber, PagePool, Refusal, PAGE_SIZE};
+/// # use pagepool::{Named, PageNumber, PagePool, Refusal, StoreNumber, Stores, PAGE_SIZE};
 /// # let mut pool = PagePool::new([0; 2 * PAGE_SIZE], [0; 8 * PAGE_SIZE]);
-/// # pool.open()?;
-/// # let root = pool.root()?.handle;
+/// # pool.open(Stores::one(2))?;
+/// # let root = pool.root(StoreNumber(0))?.handle;
 /// # pool.link(root, 3, PageNumber(7), false)?;
 /// # let seven = pool.fix(root, 3)?.handle;
 /// # pool.unfix(seven)?;
-/// pool.evict(PageNumber(7))?;
+/// pool.evict(seven.store, seven.page)?;
 /// pool.unlink(root, 3)?;
 /// pool.link(root, 3, PageNumber(7), true)?;
 /// assert_eq!(pool.word(root, 3)?, Some(Named { page: PageNumber(7), locked: true }));
@@ -253,7 +271,7 @@ pub fn link(
         .answer(pool)
 }
 
-/// Clears a slot of the handle's page, which is then dirty. A mark there goes with it. Refused: 1, 2, 3, 4, 26, 7, 10.
+/// Clears a slot of the handle's page, which is then dirty. A mark there goes with it. Refused: 1, 2, 28, 3, 4, 26, 7, 10.
 pub fn unlink(
     pool: &mut Pool,
     frames: &mut [u8],
@@ -265,46 +283,50 @@ pub fn unlink(
     call!(pool_unlink(*pool, frames.as_mut_ptr, store.as_ptr, directory.as_ptr, handle, slot)).answer(pool)
 }
 
-/// Takes a page out of its frame, to the store if it is dirty. A resident page that has to stay is refused by the first of three
-/// reasons that holds. After [`IsRoot`](Refusal::IsRoot) nothing helps: the root stays, pinned or not. After
+/// Takes a page out of its frame, to its store if it is dirty. A resident page that has to stay is refused by the first of three
+/// reasons that holds. After [`IsRoot`](Refusal::IsRoot) nothing helps: a root stays, pinned or not. After
 /// [`IsPinned`](Refusal::IsPinned) unfix the page until its pins are gone; one that names resident pages too is refused by
 /// [`IsParent`](Refusal::IsParent) then. After `IsParent` first evict the resident pages that it names: the used records whose
 /// parent is its frame have their numbers. Where one of them is refused by `IsPinned` or `IsParent` in turn, do there what is
-/// said here. Refused: 1, 2, 6, 11, 20, 21, 22.
+/// said here. Refused: 1, 2, 28, 6, 11, 20, 21, 22.
 pub fn evict(
     pool: &mut Pool,
     frames: &mut [u8],
     store: &mut [u8],
     directory: &mut [u8],
+    of_store: StoreNumber,
     page: PageNumber,
 ) -> Result<(), Refusal> {
-    call!(pool_evict(*pool, frames.as_mut_ptr, store.as_mut_ptr, directory.as_mut_ptr, page)).answer(pool)
+    call!(pool_evict(*pool, frames.as_mut_ptr, store.as_mut_ptr, directory.as_mut_ptr, of_store, page))
+        .answer(pool)
 }
 
-/// Writes each dirty page to the store, and marks it clean. Refused: 1, 2.
+/// Writes each dirty page to its store, in all stores, and marks it clean. Refused: 1, 2.
 pub fn settle(pool: &mut Pool, frames: &[u8], store: &mut [u8], directory: &[u8]) -> Result<(), Refusal> {
     call!(pool_settle(*pool, frames.as_ptr, store.as_mut_ptr, directory.as_ptr)).answer(pool)
 }
 
 /// The frame that holds a page, none if it isn't resident, and the entries of the page's chain in the directory that were
 /// compared: its place there, from 1, or the chain's length if it isn't resident. That is never more than the resident pages with
-/// its remainder by 67. The last of a chain and an absent page take as many: `frame` tells them apart. Refused: 1, 2, 6.
+/// its remainder by 67, of all stores: their entries share the chains, and each that is compared counts. The last of a chain and an
+/// absent page take as many: `frame` tells them apart. Refused: 1, 2, 28, 6.
 ///
 /// Pages 5 and 72 share a chain, and the one that was loaded last stands first:
 ///
 /// ```
-/// # use pagepool::{Found, FrameIndex, PageNumber, PagePool, PAGE_SIZE};
+/// # use pagepool::{Found, FrameIndex, PageNumber, PagePool, StoreNumber, Stores, PAGE_SIZE};
 /// # let mut pool = PagePool::new([0; 3 * PAGE_SIZE], vec![0; 200 * PAGE_SIZE]);
-/// # pool.open()?;
-/// # let root = pool.root()?.handle;
+/// # pool.open(Stores::one(3))?;
+/// let store = StoreNumber(0);
+/// # let root = pool.root(store)?.handle;
 /// # pool.link(root, 0, PageNumber(5), false)?;
 /// # pool.link(root, 1, PageNumber(72), false)?;
 /// pool.fix(root, 0)?;
 /// pool.fix(root, 1)?;
-/// assert_eq!(pool.find(PageNumber(72))?, Found { frame: Some(FrameIndex(2)), compared: 1 });
-/// assert_eq!(pool.find(PageNumber(5))?, Found { frame: Some(FrameIndex(1)), compared: 2 });
-/// assert_eq!(pool.find(PageNumber(139))?, Found { frame: None, compared: 2 });
-/// assert_eq!(pool.find(PageNumber(6))?, Found { frame: None, compared: 0 });
+/// assert_eq!(pool.find(store, PageNumber(72))?, Found { frame: Some(FrameIndex(2)), compared: 1 });
+/// assert_eq!(pool.find(store, PageNumber(5))?, Found { frame: Some(FrameIndex(1)), compared: 2 });
+/// assert_eq!(pool.find(store, PageNumber(139))?, Found { frame: None, compared: 2 });
+/// assert_eq!(pool.find(store, PageNumber(6))?, Found { frame: None, compared: 0 });
 /// # Ok::<(), pagepool::Refusal>(())
 /// ```
 pub fn find(
@@ -312,9 +334,10 @@ pub fn find(
     frames: &[u8],
     store: &[u8],
     directory: &[u8],
+    of_store: StoreNumber,
     page: PageNumber,
 ) -> Result<Found, Refusal> {
-    let found = call!(pool_find(*pool, frames.as_ptr, store.as_ptr, directory.as_ptr, page));
+    let found = call!(pool_find(*pool, frames.as_ptr, store.as_ptr, directory.as_ptr, of_store, page));
     let frame = found.present.then_some(found.frame);
     unless_refused(found.refusal, Found { frame, compared: found.compared })
 }
@@ -333,18 +356,18 @@ impl Generator {
 /// The numbers are those of the 32-bit xorshift generator of Marsaglia with shifts left 13, right 17, left 5. Call, frame, page,
 /// slot and offset are their remainders by 9 (plus 1), F, N, 16 and 193, in this order, whichever the call uses. Length and data
 /// are 0, but that link's handle has the page that is in the drawn frame, or 0 where that is empty. A record has no mark: its link
-/// is made with `locked` false.
+/// is made with `locked` false. It names no store: on a pool of several, which one its call is made in is for the host to say.
 ///
 /// Where each record is drawn on the pool as the calls before left it, and then run, a seed gives the same on every machine:
 ///
 /// ```
-/// use pagepool::{Generator, PagePool, PAGE_SIZE};
+/// use pagepool::{Generator, PagePool, StoreNumber, Stores, PAGE_SIZE};
 ///
 /// let mut pool = PagePool::new([0; 4 * PAGE_SIZE], [0; 16 * PAGE_SIZE]);
-/// pool.open()?;
+/// pool.open(Stores::one(4))?;
 /// let mut generator = Generator::seeded(1);
 /// assert_eq!(pool.draw(&mut generator)?[..6], [1, 1, 5, 0, 15, 120]); // root
-/// pool.root()?;
+/// pool.root(StoreNumber(0))?;
 /// assert_eq!(pool.draw(&mut generator)?[..6], [8, 2, 2, 0, 5, 172]); // settle
 /// pool.settle()?;
 /// assert_eq!(generator.number, 2916098932);

@@ -1,8 +1,14 @@
 //! The exported functions and the structs that they answer, as `include/pagepool.h` declares and explains them.
 #![allow(missing_docs)]
 
-use crate::records::{Entry, FrameIndex, Generator, Handle, PageNumber, Pool};
+use crate::records::{Entry, FrameIndex, Generator, Handle, PageNumber, Pool, StoreNumber, MOST_STORES};
 use crate::tally::TallyHead;
+
+#[repr(C)]
+#[derive(Clone, Copy, Debug)]
+pub struct Ceilings {
+    pub most: [u8; MOST_STORES],
+}
 
 #[repr(C)]
 #[derive(Clone, Copy, Debug)]
@@ -89,12 +95,12 @@ macro_rules! exported {
 
 exported! {
     *const u8, *const u8, *const u8;
-    pool_root() -> Fixed;
+    pool_root(of_store: StoreNumber) -> Fixed;
     pool_unfix(handle: Handle) -> Done;
     pool_show(handle: Handle) -> Place;
-    pool_peek(page: PageNumber) -> Place;
+    pool_peek(of_store: StoreNumber, page: PageNumber) -> Place;
     pool_word(handle: Handle, slot: usize) -> Named;
-    pool_find(page: PageNumber) -> Found;
+    pool_find(of_store: StoreNumber, page: PageNumber) -> Found;
     pool_draw(generator: Generator) -> Drawn;
 }
 
@@ -113,7 +119,7 @@ exported! {
 exported! {
     *mut u8, *mut u8, *mut u8;
     pool_fix(handle: Handle, slot: usize) -> Fixed;
-    pool_evict(page: PageNumber) -> Done;
+    pool_evict(of_store: StoreNumber, page: PageNumber) -> Done;
 }
 
 extern "C" {
@@ -124,6 +130,8 @@ extern "C" {
         store_size: usize,
         directory: *mut u8,
         directory_size: usize,
+        stores: u8,
+        ceilings: Ceilings,
     ) -> Done;
 
     pub fn pool_seeded(seed: u32) -> Generator;

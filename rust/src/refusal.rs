@@ -35,15 +35,16 @@ macro_rules! rules {
 }
 
 rules! {
-    WrongLength = 1, "Frames, store, directory, counters, hits or recording have a wrong length, or not that of opening, or the tally is full.";
-    Disagree = 2, "Records, frames and directory don't agree, or a tally's references with its recordings or its counters.";
-    BadHandle = 3, "The handle's frame isn't below F or doesn't hold its page, or that has no pins.";
+    WrongLength = 1, "A wrong length (frames, store, directory, counters, hits, recording), T or a ceiling out of its range, or a full tally.";
+    Disagree = 2, "Records, frames, directory and ceilings don't agree, or a tally's references with its recordings or its counters.";
+    BadStore = 28, "The store number isn't below T.";
+    BadHandle = 3, "The handle's frame isn't below F or doesn't hold its page of its store, or that has no pins.";
     BadSlot = 4, "The slot is above 15.";
     BadRange = 5, "The offset is above 192, or the length above 192 - offset.";
     IsLocked = 26, "The handle's page is locked. To free it, unfix, evict and unlink it, and link it again without the mark.";
     BadPage = 6, "The page number isn't below N, is 0 in link, or is above 4,095 in a recording.";
     EmptySlot = 7, "Fix or unlink meets a word of 0.";
-    AlreadyNamed = 9, "Link's page is named already, by a word of any page.";
+    AlreadyNamed = 9, "Link's page is named already, by a word of any page of its store.";
     FullSlot = 8, "Link meets a word that isn't 0.";
     Resident = 10, "Unlink's page is resident.";
     NotResident = 11, "Evict's page isn't resident.";
@@ -52,8 +53,9 @@ rules! {
     IsParent = 22, "Evict's page names a resident page. First evict the resident pages that it names.";
     TooManyPins = 13, "A resident page to be pinned has 65,535 pins.";
     BadStoredPage = 14, "The stored page to be loaded has words that it can't have: only after the store was altered from outside.";
-    NoFrame = 15, "No frame is empty, and a sweep could take none.";
-    UnsoundStore = 16, "Open's store isn't sound: a word names no page below N, or a number stands in two words.";
+    NoFrame = 15, "The store is below its ceiling, no frame is empty, and a sweep could take none.";
+    AtCeiling = 27, "The store is at its ceiling, and has no page of its own that a sweep could take.";
+    UnsoundStore = 16, "A store of open isn't sound: a word names no page below N, or a number stands in two words of it.";
 }
 
 impl Refusal {

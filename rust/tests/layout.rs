@@ -1,12 +1,13 @@
 //! Reads back every field of the structs that the library fills with values of their own, and compares versions.
 use pagepool::raw;
 use pagepool::{
-    FrameIndex, FrameRecord, Generator, Handle, PageNumber, Pool, TallyHead, BUCKETS, DIRECTORY_SIZE,
-    MOST_FRAMES,
+    FrameIndex, FrameRecord, Generator, Handle, PageNumber, Pool, StoreNumber, TallyHead, BUCKETS,
+    DIRECTORY_SIZE, MOST_FRAMES, MOST_STORES,
 };
 
 fn expect_pool(pool: Pool) {
     assert_eq!((pool.count, pool.pages, pool.hand), (3001, 3002, FrameIndex(200)));
+    assert_eq!((pool.stores, pool.ceilings), (227, [228, 229, 230, 231]));
     for i in 0..MOST_FRAMES as u8 {
         let wide = u16::from(i);
         let expected = FrameRecord {
@@ -15,6 +16,7 @@ fn expect_pool(pool: Pool) {
             usage: i,
             slot: 64 + i,
             parent: FrameIndex(128 + i),
+            store: StoreNumber(63 - i),
             pins: 1000 + wide,
             page: PageNumber(2000 + wide),
         };
@@ -34,7 +36,8 @@ fn done() {
 fn fixed() {
     let fixed = unsafe { raw::pool_layout_fixed() };
     assert_eq!(fixed.refusal, 202);
-    assert_eq!(fixed.handle, Handle { frame: FrameIndex(203), page: PageNumber(4001) });
+    let handle = Handle { frame: FrameIndex(203), store: StoreNumber(232), page: PageNumber(4001) };
+    assert_eq!(fixed.handle, handle);
     assert_eq!(fixed.looks, 4002);
     expect_pool(fixed.pool);
 }
@@ -90,12 +93,13 @@ fn version() {
     }
 }
 
-/// And so are the bit that marks a locked page, and the figures of the directory.
+/// And so are the bit that marks a locked page, the most stores, and the figures of the directory.
 #[test]
 fn figures() {
     let header = include_str!("../../include/pagepool.h");
     for (name, figure) in [
         ("LOCK_BIT", format!("{:#x}u", pagepool::LOCK_BIT)),
+        ("MOST_STORES", MOST_STORES.to_string()),
         ("BUCKETS", BUCKETS.to_string()),
         ("DIRECTORY_SIZE", DIRECTORY_SIZE.to_string()),
     ] {

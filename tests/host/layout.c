@@ -23,11 +23,15 @@ static void expect_pool(struct pool pool)
         EXPECT(record.usage, i);
         EXPECT(record.slot, 64 + i);
         EXPECT(record.parent, 128 + i);
+        EXPECT(record.store, 63 - i);
         EXPECT(record.pins, 1000 + i);
         EXPECT(record.page, 2000 + i);
     }
     EXPECT(pool.count, 3001);
     EXPECT(pool.pages, 3002);
+    EXPECT(pool.stores, 227);
+    for (unsigned i = 0; i < POOL_MOST_STORES; i++)
+        EXPECT(pool.ceilings[i], 228 + i);
     EXPECT(pool.hand, 200);
 }
 
@@ -40,6 +44,7 @@ int main(void)
     struct pool_fixed fixed = pool_layout_fixed();
     EXPECT(fixed.refusal, 202);
     EXPECT(fixed.handle.frame, 203);
+    EXPECT(fixed.handle.store, 232);
     EXPECT(fixed.handle.page, 4001);
     EXPECT(fixed.looks, 4002);
     expect_pool(fixed.pool);

@@ -1,23 +1,24 @@
 //! A call with its arguments as a value, and its answer.
 use crate::pool::{Fixed, Found, Machine, Named, Place, Refusal};
-use crate::records::{Handle, PageNumber, Pool, State};
+use crate::records::{page, Handle, PageNumber, Pool, State, StoreNumber, Stores};
 
+/// A store's number stands before a page's.
 #[derive(Clone, Debug, PartialEq, Eq)]
 pub enum Call {
-    Open,
-    Root,
+    Open(Stores),
+    Root(u8),
     Fix(Handle, usize),
     Unfix(Handle),
     Show(Handle),
-    Peek(u16),
+    Peek(u8, u16),
     Word(Handle, usize),
     Write(Handle, usize, Vec<u8>),
     /// With the mark that the word gets.
     Link(Handle, usize, u16, bool),
     Unlink(Handle, usize),
-    Evict(u16),
+    Evict(u8, u16),
     Settle,
-    Find(u16),
+    Find(u8, u16),
 }
 
 /// The names of the calls, in the order of `Call::index`.
@@ -60,8 +61,8 @@ fn answer<T>(result: Result<T, Refusal>, accepted: impl FnOnce(T) -> Answer) -> 
 impl Call {
     pub fn index(&self) -> usize {
         match self {
-            Call::Open => 0,
-            Call::Root => 1,
+            Call::Open(_) => 0,
+            Call::Root(_) => 1,
             Call::Fix(..) => 2,
             Call::Unfix(..) => 3,
             Call::Show(..) => 4,
@@ -80,27 +81,27 @@ impl Call {
     pub fn make(&self, machine: &impl Machine, state: &mut State) -> Answer {
         let done = |()| Answer::Done;
         match self {
-            Call::Open => reopen(machine, state),
-            Call::Root => answer(machine.root(state), Answer::Fixed),
+            Call::Open(stores) => reopen(machine, state, *stores),
+            Call::Root(store) => answer(machine.root(state, StoreNumber(*store)), Answer::Fixed),
             Call::Fix(handle, slot) => answer(machine.fix(state, *handle, *slot), Answer::Fixed),
             Call::Unfix(handle) => answer(machine.unfix(state, *handle), done),
             Call::Show(handle) => answer(machine.show(state, *handle), Answer::Place),
-            Call::Peek(page) => answer(machine.peek(state, PageNumber(*page)), Answer::Place),
+            Call::Peek(store, number) => answer(machine.peek(state, page(*store, *number)), Answer::Place),
             Call::Word(handle, slot) => answer(machine.word(state, *handle, *slot), Answer::Named),
             Call::Write(handle, offset, bytes) => answer(machine.write(state, *handle, *offset, bytes), done),
             Call::Link(handle, slot, page, locked) => {
                 answer(machine.link(state, *handle, *slot, PageNumber(*page), *locked), done)
             }
             Call::Unlink(handle, slot) => answer(machine.unlink(state, *handle, *slot), done),
-            Call::Evict(page) => answer(machine.evict(state, PageNumber(*page)), done),
+            Call::Evict(store, number) => answer(machine.evict(state, page(*store, *number)), done),
             Call::Settle => answer(machine.settle(state), done),
-            Call::Find(page) => answer(machine.find(state, PageNumber(*page)), Answer::Found),
+            Call::Find(store, number) => answer(machine.find(state, page(*store, *number)), Answer::Found),
         }
     }
 }
 
-fn reopen(machine: &impl Machine, state: &mut State) -> Answer {
-    let (opened, records) = machine.open(&mut state.frames, &mut state.store, &mut state.directory);
+fn reopen(machine: &impl Machine, state: &mut State, stores: Stores) -> Answer {
+    let (opened, records) = machine.open(&mut state.frames, &mut state.store, &mut state.directory, stores);
     match opened {
         Ok(()) => state.pool = records,
         Err(_) => assert_eq!(records, Pool::ZERO, "the records of a refused open"),

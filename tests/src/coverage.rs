@@ -1,11 +1,13 @@
 //! How often each call met each answer, a link into a taken slot each namer of its page, an evict each reason to stay, a fix what
 //! it can do to usages, a find what it can meet in a chain, a draw what it can show, and any call what it can do to chains, and
-//! what it can meet of marks and locked pages.
+//! what it can meet of marks and locked pages, of several stores, and of T and ceilings.
 use crate::calls::{Answer, Call, DRAW, NAMES};
 use crate::model::chains::Turn;
 use crate::model::drawing::Drawing;
+use crate::model::figures::Figure;
 use crate::model::locks::Lock;
 use crate::model::search::Met;
+use crate::model::sharing::Sharing;
 use crate::model::stays::Stay;
 use crate::model::taken::Namer;
 use crate::model::warmth::Warmth;
@@ -28,6 +30,8 @@ pub struct Coverage {
     turns: BTreeMap<Turn, u64>,
     drawings: BTreeMap<Drawing, u64>,
     locks: BTreeMap<Lock, u64>,
+    sharings: BTreeMap<Sharing, u64>,
+    figures: BTreeMap<Figure, u64>,
     sweeps: u64,
     most_looks: u16,
 }
@@ -91,6 +95,20 @@ impl Coverage {
         }
     }
 
+    /// Counts what a call met of several stores.
+    pub fn count_sharings(&mut self, sharings: BTreeSet<Sharing>) {
+        for sharing in sharings {
+            *self.sharings.entry(sharing).or_default() += 1;
+        }
+    }
+
+    /// Counts what a call met of T, of ceilings and of the stores of records.
+    pub fn count_figures(&mut self, figures: BTreeSet<Figure>) {
+        for figure in figures {
+            *self.figures.entry(figure).or_default() += 1;
+        }
+    }
+
     /// The pairs of the table that have a wanted answer and did not occur.
     pub fn missing(&self, table: &Table, wanted: &[u8]) -> Vec<Pair> {
         let possible = table.rules.iter().flat_map(|rule| rule.calls.iter().map(|call| (*call, rule.number)));
@@ -130,6 +148,16 @@ impl Coverage {
     /// Those of the wanted ones that no call met of marks and of locked pages.
     pub fn missing_locks(&self, wanted: &[Lock]) -> Vec<Lock> {
         wanted.iter().copied().filter(|lock| !self.locks.contains_key(lock)).collect()
+    }
+
+    /// What no call met of several stores.
+    pub fn missing_sharings(&self) -> Vec<Sharing> {
+        Sharing::ALL.into_iter().filter(|sharing| !self.sharings.contains_key(sharing)).collect()
+    }
+
+    /// Those of the wanted ones that no call met of T, of ceilings and of the stores of records.
+    pub fn missing_figures(&self, wanted: &[Figure]) -> Vec<Figure> {
+        wanted.iter().copied().filter(|figure| !self.figures.contains_key(figure)).collect()
     }
 
     /// The pairs that occurred and are not in the table.
@@ -182,6 +210,14 @@ impl fmt::Display for Coverage {
         write!(f, "\nmarks and locked pages:")?;
         for (lock, count) in &self.locks {
             write!(f, " {lock:?}:{count}")?;
+        }
+        write!(f, "\nseveral stores:")?;
+        for (sharing, count) in &self.sharings {
+            write!(f, " {sharing:?}:{count}")?;
+        }
+        write!(f, "\nT, ceilings and the stores of records:")?;
+        for (figure, count) in &self.figures {
+            write!(f, " {figure:?}:{count}")?;
         }
         writeln!(f, "\n{} calls, {} pairs of call and answer", self.calls(), self.counts.len())?;
         write!(f, "{} sweeps took a frame, in up to {} looks", self.sweeps, self.most_looks)

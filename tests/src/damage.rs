@@ -11,12 +11,16 @@ use random::Random;
 type Change = fn(&mut Random, &mut State);
 
 /// Changes of any part, most of which break rule 1 or 2.
-const DAMAGES: [Change; 36] = [
+const DAMAGES: [Change; 42] = [
     records::field,
     records::field,
     records::bit,
     records::whole,
     records::figure,
+    records::store,
+    records::store,
+    records::stores,
+    records::stores,
     buffers::bit,
     buffers::word,
     buffers::word,
@@ -25,6 +29,8 @@ const DAMAGES: [Change; 36] = [
     shapes::parent_loop,
     shapes::number_twice,
     shapes::moved_child,
+    shapes::moved_store,
+    shapes::other_roots_word,
     shapes::slot_in_payload,
     shapes::below_empty,
     shapes::first_word,
@@ -51,8 +57,10 @@ const DAMAGES: [Change; 36] = [
 ];
 
 /// Changes that leave records, frames and directory in agreement, so that calls go on from there.
-const ALTERATIONS: [Change; 9] = [
+const ALTERATIONS: [Change; 11] = [
     records::counts,
+    records::ceiling,
+    records::ceiling,
     records::most_pins,
     buffers::payload,
     buffers::stored_word,

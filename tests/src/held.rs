@@ -2,7 +2,9 @@
 //! with one of another length can't be held so.
 use crate::package::{fixed, found, named, numbered, place, Answered};
 use crate::pool::{Fixed, Found, Machine, Named, Place, Refusal};
-use crate::records::{Entry, Generator, Handle, PageNumber, Pool, State, DIRECTORY_SIZE};
+use crate::records::{
+    Entry, Generator, Handle, Page, PageNumber, Pool, State, StoreNumber, Stores, DIRECTORY_SIZE,
+};
 use pagepool::PagePool;
 
 pub struct Held;
@@ -40,16 +42,22 @@ fn shared(state: &State) -> PagePool<&[u8], &[u8]> {
 
 impl Machine for Held {
     /// A refused open gives no records here.
-    fn open(&self, frames: &mut [u8], store: &mut [u8], directory: &mut [u8]) -> (Result<(), Refusal>, Pool) {
+    fn open(
+        &self,
+        frames: &mut [u8],
+        store: &mut [u8],
+        directory: &mut [u8],
+        stores: Stores,
+    ) -> (Result<(), Refusal>, Pool) {
         let mut pool = PagePool::new(frames, store);
         pool.directory.copy_from_slice(directory);
-        let opened = pool.open();
+        let opened = pool.open(stores);
         directory.copy_from_slice(&pool.directory);
         (numbered(opened), pool.records)
     }
 
-    fn root(&self, state: &mut State) -> Result<Fixed, Refusal> {
-        fixed(change(state, |pool| pool.root()))
+    fn root(&self, state: &mut State, of_store: StoreNumber) -> Result<Fixed, Refusal> {
+        fixed(change(state, |pool| pool.root(of_store)))
     }
 
     fn fix(&self, state: &mut State, handle: Handle, slot: usize) -> Result<Fixed, Refusal> {
@@ -64,8 +72,8 @@ impl Machine for Held {
         place(state, shared(state).show(handle))
     }
 
-    fn peek(&self, state: &State, page: PageNumber) -> Result<Place, Refusal> {
-        place(state, shared(state).peek(page))
+    fn peek(&self, state: &State, page: Page) -> Result<Place, Refusal> {
+        place(state, shared(state).peek(page.store, page.number))
     }
 
     fn word(&self, state: &State, handle: Handle, slot: usize) -> Result<Named, Refusal> {
@@ -91,16 +99,16 @@ impl Machine for Held {
         numbered(change(state, |pool| pool.unlink(handle, slot)))
     }
 
-    fn evict(&self, state: &mut State, page: PageNumber) -> Result<(), Refusal> {
-        numbered(change(state, |pool| pool.evict(page)))
+    fn evict(&self, state: &mut State, page: Page) -> Result<(), Refusal> {
+        numbered(change(state, |pool| pool.evict(page.store, page.number)))
     }
 
     fn settle(&self, state: &mut State) -> Result<(), Refusal> {
         numbered(change(state, |pool| pool.settle()))
     }
 
-    fn find(&self, state: &State, page: PageNumber) -> Result<Found, Refusal> {
-        found(shared(state).find(page))
+    fn find(&self, state: &State, page: Page) -> Result<Found, Refusal> {
+        found(shared(state).find(page.store, page.number))
     }
 
     fn seeded(&self, seed: u32) -> Generator {

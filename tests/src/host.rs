@@ -1,6 +1,8 @@
 //! The linked library `pagepool`, behind the same trait as the model.
 use crate::pool::{Buffer, Fixed, Found, Machine, Named, Place, Refusal};
-use crate::records::{self, Entry, FrameIndex, Generator, Handle, PageNumber, Pool, State};
+use crate::records::{
+    self, Entry, FrameIndex, Generator, Handle, Page, PageNumber, Pool, State, StoreNumber, Stores,
+};
 use pagepool::raw;
 
 /// Lends a state to a function that may change it, or to one that only reads.
@@ -80,7 +82,13 @@ fn drawn(answer: raw::Drawn, generator: &mut Generator) -> Result<Entry, Refusal
 pub struct Library;
 
 impl Machine for Library {
-    fn open(&self, frames: &mut [u8], store: &mut [u8], directory: &mut [u8]) -> (Result<(), Refusal>, Pool) {
+    fn open(
+        &self,
+        frames: &mut [u8],
+        store: &mut [u8],
+        directory: &mut [u8],
+        stores: Stores,
+    ) -> (Result<(), Refusal>, Pool) {
         // SAFETY: as in `lend`.
         let done = unsafe {
             raw::pool_open(
@@ -90,13 +98,15 @@ impl Machine for Library {
                 store.len(),
                 directory.as_mut_ptr(),
                 directory.len(),
+                stores.count,
+                raw::Ceilings { most: stores.ceilings },
             )
         };
         (unless_refused(done.refusal, true, ()), done.pool)
     }
 
-    fn root(&self, state: &mut State) -> Result<Fixed, Refusal> {
-        fixed(lend!(mut state, pool_root), state)
+    fn root(&self, state: &mut State, of_store: StoreNumber) -> Result<Fixed, Refusal> {
+        fixed(lend!(mut state, pool_root, of_store), state)
     }
 
     fn fix(&self, state: &mut State, handle: Handle, slot: usize) -> Result<Fixed, Refusal> {
@@ -111,8 +121,8 @@ impl Machine for Library {
         place(lend!(state, pool_show, handle))
     }
 
-    fn peek(&self, state: &State, page: PageNumber) -> Result<Place, Refusal> {
-        place(lend!(state, pool_peek, page))
+    fn peek(&self, state: &State, page: Page) -> Result<Place, Refusal> {
+        place(lend!(state, pool_peek, page.store, page.number))
     }
 
     fn word(&self, state: &State, handle: Handle, slot: usize) -> Result<Named, Refusal> {
@@ -138,16 +148,16 @@ impl Machine for Library {
         done(lend!(mut state, pool_unlink, handle, slot), state)
     }
 
-    fn evict(&self, state: &mut State, page: PageNumber) -> Result<(), Refusal> {
-        done(lend!(mut state, pool_evict, page), state)
+    fn evict(&self, state: &mut State, page: Page) -> Result<(), Refusal> {
+        done(lend!(mut state, pool_evict, page.store, page.number), state)
     }
 
     fn settle(&self, state: &mut State) -> Result<(), Refusal> {
         done(lend!(mut state, pool_settle), state)
     }
 
-    fn find(&self, state: &State, page: PageNumber) -> Result<Found, Refusal> {
-        found(lend!(state, pool_find, page))
+    fn find(&self, state: &State, page: Page) -> Result<Found, Refusal> {
+        found(lend!(state, pool_find, page.store, page.number))
     }
 
     fn seeded(&self, seed: u32) -> Generator {

@@ -1,4 +1,4 @@
-//! A naive model of document 01, the plain map of demand 3, and what drives them against the pool.
+//! A naive model of documents 01 and 02, the plain maps of demand 3, and what drives them against the pool.
 //!
 //! - `records`, `pool`, `calls`: the pool's data, its thirteen calls and the draw of a record as a trait, a call as a value.
 //! - `model`, `host`, `package`, `held`: the machines, document 01 as a program, the linked library, and that through its wrappers,

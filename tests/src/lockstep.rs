@@ -3,9 +3,9 @@
 use crate::calls::{Answer, Call};
 use crate::coverage::Coverage;
 use crate::ensure;
-use crate::model::{chains, drawing, locks, search, stays, taken, warmth, Model};
+use crate::model::{chains, drawing, figures, locks, search, sharing, stays, taken, warmth, Model};
 use crate::pool::{Machine, Refusal};
-use crate::records::{Entry, Generator, PageNumber, State};
+use crate::records::{page, Entry, Generator, PageNumber, State};
 
 /// Makes a call, which must answer what is wanted and leave what is expected.
 fn compare(
@@ -28,7 +28,8 @@ fn compare(
 /// but where request A.9 changes it, evict be refused by the reason for which the page stays, fix take the frame that document
 /// 01's sweep takes and leave the usages that request A.5 asks for, find and peek answer as document 01's do, with the entries
 /// compared of request A.3, and every call leave the directory's chains as that says. An edit must be refused where request A.8
-/// says so and nowhere else, and every other call leave what words name and mark.
+/// says so and nowhere else, and every other call leave what words name and mark. No store may be above its ceiling, and a load be
+/// denied where request A.11 says so and nowhere else, and leave the other stores what they were.
 pub fn step(
     machine: &impl Machine,
     state: &mut State,
@@ -71,13 +72,15 @@ fn requests(
         Call::Link(handle, slot, page, _) => {
             coverage.count_namer(taken::compare(before, *handle, *slot, PageNumber(*page), number)?);
         }
-        Call::Evict(page) => coverage.count_stay(stays::compare(before, PageNumber(*page), number)?),
-        Call::Find(page) => coverage.count_met(search::compare_find(before, PageNumber(*page), answer)?),
-        Call::Peek(page) => search::compare_peek(before, PageNumber(*page), answer)?,
+        Call::Evict(store, of) => coverage.count_stay(stays::compare(before, page(*store, *of), number)?),
+        Call::Find(store, of) => coverage.count_met(search::compare_find(before, page(*store, *of), answer)?),
+        Call::Peek(store, of) => search::compare_peek(before, page(*store, *of), answer)?,
         _ => (),
     }
     coverage.count_turns(chains::compare((before, after), call, answer)?);
     coverage.count_locks(locks::compare((before, after), call, answer)?);
+    coverage.count_sharings(sharing::compare((before, after), call, answer)?);
+    coverage.count_figures(figures::met(before, call, answer));
     Ok(())
 }
 

@@ -3,10 +3,12 @@ mod agreement;
 pub mod chains;
 pub mod directory;
 pub mod drawing;
+pub mod figures;
 pub mod locks;
 mod moves;
 mod rules;
 pub mod search;
+pub mod sharing;
 pub mod stays;
 pub mod taken;
 pub mod warmth;
@@ -14,9 +16,9 @@ pub mod workload;
 
 use crate::pool::{Buffer, Fixed, Found, Machine, Named, Place, Refusal};
 use crate::records::{
-    is_marked, mark_of, page_of, page_of_mut, put_word, unmarked, with_mark, word_in, Entry, FrameIndex,
-    FrameRecord, Generator, Handle, PageNumber, Pool, State, MAX_USAGE, PAGE_SIZE, PAYLOAD_SIZE,
-    PAYLOAD_START, SLOTS, SWIZZLE_BIT,
+    handle_of, is_marked, mark_of, page_of, page_of_mut, put_word, unmarked, with_mark, word_in, Entry,
+    FrameIndex, FrameRecord, Generator, Handle, Page, PageNumber, Pool, State, StoreNumber, Stores,
+    MAX_USAGE, PAGE_SIZE, PAYLOAD_SIZE, PAYLOAD_START, SLOTS, SWIZZLE_BIT,
 };
 use rules::rule;
 
@@ -66,12 +68,37 @@ fn occupied(pool: &Pool) -> impl Iterator<Item = FrameIndex> + Clone + '_ {
     (0..pool.count as u8).map(FrameIndex).filter(|frame| pool.record(*frame).is_used())
 }
 
-/// The frame that holds a page, by the records. Find and peek go by the directory.
-fn frame_of(pool: &Pool, page: PageNumber) -> Option<FrameIndex> {
-    occupied(pool).find(|frame| pool.record(*frame).page == page)
+/// The page in an occupied frame.
+fn page_in(pool: &Pool, frame: FrameIndex) -> Page {
+    Page::from(pool.record(frame))
 }
 
-/// The word with a frame replaced by the number of the page in it. The mark stays.
+/// The frame that holds a page, by the records. Find and peek go by the directory.
+fn frame_of(pool: &Pool, page: Page) -> Option<FrameIndex> {
+    occupied(pool).find(|frame| page_in(pool, *frame) == page)
+}
+
+/// Request A.11: "frames 0 to T − 1 hold their roots".
+fn is_root(pool: &Pool, frame: FrameIndex) -> bool {
+    frame.0 < pool.stores
+}
+
+/// The frames that hold a page of a store.
+fn held(pool: &Pool, store: StoreNumber) -> impl Iterator<Item = FrameIndex> + Clone + '_ {
+    occupied(pool).filter(move |frame| pool.record(*frame).store == store)
+}
+
+/// Request A.11: "a ceiling of 1 to F resident pages, its root included".
+fn ceiling(pool: &Pool, store: StoreNumber) -> usize {
+    pool.ceilings[usize::from(store)].into()
+}
+
+/// A store has as many resident pages as its ceiling is.
+fn at_ceiling(pool: &Pool, store: StoreNumber) -> bool {
+    held(pool, store).count() >= ceiling(pool, store)
+}
+
+/// The word with a frame replaced by the number of the page in it, which is of the store that the word stands in. The mark stays.
 fn unswizzled(pool: &Pool, word: u32) -> u32 {
     match read(word) {
         Reading::Frame(frame) => mark_of(word) + u32::from(pool.records[frame as usize].page),
@@ -96,8 +123,7 @@ fn pin(state: &mut State, frame: FrameIndex) -> Result<Fixed, Refusal> {
     rule(13, record.pins < u16::MAX)?;
     record.pins += 1;
     record.usage = MAX_USAGE.min(record.usage + 1);
-    let page = record.page;
-    Ok(Fixed { handle: Handle { frame, page }, looks: 0 })
+    Ok(Fixed { handle: handle_of(frame, record), looks: 0 })
 }
 
 /// Puts a word into a slot of the handle's page, which is then dirty.
@@ -106,30 +132,39 @@ fn put_link(state: &mut State, handle: Handle, slot: usize, word: u32) {
     state.pool.record_mut(handle.frame).dirty = 1;
 }
 
-fn opened(frames: &mut [u8], store: &[u8], directory: &mut [u8]) -> Result<Pool, Refusal> {
-    rules::lengths_in_range(frames, store)?;
+fn opened(frames: &mut [u8], store: &[u8], directory: &mut [u8], stores: Stores) -> Result<Pool, Refusal> {
+    let (count, pages) = rules::figures(frames, store, stores)?;
     rules::directory_length(directory)?;
-    rules::sound(store)?;
-    directory::begin(directory);
-    page_of_mut(frames, 0).copy_from_slice(page_of(store, 0));
-    let mut pool = Pool::ZERO;
-    pool.count = (frames.len() / PAGE_SIZE) as u16;
-    pool.pages = (store.len() / PAGE_SIZE) as u16;
-    pool.records[0] = FrameRecord { used: 1, ..FrameRecord::EMPTY };
+    rules::sound(store, stores.count)?;
+    let mut pool = Pool { count, pages, stores: stores.count, ceilings: stores.ceilings, ..Pool::ZERO };
+    directory.fill(0);
+    for store_number in (0..stores.count).map(StoreNumber) {
+        let (frame, root) = (FrameIndex(store_number.0), Page::root(store_number));
+        page_of_mut(frames, frame.into()).copy_from_slice(page_of(store, root.place(pages)));
+        *pool.record_mut(frame) = FrameRecord { used: 1, store: store_number, ..FrameRecord::EMPTY };
+        directory::enter(directory, root.number, frame);
+    }
     Ok(pool)
 }
 
 impl Machine for Model {
-    fn open(&self, frames: &mut [u8], store: &mut [u8], directory: &mut [u8]) -> (Result<(), Refusal>, Pool) {
-        match opened(frames, store, directory) {
+    fn open(
+        &self,
+        frames: &mut [u8],
+        store: &mut [u8],
+        directory: &mut [u8],
+        stores: Stores,
+    ) -> (Result<(), Refusal>, Pool) {
+        match opened(frames, store, directory, stores) {
             Ok(pool) => (Ok(()), pool),
             Err(refusal) => (Err(refusal), Pool::ZERO),
         }
     }
 
-    fn root(&self, state: &mut State) -> Result<Fixed, Refusal> {
+    fn root(&self, state: &mut State, of_store: StoreNumber) -> Result<Fixed, Refusal> {
         rules::state(state)?;
-        pin(state, FrameIndex(0))
+        rules::store(&state.pool, of_store)?;
+        pin(state, FrameIndex(of_store.0))
     }
 
     fn fix(&self, state: &mut State, handle: Handle, slot: usize) -> Result<Fixed, Refusal> {
@@ -140,11 +175,11 @@ impl Machine for Model {
             Reading::Nothing | Reading::MarkAlone => Err(7),
             Reading::Frame(frame) => pin(state, FrameIndex(frame as u8)),
             Reading::Page(number) => {
-                let page = PageNumber(number as u16);
+                let page = Page::from(handle).beside(PageNumber(number as u16));
                 rules::loadable(state, page)?;
-                let (frame, looks) = moves::make_room(state)?;
+                let (frame, looks) = moves::make_room(state, page.store)?;
                 moves::load(state, page, frame, handle.frame, slot);
-                Ok(Fixed { handle: Handle { frame, page }, looks })
+                Ok(Fixed { handle: handle_of(frame, state.pool.record(frame)), looks })
             }
         }
     }
@@ -162,12 +197,13 @@ impl Machine for Model {
         Ok(payload_in(Buffer::Frames, handle.frame.into()))
     }
 
-    fn peek(&self, state: &State, page: PageNumber) -> Result<Place, Refusal> {
+    fn peek(&self, state: &State, page: Page) -> Result<Place, Refusal> {
         rules::state(state)?;
-        rules::page(&state.pool, page)?;
+        rules::store(&state.pool, page.store)?;
+        rules::page(&state.pool, page.number)?;
         Ok(match directory::seek(&state.pool, &state.directory, page).0 {
             Some(frame) => payload_in(Buffer::Frames, frame.into()),
-            None => payload_in(Buffer::Store, page.into()),
+            None => payload_in(Buffer::Store, page.place(state.pool.pages)),
         })
     }
 
@@ -206,7 +242,7 @@ impl Machine for Model {
         rules::slot(slot)?;
         rules::unlocked(state, handle)?;
         rules::linked_page(&state.pool, page)?;
-        rules::unnamed(state, page)?;
+        rules::unnamed(state, Page::from(handle).beside(page))?;
         rule(8, frame_word(&state.frames, handle.frame, slot) == 0)?;
         put_link(state, handle, slot, with_mark(page.into(), locked));
         Ok(())
@@ -219,17 +255,18 @@ impl Machine for Model {
         rules::unlocked(state, handle)?;
         let word = frame_word(&state.frames, handle.frame, slot);
         rule(7, word != 0)?;
-        let page = PageNumber(unmarked(unswizzled(&state.pool, word)) as u16);
-        rule(10, frame_of(&state.pool, page).is_none())?;
+        let number = PageNumber(unmarked(unswizzled(&state.pool, word)) as u16);
+        rule(10, frame_of(&state.pool, Page::from(handle).beside(number)).is_none())?;
         put_link(state, handle, slot, 0);
         Ok(())
     }
 
-    fn evict(&self, state: &mut State, page: PageNumber) -> Result<(), Refusal> {
+    fn evict(&self, state: &mut State, page: Page) -> Result<(), Refusal> {
         rules::state(state)?;
-        rules::page(&state.pool, page)?;
+        rules::store(&state.pool, page.store)?;
+        rules::page(&state.pool, page.number)?;
         let frame = frame_of(&state.pool, page).ok_or(11)?;
-        rule(20, page != PageNumber(0))?;
+        rule(20, !page.is_root())?;
         rule(21, state.pool.record(frame).pins == 0)?;
         rule(22, !has_swizzled(state, frame))?;
         moves::evict(state, frame);
@@ -245,9 +282,10 @@ impl Machine for Model {
         Ok(())
     }
 
-    fn find(&self, state: &State, page: PageNumber) -> Result<Found, Refusal> {
+    fn find(&self, state: &State, page: Page) -> Result<Found, Refusal> {
         rules::state(state)?;
-        rules::page(&state.pool, page)?;
+        rules::store(&state.pool, page.store)?;
+        rules::page(&state.pool, page.number)?;
         let (frame, compared) = directory::seek(&state.pool, &state.directory, page);
         Ok(Found { frame, compared })
     }

@@ -1,6 +1,6 @@
 //! The linked library through the package's own functions, behind the same trait.
 use crate::pool::{Buffer, Fixed, Found, Machine, Named, Place, Refusal};
-use crate::records::{Entry, Generator, Handle, PageNumber, Pool, State};
+use crate::records::{Entry, Generator, Handle, Page, PageNumber, Pool, State, StoreNumber, Stores};
 
 pub struct Package;
 
@@ -35,15 +35,21 @@ pub(crate) fn place(state: &State, part: Answered<&[u8]>) -> Result<Place, Refus
 
 impl Machine for Package {
     /// A refused open gives no records here.
-    fn open(&self, frames: &mut [u8], store: &mut [u8], directory: &mut [u8]) -> (Result<(), Refusal>, Pool) {
-        match numbered(pagepool::open(frames, store, directory)) {
+    fn open(
+        &self,
+        frames: &mut [u8],
+        store: &mut [u8],
+        directory: &mut [u8],
+        stores: Stores,
+    ) -> (Result<(), Refusal>, Pool) {
+        match numbered(pagepool::open(frames, store, directory, stores)) {
             Ok(pool) => (Ok(()), pool),
             Err(refusal) => (Err(refusal), Pool::ZERO),
         }
     }
 
-    fn root(&self, state: &mut State) -> Result<Fixed, Refusal> {
-        fixed(pagepool::root(&mut state.pool, &state.frames, &state.store, &state.directory))
+    fn root(&self, state: &mut State, of_store: StoreNumber) -> Result<Fixed, Refusal> {
+        fixed(pagepool::root(&mut state.pool, &state.frames, &state.store, &state.directory, of_store))
     }
 
     fn fix(&self, state: &mut State, handle: Handle, slot: usize) -> Result<Fixed, Refusal> {
@@ -61,9 +67,9 @@ impl Machine for Package {
         place(state, pagepool::show(pool, frames, store, directory, handle))
     }
 
-    fn peek(&self, state: &State, page: PageNumber) -> Result<Place, Refusal> {
+    fn peek(&self, state: &State, page: Page) -> Result<Place, Refusal> {
         let State { pool, frames, store, directory } = state;
-        place(state, pagepool::peek(pool, frames, store, directory, page))
+        place(state, pagepool::peek(pool, frames, store, directory, page.store, page.number))
     }
 
     fn word(&self, state: &State, handle: Handle, slot: usize) -> Result<Named, Refusal> {
@@ -93,9 +99,9 @@ impl Machine for Package {
         numbered(pagepool::unlink(pool, frames, store, directory, handle, slot))
     }
 
-    fn evict(&self, state: &mut State, page: PageNumber) -> Result<(), Refusal> {
+    fn evict(&self, state: &mut State, page: Page) -> Result<(), Refusal> {
         let State { pool, frames, store, directory } = state;
-        numbered(pagepool::evict(pool, frames, store, directory, page))
+        numbered(pagepool::evict(pool, frames, store, directory, page.store, page.number))
     }
 
     fn settle(&self, state: &mut State) -> Result<(), Refusal> {
@@ -103,9 +109,9 @@ impl Machine for Package {
         numbered(pagepool::settle(pool, frames, store, directory))
     }
 
-    fn find(&self, state: &State, page: PageNumber) -> Result<Found, Refusal> {
+    fn find(&self, state: &State, page: Page) -> Result<Found, Refusal> {
         let State { pool, frames, store, directory } = state;
-        found(pagepool::find(pool, frames, store, directory, page))
+        found(pagepool::find(pool, frames, store, directory, page.store, page.number))
     }
 
     fn seeded(&self, seed: u32) -> Generator {

@@ -1,5 +1,7 @@
 //! The machine under test: document 01's thirteen calls, and request A.10's draw, behind one trait.
-use crate::records::{Entry, FrameIndex, Generator, Handle, PageNumber, Pool, State};
+use crate::records::{
+    Entry, FrameIndex, Generator, Handle, Page, PageNumber, Pool, State, StoreNumber, Stores,
+};
 
 /// The number of the first broken rule.
 pub type Refusal = u8;
@@ -52,12 +54,18 @@ impl Place {
 
 pub trait Machine {
     /// The records handed back too: all zero with a refusal.
-    fn open(&self, frames: &mut [u8], store: &mut [u8], directory: &mut [u8]) -> (Result<(), Refusal>, Pool);
-    fn root(&self, state: &mut State) -> Result<Fixed, Refusal>;
+    fn open(
+        &self,
+        frames: &mut [u8],
+        store: &mut [u8],
+        directory: &mut [u8],
+        stores: Stores,
+    ) -> (Result<(), Refusal>, Pool);
+    fn root(&self, state: &mut State, of_store: StoreNumber) -> Result<Fixed, Refusal>;
     fn fix(&self, state: &mut State, handle: Handle, slot: usize) -> Result<Fixed, Refusal>;
     fn unfix(&self, state: &mut State, handle: Handle) -> Result<(), Refusal>;
     fn show(&self, state: &State, handle: Handle) -> Result<Place, Refusal>;
-    fn peek(&self, state: &State, page: PageNumber) -> Result<Place, Refusal>;
+    fn peek(&self, state: &State, page: Page) -> Result<Place, Refusal>;
     fn word(&self, state: &State, handle: Handle, slot: usize) -> Result<Named, Refusal>;
     fn write(&self, state: &mut State, handle: Handle, offset: usize, bytes: &[u8]) -> Result<(), Refusal>;
     fn link(
@@ -69,9 +77,9 @@ pub trait Machine {
         locked: bool,
     ) -> Result<(), Refusal>;
     fn unlink(&self, state: &mut State, handle: Handle, slot: usize) -> Result<(), Refusal>;
-    fn evict(&self, state: &mut State, page: PageNumber) -> Result<(), Refusal>;
+    fn evict(&self, state: &mut State, page: Page) -> Result<(), Refusal>;
     fn settle(&self, state: &mut State) -> Result<(), Refusal>;
-    fn find(&self, state: &State, page: PageNumber) -> Result<Found, Refusal>;
+    fn find(&self, state: &State, page: Page) -> Result<Found, Refusal>;
 
     fn seeded(&self, seed: u32) -> Generator;
     /// A record of the state, by a generator that is moved on.

@@ -1,8 +1,9 @@
 //! The pool's records and the buffers beside them, laid out as at the C boundary.
 pub use pagepool::{
-    Entry, FrameIndex, FrameRecord, Generator, Handle, PageNumber, Pool, LEAST_FRAMES, MAX_USAGE,
-    MOST_FRAMES, MOST_PAGES, PAGE_SIZE, PAYLOAD_SIZE, PAYLOAD_START, SLOTS,
+    Entry, FrameIndex, FrameRecord, Generator, Handle, PageNumber, Pool, StoreNumber, Stores, LEAST_FRAMES,
+    MAX_USAGE, MOST_FRAMES, MOST_PAGES, PAGE_SIZE, PAYLOAD_SIZE, PAYLOAD_START, SLOTS,
 };
+use std::fmt;
 
 pub const SWIZZLE_BIT: u32 = 1 << 31;
 
@@ -14,6 +15,9 @@ pub const BUCKETS: usize = 67;
 
 /// Request A.3: "131 bytes".
 pub const DIRECTORY_SIZE: usize = 131;
+
+/// Request A.11: "T is 1 to 4".
+pub const MOST_STORES: usize = 4;
 
 /// The mark of a word, or none.
 pub const fn mark_of(word: u32) -> u32 {
@@ -38,7 +42,62 @@ pub const fn with_mark(name: u32, locked: bool) -> u32 {
     }
 }
 
-/// All that a call is handed: the records, and the frames, the store and the directory that the host lends.
+/// A page of one of the stores. Request A.11: "pages are compared within their store".
+#[derive(Clone, Copy, Debug, PartialEq, Eq, PartialOrd, Ord)]
+pub struct Page {
+    pub store: StoreNumber,
+    pub number: PageNumber,
+}
+
+pub const fn page(store: u8, number: u16) -> Page {
+    Page { store: StoreNumber(store), number: PageNumber(number) }
+}
+
+impl Page {
+    /// The root of a store.
+    pub const fn root(store: StoreNumber) -> Page {
+        Page { store, number: PageNumber(0) }
+    }
+
+    pub fn is_root(self) -> bool {
+        self.number == PageNumber(0)
+    }
+
+    /// Another page of the same store.
+    pub fn beside(self, number: PageNumber) -> Page {
+        Page { number, ..self }
+    }
+
+    /// Where the page stands in the buffer that has the stores, of N pages each, "one after another".
+    pub fn place(self, pages: u16) -> usize {
+        usize::from(self.store) * usize::from(pages) + usize::from(self.number)
+    }
+}
+
+impl fmt::Display for Page {
+    fn fmt(&self, f: &mut fmt::Formatter) -> fmt::Result {
+        write!(f, "{} of store {}", self.number, self.store)
+    }
+}
+
+impl From<Handle> for Page {
+    fn from(handle: Handle) -> Page {
+        Page { store: handle.store, number: handle.page }
+    }
+}
+
+impl From<&FrameRecord> for Page {
+    fn from(record: &FrameRecord) -> Page {
+        Page { store: record.store, number: record.page }
+    }
+}
+
+/// The figures that a pool was opened with.
+pub fn stores_of(pool: &Pool) -> Stores {
+    Stores { count: pool.stores, ceilings: pool.ceilings }
+}
+
+/// All that a call is handed: the records, and the frames, the stores and the directory that the host lends.
 #[derive(Clone, PartialEq, Eq)]
 pub struct State {
     pub pool: Pool,
@@ -59,6 +118,26 @@ impl State {
             .map(FrameIndex)
             .zip(&self.pool.records[..self.frame_count()])
             .filter(|(_, record)| record.is_used())
+    }
+
+    /// One store, which may fill every frame.
+    pub fn as_one(&self) -> Stores {
+        Stores::one((self.frames.len() / PAGE_SIZE) as u8)
+    }
+
+    /// The stores that the records have, T unless they were altered.
+    pub fn store_numbers(&self) -> impl Iterator<Item = StoreNumber> {
+        (0..self.pool.stores.min(MOST_STORES as u8)).map(StoreNumber)
+    }
+
+    /// Whether a frame holds the root of a store.
+    pub fn is_root(&self, frame: FrameIndex) -> bool {
+        frame.0 < self.pool.stores
+    }
+
+    /// The bytes of a page in its store, which may be cut off there.
+    pub fn stored(&self, page: Page) -> Option<&[u8]> {
+        self.store.chunks_exact(PAGE_SIZE).nth(page.place(self.pool.pages))
     }
 
     /// The words of a frame, by slot.
@@ -92,9 +171,19 @@ fn first_difference(a: &[u8], b: &[u8]) -> Option<String> {
     })
 }
 
-/// The handle of a page in a frame.
+/// The handle of a page in a frame, where there is one store.
 pub const fn handle(frame: u8, page: u16) -> Handle {
-    Handle { frame: FrameIndex(frame), page: PageNumber(page) }
+    handle_in(frame, 0, page)
+}
+
+/// The handle of a page of a store.
+pub const fn handle_in(frame: u8, store: u8, page: u16) -> Handle {
+    Handle { frame: FrameIndex(frame), store: StoreNumber(store), page: PageNumber(page) }
+}
+
+/// The handle of the page in a frame that has this record.
+pub fn handle_of(frame: FrameIndex, record: &FrameRecord) -> Handle {
+    Handle { frame, store: record.store, page: record.page }
 }
 
 /// The 256 bytes of a page of the store, or of a frame.

@@ -1,6 +1,57 @@
-//! Random sound stores.
-use crate::records::{page_of_mut, put_word, with_mark, word_in, BUCKETS, PAGE_SIZE, PAYLOAD_START, SLOTS};
+//! Random sound stores, and random figures of stores.
+use crate::records::{
+    page_of_mut, put_word, with_mark, word_in, Stores, BUCKETS, MOST_STORES, PAGE_SIZE, PAYLOAD_START, SLOTS,
+};
 use random::Random;
+
+/// So many stores over so many frames: all of them may fill every frame, each has some frames of its own, or ceilings are any.
+pub fn any_stores(random: &mut Random, stores: u8, frames: usize) -> Stores {
+    let kind = random.below(4);
+    let mut left = frames;
+    let ceilings = std::array::from_fn(|store| {
+        if store >= stores.into() {
+            return 0;
+        }
+        let least = random.pick(&[1, 2, 2, 2]);
+        let most = match kind {
+            0 => frames,
+            1 => random.between(least, frames),
+            2 => frames.min(random.between(2, 4)),
+            _ => {
+                // at least one for each of the others
+                let most = left - (usize::from(stores) - 1 - store);
+                random.between(least.min(most), most)
+            }
+        };
+        left = left.saturating_sub(most);
+        most as u8
+    });
+    Stores { count: stores, ceilings }
+}
+
+/// Stores one after another, each made by itself.
+pub fn side_by_side(random: &mut Random, stores: u8, one: impl Fn(&mut Random) -> Vec<u8>) -> Vec<u8> {
+    (0..stores).flat_map(|_| one(random)).collect()
+}
+
+/// How many stores so many frames can serve, at most.
+pub fn most_stores(frames: usize) -> usize {
+    MOST_STORES.min(frames.saturating_sub(1))
+}
+
+/// Pages with random payloads that are sound as one store and as up to four: each number stands in one word of all, and is below a
+/// fourth of the pages. So many in a hundred of those are named.
+pub fn divisible_store(random: &mut Random, pages: usize, named: usize, marked: usize) -> Vec<u8> {
+    let mut store = unlinked_pages(random, pages);
+    for page in 1..pages / MOST_STORES {
+        if random.percent(named) {
+            let parent = if random.percent(60) { 0 } else { random.below(pages) };
+            let word = with_mark(page as u32, random.percent(marked));
+            name_in(random, page_of_mut(&mut store, parent), word);
+        }
+    }
+    store
+}
 
 /// N pages with random payloads. So many in a hundred are named by a word, most of them in a tree below the root, and so many of
 /// these words are marked, in reach or not.

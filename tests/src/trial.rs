@@ -4,8 +4,8 @@ use crate::coverage::Coverage;
 use crate::lockstep::{draw, step};
 use crate::pool::{Buffer, Place, Refusal, UnderTest};
 use crate::records::{
-    page_of, page_of_mut, put_word, word_in, Entry, FrameIndex, FrameRecord, Generator, Handle, Pool, State,
-    DIRECTORY_SIZE, PAGE_SIZE,
+    page, page_of, page_of_mut, put_word, word_in, Entry, FrameIndex, FrameRecord, Generator, Handle, Pool,
+    State, Stores, DIRECTORY_SIZE, PAGE_SIZE,
 };
 
 /// A word of a stored page: the page, the slot, and the word, which is the page that it names, with the mark or without.
@@ -34,11 +34,28 @@ pub struct Trial {
 }
 
 impl Trial {
-    /// A pool just opened over zero pages with some words.
+    /// A pool of one store, which may fill every frame, just opened over zero pages with some words.
     pub fn open(frames: usize, pages: usize, links: &[Link]) -> Trial {
         let mut trial = Trial::closed(frames, pages, links);
-        assert_eq!(trial.call(Call::Open), Answer::Done);
+        assert_eq!(trial.reopen(), 0);
         trial
+    }
+
+    /// A pool of several stores of so many zero pages, in each of which these words stand.
+    pub fn open_stores(frames: usize, pages: usize, stores: Stores, links: &[Link]) -> Trial {
+        let mut trial = Trial::closed(frames, pages * usize::from(stores.count), &[]);
+        for (store, (number, slot, word)) in
+            (0..stores.count).flat_map(|store| links.iter().map(move |link| (store, *link)))
+        {
+            trial.put_stored_word(page(store, number as u16).place(pages as u16), slot, word);
+        }
+        trial.accept(Call::Open(stores));
+        trial
+    }
+
+    /// The refusal's number of an open with one store, which may fill every frame.
+    pub fn reopen(&mut self) -> u8 {
+        self.number(Call::Open(self.state.as_one()))
     }
 
     /// The buffers before an open, with no records.
@@ -71,9 +88,14 @@ impl Trial {
         assert!(answer.accepted(), "{call:?}: {answer:?}");
     }
 
-    /// Pins the root.
+    /// Pins the root of the first store.
     pub fn root(&mut self) -> Handle {
-        self.handle(Call::Root)
+        self.root_of(0)
+    }
+
+    /// Pins the root of a store.
+    pub fn root_of(&mut self, store: u8) -> Handle {
+        self.handle(Call::Root(store))
     }
 
     /// Pins the page in a slot.
@@ -88,11 +110,16 @@ impl Trial {
         }
     }
 
-    /// The frame of a page, none if it is absent, and the entries that find compares.
+    /// The frame of a page of the first store, none if it is absent, and the entries that find compares.
     pub fn find(&mut self, page: u16) -> (Option<u8>, u16) {
-        match self.call(Call::Find(page)) {
+        self.find_in(0, page)
+    }
+
+    /// The same for a page of a store.
+    pub fn find_in(&mut self, store: u8, page: u16) -> (Option<u8>, u16) {
+        match self.call(Call::Find(store, page)) {
             Answer::Found(found) => (found.frame.map(|frame| frame.0), found.compared),
-            other => panic!("find {page}: {other:?}"),
+            other => panic!("find {page} of store {store}: {other:?}"),
         }
     }
 

@@ -3,7 +3,7 @@ use pool_tests::calls::{Answer, Call};
 use pool_tests::coverage::Coverage;
 use pool_tests::history::History;
 use pool_tests::pool::{Fixed, UnderTest};
-use pool_tests::records::{handle, page_of, FrameIndex, PageNumber, State};
+use pool_tests::records::{handle, page_of, FrameIndex, PageNumber, State, Stores};
 use pool_tests::trial::{three_children, Trial};
 
 fn word_bytes(trial: &Trial, slot: usize) -> [u8; 4] {
@@ -96,7 +96,7 @@ fn slots_end_at_15() {
 #[test]
 fn pins_end_at_65535() {
     let (mut trial, root) = three_children(4);
-    for (call, frame) in [(Call::Root, 0), (Call::Fix(root, 3), 3)] {
+    for (call, frame) in [(Call::Root(0), 0), (Call::Fix(root, 3), 3)] {
         trial.record(frame).pins = 65_534;
         assert_eq!(trial.number(call.clone()), 0);
         assert_eq!(trial.record(frame).pins, 65_535);
@@ -109,8 +109,8 @@ fn pins_end_at_65535() {
 fn pins_rise_to_65535_by_calls() -> Result<(), String> {
     let coverage = &mut Coverage::default();
     let State { frames, store, directory, .. } = Trial::closed(2, 4, &[(0, 1, 3)]).state;
-    let mut history = History::open(&UnderTest, (frames, store, directory), coverage)?;
-    for call in [Call::Root, Call::Fix(handle(0, 0), 1)] {
+    let mut history = History::open(&UnderTest, (frames, store, directory), Stores::one(2), coverage)?;
+    for call in [Call::Root(0), Call::Fix(handle(0, 0), 1)] {
         for _ in 0..65_535 {
             assert!(history.call(&call, coverage)?.accepted());
         }
@@ -196,7 +196,7 @@ fn the_calls_of_the_listing() {
     assert_eq!(trial.number(Call::Link(root, 3, 7, false)), 0);
     let child = trial.fix(root, 3);
     assert_eq!(child, handle(1, 7));
-    assert_eq!(trial.number(Call::Evict(7)), 21);
+    assert_eq!(trial.number(Call::Evict(0, 7)), 21);
     assert_eq!(trial.number(Call::Unfix(child)), 0);
-    assert_eq!(trial.number(Call::Evict(7)), 0);
+    assert_eq!(trial.number(Call::Evict(0, 7)), 0);
 }

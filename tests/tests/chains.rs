@@ -42,7 +42,7 @@ fn open_leaves_the_root_alone_in_the_directory() {
     for byte in [0, 1, 255] {
         let mut trial = Trial::closed(4, 16, &[]);
         trial.state.directory.fill(byte);
-        trial.accept(Call::Open);
+        assert_eq!(trial.reopen(), 0);
         assert_eq!(bytes_set(&trial), [(0, 1)]);
         assert_eq!([0, 5].map(|page| trial.find(page)), [(Some(0), 1), (None, 0)]);
     }
@@ -57,7 +57,7 @@ fn a_directory_of_another_length_is_refused() {
         trial.accept(Call::Write(root, 0, vec![1]));
         trial.put_stored_word(1, 0, 300);
         trial.record(0).usage = 4;
-        assert_eq!([trial.number(Call::Open), trial.number(Call::Root)], [16, 2]);
+        assert_eq!([trial.reopen(), trial.number(Call::Root(0))], [16, 2]);
         trial.state.directory.resize(length, 0);
         let before = trial.state.directory.clone();
         assert_eq!(every_answer(&trial, root), [1; 13], "{length} bytes");
@@ -66,26 +66,26 @@ fn a_directory_of_another_length_is_refused() {
     }
     let mut trial = Trial::closed(2, 4, &[(0, 0, 4)]);
     trial.state.directory.fill(7);
-    assert_eq!(trial.number(Call::Open), 16);
+    assert_eq!(trial.reopen(), 16);
     assert!(trial.state.directory.iter().all(|byte| *byte == 7));
 }
 
 /// What each call answers on a pool of `sharing`, each on a copy, where page 5 is in frame 1.
 fn every_answer(trial: &Trial, root: Handle) -> [u8; 13] {
     let calls = [
-        Call::Open,
-        Call::Root,
+        Call::Open(trial.state.as_one()),
+        Call::Root(0),
         Call::Fix(root, 6),
         Call::Unfix(root),
         Call::Show(root),
-        Call::Peek(5),
+        Call::Peek(0, 5),
         Call::Word(root, 1),
         Call::Write(root, 0, vec![2]),
         Call::Link(root, 0, 10, false),
         Call::Unlink(root, 6),
-        Call::Evict(5),
+        Call::Evict(0, 5),
         Call::Settle,
-        Call::Find(5),
+        Call::Find(0, 5),
     ];
     calls.map(|call| trial.clone().number(call))
 }
@@ -122,13 +122,13 @@ fn an_entry_taken_out_keeps_the_others_order() {
         (5, [4, 3, 2], [(0, 1), (5, 5), (70, 3), (71, 4)]),
     ] {
         let (mut trial, _) = sharing(8, 4);
-        trial.accept(Call::Evict(page));
+        trial.accept(Call::Evict(0, page));
         assert_eq!(chain(&trial, 5), left, "without {page}");
         assert_eq!(bytes_set(&trial), bytes, "without {page}");
         assert_eq!(trial.find(page), (None, 3));
     }
     let (mut trial, _) = sharing(8, 1);
-    trial.accept(Call::Evict(5));
+    trial.accept(Call::Evict(0, 5));
     assert_eq!(bytes_set(&trial), [(0, 1)]);
 }
 
@@ -136,7 +136,7 @@ fn an_entry_taken_out_keeps_the_others_order() {
 #[test]
 fn a_page_that_comes_back_is_first() {
     let (mut trial, root) = sharing(8, 4);
-    trial.accept(Call::Evict(72));
+    trial.accept(Call::Evict(0, 72));
     assert_eq!(trial.fix(root, 2).frame, FrameIndex(2));
     assert_eq!(chain(&trial, 5), [2, 4, 3, 1]);
 }
@@ -148,10 +148,10 @@ fn only_loads_and_evictions_move_entries() {
     let before = trial.state.directory.clone();
     let five = trial.fix(root, 1);
     for call in [
-        Call::Find(5),
-        Call::Peek(5),
-        Call::Find(273),
-        Call::Peek(273),
+        Call::Find(0, 5),
+        Call::Peek(0, 5),
+        Call::Find(0, 273),
+        Call::Peek(0, 273),
         Call::Show(five),
         Call::Word(root, 1),
         Call::Write(five, 0, vec![1]),
@@ -159,7 +159,7 @@ fn only_loads_and_evictions_move_entries() {
         Call::Unlink(five, 0),
         Call::Unfix(five),
         Call::Settle,
-        Call::Root,
+        Call::Root(0),
     ] {
         trial.accept(call);
         assert_eq!(trial.state.directory, before);
@@ -199,7 +199,7 @@ fn any_order_of_a_chain_is_right() {
             assert_eq!(trial.find(page), (Some(frame), place), "{order:?}");
         }
         assert_eq!(trial.find(206), (None, 3));
-        trial.accept(Call::Evict(72));
+        trial.accept(Call::Evict(0, 72));
         let left: Vec<u8> = order.into_iter().filter(|frame| *frame != 2).collect();
         assert_eq!(chain(&trial, 5), left);
         trial.fix(root, 4);
@@ -280,7 +280,7 @@ fn every_other_byte_is_0() {
 #[test]
 fn each_byte_counts() {
     let (trial, root) = sharing(8, 5);
-    let calls = [Call::Find(5), Call::Peek(273), Call::Unfix(root), Call::Settle, Call::Evict(5)];
+    let calls = [Call::Find(0, 5), Call::Peek(0, 273), Call::Unfix(root), Call::Settle, Call::Evict(0, 5)];
     let changes = (0..131).flat_map(|at| (0..=255).map(move |byte| (at, byte)));
     for (number, (at, byte)) in changes.enumerate() {
         let mut trial = trial.clone();
@@ -296,30 +296,30 @@ fn each_byte_counts() {
 fn a_page_in_two_frames_is_refused() {
     let (mut trial, _) = three_children(5);
     trial.record(3).page = PageNumber(5);
-    assert_eq!([0, 5, 6, 7, 8].map(|page| trial.number(Call::Find(page))), [2; 5]);
+    assert_eq!([0, 5, 6, 7, 8].map(|page| trial.number(Call::Find(0, page))), [2; 5]);
 }
 
 /// A.3: a refused find answers its number alone, however many entries there are (`host` asserts the zeros beside the number).
 #[test]
 fn a_refused_find_has_no_count() {
     let (mut trial, _) = sharing(8, 4);
-    assert_eq!(trial.call(Call::Find(300)), Answer::Refused(6));
+    assert_eq!(trial.call(Call::Find(0, 300)), Answer::Refused(6));
     trial.record(0).usage = 4;
-    assert_eq!([0, 5, 273, 300].map(|page| trial.call(Call::Find(page))), [Answer::Refused(2); 4]);
+    assert_eq!([0, 5, 273, 300].map(|page| trial.call(Call::Find(0, page))), [Answer::Refused(2); 4]);
     trial.state.directory.pop();
-    assert_eq!([0, 5, 273, 300].map(|page| trial.call(Call::Find(page))), [Answer::Refused(1); 4]);
+    assert_eq!([0, 5, 273, 300].map(|page| trial.call(Call::Find(0, page))), [Answer::Refused(1); 4]);
 }
 
 /// A.3, "Find and peek use it": peek and evict answer as before, in chains of one and of several.
 #[test]
 fn peek_and_evict_answer_as_before() {
     let (mut trial, _) = sharing(8, 4);
-    trial.accept(Call::Evict(72));
-    let peeked = [0, 5, 206, 72, 273, 9].map(|page| trial.call(Call::Peek(page)));
+    trial.accept(Call::Evict(0, 72));
+    let peeked = [0, 5, 206, 72, 273, 9].map(|page| trial.call(Call::Peek(0, page)));
     let frames = [0, 1, 4].map(|frame| payload(Buffer::Frames, frame));
     let stored = [72, 273, 9].map(|page| payload(Buffer::Store, page));
     assert_eq!(peeked[..], [frames, stored].concat());
-    let evicted = [0, 72, 5, 5, 300].map(|page| trial.number(Call::Evict(page)));
+    let evicted = [0, 72, 5, 5, 300].map(|page| trial.number(Call::Evict(0, page)));
     assert_eq!(evicted, [20, 11, 0, 11, 6]);
 }
 
@@ -342,6 +342,6 @@ fn the_longest_chain() {
     assert_eq!(found, [(Some(0), 62), (Some(1), 61), (Some(61), 1)]);
     assert_eq!(trial.find(1), (None, 0));
     trial.accept(Call::Unfix(handles[30]));
-    trial.accept(Call::Evict(67 * 30));
+    trial.accept(Call::Evict(0, 67 * 30));
     assert_eq!([67 * 30, 0].map(|page| trial.find(page)), [(None, 61), (Some(0), 61)]);
 }

@@ -8,10 +8,10 @@ use pool_tests::history::History;
 use pool_tests::lockstep::{draw, step};
 use pool_tests::model::chains::Turn;
 use pool_tests::pool::{Found, UnderTest};
-use pool_tests::records::{Generator, State, BUCKETS, DIRECTORY_SIZE, PAGE_SIZE};
+use pool_tests::records::{stores_of, Generator, State, BUCKETS, DIRECTORY_SIZE, PAGE_SIZE};
 use pool_tests::runs;
 use pool_tests::steer::{self, Steer};
-use pool_tests::stores::sharing_store;
+use pool_tests::stores::{any_stores, sharing_store, side_by_side};
 use random::Random;
 use std::cell::RefCell;
 use std::collections::BTreeMap;
@@ -41,10 +41,13 @@ const WRONG: [(&str, Change); 12] = [
 
 /// A pool after some calls, with pages in its frames that share buckets.
 fn reached(random: &mut Random, coverage: &mut Coverage) -> Result<State, String> {
-    let (frames, pages) = (random.between(3, 12), random.between(BUCKETS + 1, 5 * BUCKETS));
-    let store = sharing_store(random, pages, 10);
+    let count = random.pick(&[1, 1, 2, 3, 4]);
+    let frames = random.between(2 + usize::from(count), 12);
+    let pages = random.between(BUCKETS + 1, 5 * BUCKETS / usize::from(count).min(2));
+    let store = side_by_side(random, count, |random| sharing_store(random, pages, 10));
     let lent = (random.bytes(PAGE_SIZE * frames), store, random.bytes(DIRECTORY_SIZE));
-    let mut history = History::open(&UnderTest, lent, coverage)?;
+    let stores = any_stores(random, count, frames);
+    let mut history = History::open(&UnderTest, lent, stores, coverage)?;
     let mut steer = Steer::new(random, &history.state);
     for _ in 0..random.between(20, 100) {
         let call = steer.next(random, &history.state);
@@ -68,8 +71,9 @@ fn refused(
     }
     let drawn = draw(&UnderTest, changed, &mut Generator { number: 1 }, coverage)?;
     ensure!(drawn == Err(number), "a draw gives {drawn:?}, not {number}");
-    let formerly = step(&UnderTest, &mut state.clone(), &Call::Open, coverage)?;
-    let opened = step(&UnderTest, &mut changed.clone(), &Call::Open, coverage)?;
+    let open = Call::Open(stores_of(&state.pool));
+    let formerly = step(&UnderTest, &mut state.clone(), &open, coverage)?;
+    let opened = step(&UnderTest, &mut changed.clone(), &open, coverage)?;
     let wanted = if number == 1 { Answer::Refused(1) } else { formerly };
     ensure!(opened == wanted, "open: {opened:?}, not {wanted:?}");
     Ok(())

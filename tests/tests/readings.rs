@@ -20,10 +20,10 @@ fn an_open_in_between_can_be_refused() {
     trial.accept(Call::Unlink(root, 1));
     trial.accept(Call::Link(five, 0, 7, false));
     trial.accept(Call::Unfix(five));
-    trial.accept(Call::Evict(5));
-    assert_eq!(trial.number(Call::Open), 16);
+    trial.accept(Call::Evict(0, 5));
+    assert_eq!(trial.reopen(), 16);
     trial.accept(Call::Settle);
-    assert_eq!(trial.number(Call::Open), 0);
+    assert_eq!(trial.reopen(), 0);
 }
 
 #[test]
@@ -32,7 +32,7 @@ fn open_refuses_lengths_out_of_range() {
         [(1, 1, 1), (2, 1, 0), (64, 4096, 0), (65, 1, 1), (2, 4097, 1), (2, 0, 1), (0, 0, 1)]
     {
         let mut trial = Trial::closed(frames, pages, &[]);
-        assert_eq!(trial.number(Call::Open), number, "F {frames} N {pages}");
+        assert_eq!(trial.reopen(), number, "F {frames} N {pages}");
     }
 }
 
@@ -40,10 +40,10 @@ fn open_refuses_lengths_out_of_range() {
 fn open_takes_whole_pages_alone() {
     for (frames, store) in [(-1, 0), (1, 0), (0, -1), (0, 1)] {
         let mut trial = Trial::closed(4, 8, &[(0, 0, 8)]);
-        assert_eq!(trial.number(Call::Open), 16);
+        assert_eq!(trial.reopen(), 16);
         trial.state.frames.resize((4 * PAGE_SIZE).strict_add_signed(frames), 0);
         trial.state.store.resize((8 * PAGE_SIZE).strict_add_signed(store), 0);
-        assert_eq!(trial.number(Call::Open), 1);
+        assert_eq!(trial.reopen(), 1);
     }
 }
 
@@ -51,7 +51,8 @@ fn open_takes_whole_pages_alone() {
 fn a_refused_open_gives_zero_records() {
     let Trial { mut state } = Trial::closed(2, 4, &[(0, 0, 2), (3, 5, 2)]);
     state.frames.fill(7);
-    let (opened, records) = UnderTest.open(&mut state.frames, &mut state.store, &mut state.directory);
+    let stores = state.as_one();
+    let (opened, records) = UnderTest.open(&mut state.frames, &mut state.store, &mut state.directory, stores);
     assert_eq!((opened, records), (Err(16), Pool::ZERO));
     assert!(state.frames.iter().all(|byte| *byte == 7));
 }
@@ -59,7 +60,7 @@ fn a_refused_open_gives_zero_records() {
 #[test]
 fn open_holds_the_root_alone() {
     let pool = Trial::open(3, 5, &[]).state.pool;
-    let mut expected = Pool { count: 3, pages: 5, ..Pool::ZERO };
+    let mut expected = Pool { count: 3, pages: 5, stores: 1, ceilings: [3, 0, 0, 0], ..Pool::ZERO };
     expected.records[0].used = 1;
     assert_eq!(pool, expected);
 }
@@ -68,7 +69,7 @@ fn open_holds_the_root_alone() {
 fn open_keeps_the_other_frames() {
     let mut trial = Trial::closed(3, 2, &[(0, 2, 1)]);
     trial.state.frames.fill(0xff);
-    trial.accept(Call::Open);
+    assert_eq!(trial.reopen(), 0);
     assert_eq!(trial.frame_word(0, 2), 1);
     assert!(trial.state.frames[PAGE_SIZE..].iter().all(|byte| *byte == 0xff));
     trial.root();
@@ -93,7 +94,7 @@ fn counts_out_of_range_are_lengths_refused() {
         let mut trial = Trial::closed(frames, pages, &[]);
         trial.record(0).used = 1;
         (trial.state.pool.count, trial.state.pool.pages) = (frames as u16, pages as u16);
-        assert_eq!(trial.number(Call::Root), 1, "F {frames} N {pages}");
+        assert_eq!(trial.number(Call::Root(0)), 1, "F {frames} N {pages}");
     }
 }
 
@@ -132,19 +133,19 @@ fn the_first_broken_rule_answers() {
         (Call::Link(root, 1, 16, false), &[6, 8, 9]),
         (Call::Link(root, 1, 0, false), &[6, 8]),
         (Call::Link(root, 1, 6, false), &[8, 9]),
-        (Call::Evict(16), &[6, 11]),
-        (Call::Evict(0), &[20, 21, 22]),
-        (Call::Evict(5), &[21, 22]),
+        (Call::Evict(0, 16), &[6, 11]),
+        (Call::Evict(0, 0), &[20, 21, 22]),
+        (Call::Evict(0, 5), &[21, 22]),
     ];
     for (call, broken) in cases {
         assert_eq!(trial.number(call.clone()), first(&call, broken), "{call:?}");
     }
     trial.accept(Call::Unfix(five));
     trial.accept(Call::Unfix(root));
-    assert_eq!(trial.number(Call::Evict(0)), first(&Call::Evict(0), &[20, 22]));
+    assert_eq!(trial.number(Call::Evict(0, 0)), first(&Call::Evict(0, 0), &[20, 22]));
     trial.state.pool.hand = FrameIndex(4);
-    let evicts = [16, 0, 6, 5].map(Call::Evict);
-    for call in [Call::Fix(stale, 16), Call::Show(stale), Call::Peek(16)].into_iter().chain(evicts) {
+    let evicts = [16, 0, 6, 5].map(|page| Call::Evict(0, page));
+    for call in [Call::Fix(stale, 16), Call::Show(stale), Call::Peek(0, 16)].into_iter().chain(evicts) {
         assert_eq!(trial.number(call.clone()), first(&call, &[2, 3, 4, 6, 11, 20, 21, 22]), "{call:?}");
     }
 }
@@ -156,18 +157,18 @@ fn a_flag_is_zero_or_one() {
     trial.accept(Call::Unfix(six));
     trial.accept(Call::Write(five, 0, vec![1]));
     let calls = [
-        Call::Root,
+        Call::Root(0),
         Call::Fix(root, 3),
         Call::Unfix(five),
         Call::Show(five),
-        Call::Peek(9),
+        Call::Peek(0, 9),
         Call::Word(root, 1),
         Call::Write(five, 0, vec![2]),
         Call::Link(root, 0, 9, false),
         Call::Unlink(root, 3),
-        Call::Evict(6),
+        Call::Evict(0, 6),
         Call::Settle,
-        Call::Find(5),
+        Call::Find(0, 5),
     ];
     let agreed = trial.state;
     for call in &calls {
@@ -260,7 +261,7 @@ fn a_handle_is_tested_with_its_page() {
 fn a_stale_handle_is_good_again() {
     let (mut trial, [root, five, _]) = two_children();
     trial.accept(Call::Unfix(five));
-    trial.accept(Call::Evict(5));
+    trial.accept(Call::Evict(0, 5));
     assert_eq!(trial.number(Call::Show(five)), 3);
     trial.state.pool.hand = FrameIndex(1);
     assert_eq!(trial.fix(root, 1), five);
@@ -271,9 +272,9 @@ fn a_stale_handle_is_good_again() {
 fn page_0_is_refused_in_link_alone() {
     let (mut trial, [root, ..]) = two_children();
     assert_eq!(trial.number(Call::Link(root, 5, 0, false)), 6);
-    assert_eq!(trial.number(Call::Evict(0)), 20);
+    assert_eq!(trial.number(Call::Evict(0, 0)), 20);
     assert_eq!(trial.find(0), (Some(0), 1));
-    for call in [Call::Peek(16), Call::Find(16), Call::Evict(16), Call::Link(root, 5, 16, false)] {
+    for call in [Call::Peek(0, 16), Call::Find(0, 16), Call::Evict(0, 16), Call::Link(root, 5, 16, false)] {
         assert_eq!(trial.number(call), 6);
     }
 }
@@ -282,8 +283,8 @@ fn page_0_is_refused_in_link_alone() {
 fn payloads_lie_in_frames_or_store() {
     let (mut trial, [_, five, _]) = two_children();
     assert_eq!(trial.call(Call::Show(five)), payload(Buffer::Frames, 1));
-    assert_eq!(trial.call(Call::Peek(5)), payload(Buffer::Frames, 1));
-    assert_eq!(trial.call(Call::Peek(7)), payload(Buffer::Store, 7));
+    assert_eq!(trial.call(Call::Peek(0, 5)), payload(Buffer::Frames, 1));
+    assert_eq!(trial.call(Call::Peek(0, 7)), payload(Buffer::Store, 7));
 }
 
 #[test]
@@ -339,7 +340,7 @@ fn no_room_leaves_usage_and_hand() {
     let root = trial.root();
     trial.fix(root, 0);
     trial.state.pool.hand = FrameIndex(1);
-    assert_eq!(trial.number(Call::Fix(root, 1)), 15);
+    assert_eq!(trial.number(Call::Fix(root, 1)), 27);
 }
 
 #[test]
@@ -349,8 +350,8 @@ fn a_page_with_a_resident_child_stays() {
     let one = trial.fix(root, 0);
     let two = trial.fix(one, 0);
     trial.accept(Call::Unfix(one));
-    assert_eq!(trial.number(Call::Evict(1)), 22);
-    assert_eq!(trial.number(Call::Fix(root, 1)), 15);
+    assert_eq!(trial.number(Call::Evict(0, 1)), 22);
+    assert_eq!(trial.number(Call::Fix(root, 1)), 27);
     trial.accept(Call::Unfix(two));
     assert_eq!(trial.fix(root, 1).frame, two.frame);
 }
@@ -360,7 +361,7 @@ fn an_evicted_page_leaves_its_bytes() {
     let (mut trial, [_, five, _]) = two_children();
     trial.accept(Call::Write(five, 0, vec![9]));
     trial.accept(Call::Unfix(five));
-    trial.accept(Call::Evict(5));
+    trial.accept(Call::Evict(0, 5));
     assert_eq!(*trial.record(1), FrameRecord::EMPTY);
     assert_eq!(trial.state.frames[PAGE_SIZE + 64], 9);
     assert_eq!(trial.state.store[5 * PAGE_SIZE + 64], 9);
@@ -374,7 +375,7 @@ fn a_clean_page_is_not_written() {
     assert!(!trial.record(0).is_dirty());
     trial.accept(Call::Unfix(five));
     trial.put_stored_word(5, 3, 9);
-    trial.accept(Call::Evict(5));
+    trial.accept(Call::Evict(0, 5));
     assert!(!trial.record(0).is_dirty());
     assert_eq!(trial.frame_word(0, 1), 5);
     assert_eq!(trial.stored_word(5, 3), 9);
@@ -431,32 +432,32 @@ fn a_named_page_comes_before_a_taken_slot() {
 #[test]
 fn evict_tells_why_a_page_stays() {
     let mut trial = Trial::open(4, 16, &[(0, 1, 5), (5, 0, 6), (5, 15, 7)]);
-    assert_eq!(trial.number(Call::Evict(0)), 20, "the root");
+    assert_eq!(trial.number(Call::Evict(0, 0)), 20, "the root");
     let root = trial.root();
-    assert_eq!(trial.number(Call::Evict(0)), 20, "the root, pinned");
-    assert_eq!(trial.number(Call::Evict(5)), 11, "not resident");
-    assert_eq!(trial.number(Call::Evict(16)), 6, "not below N");
+    assert_eq!(trial.number(Call::Evict(0, 0)), 20, "the root, pinned");
+    assert_eq!(trial.number(Call::Evict(0, 5)), 11, "not resident");
+    assert_eq!(trial.number(Call::Evict(0, 16)), 6, "not below N");
     let five = trial.fix(root, 1);
-    assert_eq!(trial.number(Call::Evict(5)), 21, "a pinned page");
-    assert_eq!(trial.number(Call::Evict(0)), 20, "the root, pinned and a parent");
+    assert_eq!(trial.number(Call::Evict(0, 5)), 21, "a pinned page");
+    assert_eq!(trial.number(Call::Evict(0, 0)), 20, "the root, pinned and a parent");
     let [six, seven] = [0, 15].map(|slot| trial.fix(five, slot));
     trial.fix(five, 0);
-    assert_eq!(trial.number(Call::Evict(5)), 21, "a pinned parent");
+    assert_eq!(trial.number(Call::Evict(0, 5)), 21, "a pinned parent");
     for handle in [root, five, seven] {
         trial.accept(Call::Unfix(handle));
     }
-    assert_eq!(trial.number(Call::Evict(0)), 20, "the root, a parent");
-    assert_eq!(trial.number(Call::Evict(5)), 22, "a parent of two");
+    assert_eq!(trial.number(Call::Evict(0, 0)), 20, "the root, a parent");
+    assert_eq!(trial.number(Call::Evict(0, 5)), 22, "a parent of two");
     for _ in 0..2 {
-        assert_eq!(trial.number(Call::Evict(6)), 21, "a pin is left");
+        assert_eq!(trial.number(Call::Evict(0, 6)), 21, "a pin is left");
         trial.accept(Call::Unfix(six));
     }
-    trial.accept(Call::Evict(6));
-    assert_eq!(trial.number(Call::Evict(5)), 22, "a parent by its last slot");
-    trial.accept(Call::Evict(7));
-    trial.accept(Call::Evict(5));
-    assert_eq!(trial.number(Call::Evict(5)), 11, "gone");
-    assert_eq!(trial.number(Call::Evict(0)), 20, "the root alone");
+    trial.accept(Call::Evict(0, 6));
+    assert_eq!(trial.number(Call::Evict(0, 5)), 22, "a parent by its last slot");
+    trial.accept(Call::Evict(0, 7));
+    trial.accept(Call::Evict(0, 5));
+    assert_eq!(trial.number(Call::Evict(0, 5)), 11, "gone");
+    assert_eq!(trial.number(Call::Evict(0, 0)), 20, "the root alone");
 }
 
 /// The sweep passes over what evict refuses by 20, 21 and 22, and takes what it doesn't.
@@ -468,12 +469,12 @@ fn the_sweep_takes_what_evict_takes() {
     let [six, seven] = [trial.fix(five, 0), trial.fix(root, 2)];
     trial.accept(Call::Unfix(five));
     trial.accept(Call::Unfix(six));
-    assert_eq!([0, 5, 7].map(|page| trial.number(Call::Evict(page))), [20, 22, 21]);
+    assert_eq!([0, 5, 7].map(|page| trial.number(Call::Evict(0, page))), [20, 22, 21]);
     assert_eq!(trial.fix(root, 3).frame, six.frame);
-    assert_eq!([0, 7, 8].map(|page| trial.number(Call::Evict(page))), [20, 21, 21]);
-    trial.accept(Call::Evict(5));
+    assert_eq!([0, 7, 8].map(|page| trial.number(Call::Evict(0, page))), [20, 21, 21]);
+    trial.accept(Call::Evict(0, 5));
     trial.accept(Call::Unfix(seven));
-    trial.accept(Call::Evict(7));
+    trial.accept(Call::Evict(0, 7));
 }
 
 /// The usage of each frame.
@@ -557,11 +558,11 @@ fn without_a_sweep_nothing_warms() {
     let eight = trial.fix(root, 3);
     assert_eq!(usages(&trial), [1, 1, 2, 1, 2]);
     for call in [Call::Fix(root, 4), Call::Fix(five, 1)] {
-        assert_eq!(trial.number(call), 15);
+        assert_eq!(trial.number(call), 27);
     }
     assert_eq!(usages(&trial), [1, 1, 2, 1, 2]);
     trial.accept(Call::Unfix(eight));
-    trial.accept(Call::Evict(8));
+    trial.accept(Call::Evict(0, 8));
     assert_eq!(looks(&mut trial, root, 4), 0);
     assert_eq!(usages(&trial), [1, 1, 2, 1, 1]);
 }
@@ -651,7 +652,7 @@ fn a_links_parent_is_in_the_drawn_frame() {
     for (frame, number, page) in [(0, 49, 0), (1, 53, 5), (2, 97, 6), (3, 108, 7), (4, 61, 0)] {
         assert_eq!(parent(&trial, frame, number), alone(page), "frame {frame}");
     }
-    trial.accept(Call::Evict(6));
+    trial.accept(Call::Evict(0, 6));
     assert_eq!(parent(&trial, 2, 97), alone(0));
 }
 
@@ -700,12 +701,12 @@ fn a_locked_page_is_not_edited() {
     assert_eq!(edits(six).map(|call| trial.number(call)), [0; 3]);
     let eight = trial.fix(five, 3);
     trial.accept(Call::Unfix(eight));
-    trial.accept(Call::Evict(8));
-    for call in [Call::Show(five), Call::Peek(5), Call::Find(5), Call::Word(five, 3), Call::Settle] {
+    trial.accept(Call::Evict(0, 8));
+    for call in [Call::Show(five), Call::Peek(0, 5), Call::Find(0, 5), Call::Word(five, 3), Call::Settle] {
         trial.accept(call);
     }
     trial.accept(Call::Unfix(five));
-    trial.accept(Call::Evict(5));
+    trial.accept(Call::Evict(0, 5));
 }
 
 /// A.8: "26: the handle's page is locked, after 5 and before 6".
@@ -777,9 +778,9 @@ fn link_takes_the_mark_apart() {
     assert_eq!((seven, trial.find(7)), (handle(1, 7), (Some(1), 1)));
     assert_eq!(trial.record(1).page, PageNumber(7));
     assert_eq!([0, 1, 2].map(|slot| trial.word(root, slot)), [(7, true), (8, false), (0, false)]);
-    assert_eq!(trial.call(Call::Peek(7)), payload(Buffer::Frames, 1));
+    assert_eq!(trial.call(Call::Peek(0, 7)), payload(Buffer::Frames, 1));
     trial.accept(Call::Unfix(seven));
-    trial.accept(Call::Evict(7));
+    trial.accept(Call::Evict(0, 7));
     assert_eq!(trial.frame_word(0, 0), 0x4000_0007);
 }
 
@@ -797,13 +798,13 @@ fn marks_are_carried() {
     let three = trial.fix(one, 1);
     assert_eq!([0, 1].map(|slot| trial.frame_word(1, slot)), [0x4000_0002, 0x8000_0002]);
     trial.accept(Call::Unfix(three));
-    trial.accept(Call::Evict(3));
+    trial.accept(Call::Evict(0, 3));
     assert_eq!([0, 1].map(|slot| trial.frame_word(1, slot)), [0x4000_0002, 3]);
     trial.accept(Call::Write(root, 0, vec![1]));
     trial.accept(Call::Settle);
     assert_eq!([trial.stored_word(0, 0), trial.frame_word(0, 0)], [0x4000_0001, 0xc000_0001]);
     trial.accept(Call::Unfix(one));
-    trial.accept(Call::Evict(1));
+    trial.accept(Call::Evict(0, 1));
     assert_eq!([trial.frame_word(0, 0), trial.frame_word(0, 1)], [0x4000_0001, 4]);
     assert_eq!([0, 1, 2].map(|frame| trial.record(frame).is_dirty()), [false; 3]);
     assert_eq!([0, 1].map(|slot| trial.stored_word(1, slot)), [0x4000_0002, 3]);
@@ -819,7 +820,7 @@ fn marks_are_written_out() {
     trial.accept(Call::Unlink(six, 0));
     trial.accept(Call::Link(six, 1, 10, true));
     trial.accept(Call::Unfix(six));
-    trial.accept(Call::Evict(6));
+    trial.accept(Call::Evict(0, 6));
     assert_eq!([0, 1].map(|slot| trial.stored_word(6, slot)), [0, 0x4000_000a]);
     let six = trial.fix(root, 2);
     assert_eq!([0, 1, 3].map(|slot| trial.word(six, slot)), [(0, false), (10, true), (9, true)]);
@@ -831,7 +832,7 @@ fn a_lock_outlives_the_frame() {
     let (mut trial, [root, five, six]) = one_locked();
     for handle in [five, six] {
         trial.accept(Call::Unfix(handle));
-        trial.accept(Call::Evict(handle.page.0));
+        trial.accept(Call::Evict(0, handle.page.0));
     }
     trial.state.pool.hand = FrameIndex(2);
     let [five, six] = [1, 2].map(|slot| trial.fix(root, slot));
@@ -846,14 +847,14 @@ fn a_marked_word_is_unlinked_where_it_stands() {
     let (mut trial, [root, five, _]) = one_locked();
     assert_eq!(trial.number(Call::Unlink(root, 1)), 10);
     trial.accept(Call::Unfix(five));
-    trial.accept(Call::Evict(5));
+    trial.accept(Call::Evict(0, 5));
     for (locked, number) in [(false, 0), (true, 26)] {
         trial.accept(Call::Unlink(root, 1));
         trial.accept(Call::Link(root, 1, 5, locked));
         let five = trial.fix(root, 1);
         assert_eq!(trial.number(Call::Write(five, 0, vec![1])), number);
         trial.accept(Call::Unfix(five));
-        trial.accept(Call::Evict(5));
+        trial.accept(Call::Evict(0, 5));
     }
 }
 
@@ -865,7 +866,7 @@ fn a_locked_page_keeps_its_words() {
     let one = trial.fix(root, 0);
     assert_eq!([0, 1].map(|slot| trial.number(Call::Unlink(one, slot))), [26; 2]);
     trial.accept(Call::Unfix(one));
-    trial.accept(Call::Evict(1));
+    trial.accept(Call::Evict(0, 1));
     trial.accept(Call::Unlink(root, 0));
     trial.accept(Call::Link(root, 0, 1, false));
     let one = trial.fix(root, 0);
@@ -897,7 +898,7 @@ fn open_reads_marks() {
         (&[(0, 0, SWIZZLE_BIT | mark | 5)], 16),
     ];
     for (words, number) in cases {
-        assert_eq!(Trial::closed(4, 16, words).number(Call::Open), number, "{words:x?}");
+        assert_eq!(Trial::closed(4, 16, words).reopen(), number, "{words:x?}");
     }
 }
 
@@ -971,7 +972,7 @@ fn a_page_that_locks_itself() {
     let mut trial = Trial::open(4, 16, &[(9, 2, LOCK_BIT | 9)]);
     let root = trial.root();
     assert_eq!(trial.number(Call::Link(root, 0, 9, false)), 9);
-    trial.accept(Call::Peek(9));
+    trial.accept(Call::Peek(0, 9));
 }
 
 /// A.8: only an alteration from outside makes a locked page dirty. It is written out then as any other.
@@ -985,7 +986,7 @@ fn a_dirty_locked_page_is_written() {
     trial.record(1).dirty = 1;
     trial.state.frames[PAGE_SIZE + 64] = 8;
     trial.accept(Call::Unfix(five));
-    trial.accept(Call::Evict(5));
+    trial.accept(Call::Evict(0, 5));
     assert_eq!((trial.state.store[5 * PAGE_SIZE + 64], trial.frame_word(0, 1)), (8, 0x4000_0005));
 }
 
@@ -1001,10 +1002,10 @@ fn a_locked_page_stays_as_it_is() {
     }
     for handle in [eight, five] {
         trial.accept(Call::Unfix(handle));
-        trial.accept(Call::Evict(handle.page.0));
+        trial.accept(Call::Evict(0, handle.page.0));
     }
     trial.accept(Call::Settle);
-    trial.accept(Call::Open);
+    assert_eq!(trial.reopen(), 0);
     assert_eq!(trial.state.store[5 * PAGE_SIZE..][..PAGE_SIZE], before);
     let root = trial.root();
     let five = trial.fix(root, 1);
@@ -1054,7 +1055,7 @@ fn a_page_that_may_not_come_in_is_refused_before_room_is_sought() {
     let mut trial = Trial::open(2, 8, &[(0, 0, 1), (0, 1, 2)]);
     let root = trial.root();
     trial.fix(root, 0);
-    assert_eq!(trial.number(Call::Fix(root, 1)), 15);
+    assert_eq!(trial.number(Call::Fix(root, 1)), 27);
     trial.put_stored_word(2, 0, SWIZZLE_BIT);
     assert_eq!(trial.number(Call::Fix(root, 1)), 14);
 }
@@ -1068,6 +1069,6 @@ fn a_coming_victim_still_names_its_pages() {
     trial.accept(Call::Unfix(one));
     trial.put_stored_word(2, 9, 3);
     assert_eq!(trial.number(Call::Fix(root, 1)), 14);
-    trial.accept(Call::Evict(1));
+    trial.accept(Call::Evict(0, 1));
     assert_eq!(trial.number(Call::Fix(root, 1)), 0);
 }

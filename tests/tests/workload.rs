@@ -19,8 +19,8 @@ const SEEDS: [u32; 8] = [1, 2, 3, 77, 65_536, 123_456_789, 1 << 31, u32::MAX];
 const RECORDS: u64 = 20_000;
 
 /// What no record of a workload answers: its slot, offset, length and call are in their ranges (4, 5 and 17), an unaltered list
-/// never breaks 1, 2 and 14, no record opens a pool (16), no link has the mark (26), and 12 is a hole.
-const NEVER: [u8; 9] = [1, 2, 4, 5, 12, 14, 16, 17, 26];
+/// never breaks 1, 2 and 14, no record opens a pool (16), no link has the mark (26), there is one store (15 and 28), and 12 is a hole.
+const NEVER: [u8; 11] = [1, 2, 4, 5, 12, 14, 15, 16, 17, 26, 28];
 
 /// How often a call of the listing, by its number, gave an answer, 0 for accepted.
 type Pairs = BTreeMap<(u8, u8), u64>;
@@ -71,9 +71,9 @@ fn workloads() {
     for seed in SEEDS {
         let pairs = pairs_of(seed, records);
         println!(
-            "seed {seed}: {records} records, 13 {} and 15 {} times",
+            "seed {seed}: {records} records, 13 {} and 27 {} times",
             times(&pairs, 13),
-            times(&pairs, 15)
+            times(&pairs, 27)
         );
         let refused: Vec<u8> = (1..=9).filter(|call| !pairs.contains_key(&(*call, 0))).collect();
         assert_eq!(refused, [], "calls that are never accepted under seed {seed}");

@@ -63,6 +63,12 @@ impl Known {
         self.pins.get(&page).copied().unwrap_or(0)
     }
 
+    /// The resident pages but the root that name no resident page.
+    pub fn leaves(&self) -> Vec<u16> {
+        let pages = self.held.values().copied();
+        pages.filter(|page| *page != 0 && self.children(*page).is_empty()).collect()
+    }
+
     /// The resident pages that a page names, each with the slot that names it.
     pub fn children(&self, page: u16) -> Vec<(u8, u16)> {
         let slots = self.named.range((page, 0)..=(page, u8::MAX)).map(|((_, slot), named)| (*slot, *named));

@@ -37,13 +37,14 @@ impl Replay {
         Ok(format!("refused by rule {number}: {sentence}{}", self.hint(number, call)))
     }
 
-    /// What helps with a refused link or evict, with the numbers of the case.
+    /// What helps with a refused link, evict or fix, with the numbers of the case.
     fn hint(&self, number: u8, call: Option<&Call>) -> String {
         match (number, call) {
             (8, Some(Call::Link { .. })) => " An empty slot takes it.".to_string(),
             (9, Some(Call::Link { page, .. })) => self.namer(*page),
-            (21, Some(Call::Evict { page })) => self.pins(*page),
+            (21, Some(Call::Evict { page })) => self.pins("It", *page),
             (22, Some(Call::Evict { page })) => self.children(*page),
+            (27, Some(Call::Fix { handle, .. })) => self.leaves(handle.page),
             _ => String::new(),
         }
     }
@@ -55,12 +56,18 @@ impl Replay {
     }
 
     /// How often a page has to be unfixed, and in which frame.
-    fn pins(&self, page: u16) -> String {
+    fn pins(&self, said: &str, page: u16) -> String {
         match (self.known.pins(page), self.known.frame(page)) {
-            (1, Some(frame)) => format!(" It has 1 pin in frame {frame}."),
-            (pins, Some(frame)) => format!(" It has {pins} pins in frame {frame}."),
+            (1, Some(frame)) => format!(" {said} has 1 pin in frame {frame}."),
+            (pins, Some(frame)) => format!(" {said} has {pins} pins in frame {frame}."),
             (_, None) => String::new(),
         }
+    }
+
+    /// Which pages could be unfixed, so that a sweep takes one: not the one whose child is to come in.
+    fn leaves(&self, parent: u16) -> String {
+        let leaves = self.known.leaves().into_iter().filter(|page| *page != parent);
+        leaves.map(|page| self.pins(&format!("Page {page}"), page)).collect()
     }
 
     /// Which pages have to be evicted before their parent.

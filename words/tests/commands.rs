@@ -179,6 +179,51 @@ fn a_page_that_stays_is_told_with_what_to_do() {
     );
 }
 
+/// A load that is denied a frame, and what helps, done: an unfix of a page that names no resident one, until its pins are gone.
+const DENIED: &str = "\
+root
+link 10 0 of 0 0
+link 11 1 of 0 0
+link 12 2 of 0 0
+fix 0 of 0 0
+link 13 0 of 1 10
+fix 0 of 1 10
+fix 0 of 1 10
+fix 1 of 0 0
+fix 2 of 0 0
+unfix 1 10
+unfix 2 13
+fix 2 of 0 0
+unfix 2 13
+fix 2 of 0 0
+";
+
+const DENIED_TOLD: &str = "\
+1  root: page 0 in frame 0
+2  link page 10 at slot 0 of page 0 in frame 0: done
+3  link page 11 at slot 1 of page 0 in frame 0: done
+4  link page 12 at slot 2 of page 0 in frame 0: done
+5  fix slot 0 (page 10) of page 0 in frame 0: page 10 in frame 1
+6  link page 13 at slot 0 of page 10 in frame 1: done
+7  fix slot 0 (page 13) of page 10 in frame 1: page 13 in frame 2
+8  fix slot 0 (page 13) of page 10 in frame 1: page 13 in frame 2
+9  fix slot 1 (page 11) of page 0 in frame 0: page 11 in frame 3
+10  fix slot 2 (page 12) of page 0 in frame 0: refused by rule 27: The store is at its ceiling and has no page of its own that a sweep could take. First unfix one that names no resident page until its pins are gone. Page 13 has 2 pins in frame 2. Page 11 has 1 pin in frame 3.
+11  unfix page 10 in frame 1: done
+12  unfix page 13 in frame 2: done
+13  fix slot 2 (page 12) of page 0 in frame 0: refused by rule 27: The store is at its ceiling and has no page of its own that a sweep could take. First unfix one that names no resident page until its pins are gone. Page 13 has 1 pin in frame 2. Page 11 has 1 pin in frame 3.
+14  unfix page 13 in frame 2: done
+15  fix slot 2 (page 12) of page 0 in frame 0: page 12 in frame 2
+";
+
+#[test]
+fn a_denied_load_is_told_with_what_to_do() {
+    assert_eq!(
+        words(&["replay", LISTING, "-"], DENIED.as_bytes()),
+        (0, DENIED_TOLD.to_string(), String::new())
+    );
+}
+
 #[test]
 fn a_record_that_sets_bytes_which_it_does_not_use_is_told() {
     let mut records = [0xff; 16];

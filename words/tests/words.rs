@@ -84,6 +84,9 @@ fn refusals_are_explained() {
     assert!(explain(&table, "7 255 0 0").is_err());
     assert!(explain(&table, "7 21 0").is_err());
     assert_eq!(meaning(&table, "4"), Ok("The slot is above 15."));
+    assert_eq!(meaning(&table, "28"), Ok("The store number isn't below T."));
+    let [below, at] = ["15", "27"].map(|number| meaning(&table, number).expect(number));
+    assert!(below.contains("for a store below its ceiling") && at.starts_with("The store is at its ceiling"));
     let [(hole, said)] = table.holes[..] else { panic!("{:?}", table.holes) };
     assert_eq!(explain(&table, &format!("7 {hole} 0 0")), Ok(format!("7 {hole} 0 0  # {hole}: {said}")));
     assert!(said.starts_with("Evict's page is the root, pinned, or has a swizzled word."));

@@ -1,5 +1,6 @@
 //! The directory of resident pages: byte b holds 1 plus the frame at the head of chain b, byte 67 + f 1 plus the one after f.
-use pagepool::{FrameIndex, FrameRecord, PageNumber, BUCKETS, DIRECTORY_SIZE, MOST_FRAMES};
+use super::keys::Keys;
+use pagepool::{FrameIndex, FrameRecord, PageNumber, StoreNumber, BUCKETS, DIRECTORY_SIZE, MOST_FRAMES};
 
 pub type Directory = [u8; DIRECTORY_SIZE];
 
@@ -27,14 +28,9 @@ const MET: u16 = NOWHERE + 256;
 /// The heads that are looked at together.
 const ROW: usize = 8;
 
-/// The page in each frame, 0 for none. The root is in frame 0.
-pub type Pages = [u16; MOST_FRAMES];
-
 /// Whether the chains give the resident pages of their remainders, each once, and every other byte is 0.
-pub fn agrees(pages: &Pages, directory: &Directory) -> bool {
-    let mut awaited = pages.map(|page| if page == 0 { NOWHERE } else { page % NOWHERE });
-    awaited[0] = 0;
-    gives(directory, awaited)
+pub fn agrees(keys: &Keys, directory: &Directory) -> bool {
+    gives(directory, keys.by_page(NOWHERE, |page| page % NOWHERE))
 }
 
 /// Whether the chains give the frames that are awaited in them, each once, and every other byte is 0. A row of heads without
@@ -75,10 +71,12 @@ fn none_awaited(awaited: &Awaited, directory: &Directory) -> bool {
     frames.fold(true, |none, (awaited, link)| none & (*awaited >= NOWHERE + u16::from(*link)))
 }
 
-/// Page 0 alone, in frame 0.
-pub fn begin(directory: &mut [u8]) {
+/// The roots alone, of so many stores, in the first frames and entered in their order.
+pub fn begin(directory: &mut [u8], stores: u8) {
     directory.fill(0);
-    directory[0] = 1;
+    for frame in (0..stores).map(FrameIndex) {
+        enter(directory, frame, PageNumber(0));
+    }
 }
 
 /// Puts a frame at the head of its page's chain.
@@ -97,13 +95,18 @@ pub fn take_out(directory: &mut [u8], frame: FrameIndex, page: PageNumber) {
     directory[at] = std::mem::take(&mut directory[link_of(frame.into())]);
 }
 
-/// The frame that holds a page, by its chain, and the entries compared.
-pub fn seek(records: &[FrameRecord], directory: &[u8], page: PageNumber) -> (Option<FrameIndex>, u16) {
+/// The frame that holds a page of a store, by its chain, and the entries compared.
+pub fn seek(
+    records: &[FrameRecord],
+    directory: &[u8],
+    of_store: StoreNumber,
+    page: PageNumber,
+) -> (Option<FrameIndex>, u16) {
     let (mut byte, mut compared) = (directory[bucket_of(page)], 0);
     while byte != 0 {
         let frame = usize::from(byte - 1);
         compared += 1;
-        if records[frame].page == page {
+        if records[frame].page == page && records[frame].store == of_store {
             return (Some(FrameIndex(frame as u8)), compared);
         }
         byte = directory[link_of(frame)];

@@ -3,6 +3,7 @@
 mod agreement;
 pub mod directory;
 mod drawing;
+pub mod keys;
 mod moves;
 mod naming;
 mod page;
@@ -13,27 +14,45 @@ pub mod tally;
 use page::{pages_of, pages_of_mut, SWIZZLE_BIT};
 use pagepool::{
     Entry, Fixed, Found, FrameIndex, FrameRecord, Generator, Handle, Named, PageNumber, Pool, Refusal,
-    LOCK_BIT, MAX_PINS, MAX_USAGE, MOST_PAGES, PAGE_SIZE, PAYLOAD_SIZE, PAYLOAD_START,
+    StoreNumber, Stores, LOCK_BIT, MAX_PINS, MAX_USAGE, PAGE_SIZE, PAYLOAD_SIZE, PAYLOAD_START,
 };
 use rules::rule;
-use seen::{Seen, FEW};
+use seen::{with_table, Seen};
 
 #[inline(never)]
-pub fn open(pool: &mut Pool, frames: &mut [u8], store: &[u8], directory: &mut [u8]) -> Result<(), Refusal> {
-    let (count, pages) = (frames.len() / PAGE_SIZE, store.len() / PAGE_SIZE);
-    rule(Refusal::WrongLength, rules::lengths_fit(count, pages, frames, store, directory))?;
-    rule(Refusal::UnsoundStore, naming::is_sound(pages_of(store)))?;
-    frames[..PAGE_SIZE].copy_from_slice(&store[..PAGE_SIZE]);
-    directory::begin(directory);
-    *pool = Pool { count: count as u16, pages: pages as u16, ..Pool::ZERO };
-    pool.records[0].used = 1;
+pub fn open(
+    pool: &mut Pool,
+    frames: &mut [u8],
+    store: &[u8],
+    directory: &mut [u8],
+    stores: Stores,
+) -> Result<(), Refusal> {
+    let count = frames.len() / PAGE_SIZE;
+    let pages = store.len().checked_div(PAGE_SIZE * usize::from(stores.count)).unwrap_or(0);
+    rule(Refusal::WrongLength, rules::figures_fit(count, pages, stores, frames, store, directory))?;
+    rule(Refusal::UnsoundStore, naming::are_sound(pages_of(store), pages))?;
+    let Stores { count: stores, ceilings } = stores;
+    directory::begin(directory, stores);
+    *pool = Pool { count: count as u16, pages: pages as u16, stores, ceilings, ..Pool::ZERO };
+    for of_store in (0..stores).map(StoreNumber) {
+        let root = usize::from(of_store);
+        pages_of_mut(frames)[root] = pages_of(store)[place(pool, of_store, PageNumber(0))];
+        (pool.records[root].used, pool.records[root].store) = (1, of_store);
+    }
     Ok(())
 }
 
 #[inline(never)]
-pub fn root(pool: &mut Pool, frames: &[u8], store: &[u8], directory: &[u8]) -> Result<Fixed, Refusal> {
+pub fn root(
+    pool: &mut Pool,
+    frames: &[u8],
+    store: &[u8],
+    directory: &[u8],
+    of_store: StoreNumber,
+) -> Result<Fixed, Refusal> {
     rules::state(pool, frames, store, directory)?;
-    pin(pool, FrameIndex(0))
+    rules::store(pool, of_store)?;
+    pin(pool, FrameIndex(of_store.0))
 }
 
 #[inline(never)]
@@ -45,23 +64,21 @@ pub fn fix(
     handle: Handle,
     slot: usize,
 ) -> Result<Fixed, Refusal> {
-    if usize::from(pool.pages) <= FEW {
-        fix_with(pool, frames, store, directory, handle, slot, &mut Seen::<FEW>::new())
-    } else {
-        fix_with(pool, frames, store, directory, handle, slot, &mut Seen::<MOST_PAGES>::new())
-    }
+    with_table!(pool.stores, pool.pages, |seen| {
+        fix_with(pool, frames, store, directory, handle, slot, seen)
+    })
 }
 
-fn fix_with<const MOST: usize>(
+fn fix_with<const MOST: usize, const STORES: usize>(
     pool: &mut Pool,
     frames: &mut [u8],
     store: &mut [u8],
     directory: &mut [u8],
     handle: Handle,
     slot: usize,
-    seen: &mut Seen<MOST>,
+    seen: &mut Seen<MOST, STORES>,
 ) -> Result<Fixed, Refusal> {
-    let occupied = rules::state_with(pool, frames, store, directory, seen)?;
+    let keys = rules::state_with(pool, frames, store, directory, seen)?;
     rules::handle(pool, handle)?;
     rules::slot(slot)?;
     let word = page::word(&pages_of(frames)[usize::from(handle.frame)], slot);
@@ -69,15 +86,13 @@ fn fix_with<const MOST: usize>(
     if word >= SWIZZLE_BIT {
         return pin(pool, moves::frame_in(word));
     }
-    let page = PageNumber(page::name(word) as u16);
-    rule(
-        Refusal::BadStoredPage,
-        naming::may_come_in(&pages_of(store)[usize::from(page)], PageNumber(pool.pages), seen),
-    )?;
-    let (frame, looks) = moves::frame_for_load(pool, frames, store, directory, occupied)?;
-    moves::load(pool, frames, store, handle.frame, slot, frame, page);
+    let (of_store, page) = (handle.store, PageNumber(page::name(word) as u16));
+    let stored = &pages_of(store)[place(pool, of_store, page)];
+    rule(Refusal::BadStoredPage, naming::may_come_in(stored, PageNumber(pool.pages), seen.of(of_store)))?;
+    let (frame, looks) = moves::frame_for_load(pool, frames, store, directory, of_store, &keys)?;
+    moves::load(pool, frames, store, (handle.frame, of_store), slot, frame, page);
     directory::enter(directory, frame, page);
-    Ok(Fixed { handle: Handle { frame, page }, looks })
+    Ok(Fixed { handle: Handle { frame, store: of_store, page }, looks })
 }
 
 #[inline(never)]
@@ -113,13 +128,14 @@ pub fn peek<'a>(
     frames: &'a [u8],
     store: &'a [u8],
     directory: &[u8],
+    of_store: StoreNumber,
     page: PageNumber,
 ) -> Result<&'a [u8], Refusal> {
     rules::state(pool, frames, store, directory)?;
-    rules::page(pool, page)?;
-    Ok(match directory::seek(&pool.records, directory, page).0 {
+    rules::page(pool, of_store, page)?;
+    Ok(match directory::seek(&pool.records, directory, of_store, page).0 {
         Some(frame) => payload(frames, frame.into()),
-        None => payload(store, page.into()),
+        None => payload(store, place(pool, of_store, page)),
     })
 }
 
@@ -175,15 +191,13 @@ pub fn link(
     locked: bool,
 ) -> Result<(), Refusal> {
     let word = u32::from(page) | if locked { LOCK_BIT } else { 0 };
-    if usize::from(pool.pages) <= FEW {
-        link_with(pool, frames, store, directory, handle, slot, word, &mut Seen::<FEW>::new())
-    } else {
-        link_with(pool, frames, store, directory, handle, slot, word, &mut Seen::<MOST_PAGES>::new())
-    }
+    with_table!(pool.stores, pool.pages, |seen| {
+        link_with(pool, frames, store, directory, handle, slot, word, seen)
+    })
 }
 
 #[allow(clippy::too_many_arguments)]
-fn link_with<const MOST: usize>(
+fn link_with<const MOST: usize, const STORES: usize>(
     pool: &mut Pool,
     frames: &mut [u8],
     store: &[u8],
@@ -191,7 +205,7 @@ fn link_with<const MOST: usize>(
     handle: Handle,
     slot: usize,
     word: u32,
-    seen: &mut Seen<MOST>,
+    seen: &mut Seen<MOST, STORES>,
 ) -> Result<(), Refusal> {
     let page = PageNumber(page::name(word) as u16);
     rules::state_with(pool, frames, store, directory, seen)?;
@@ -199,7 +213,10 @@ fn link_with<const MOST: usize>(
     rules::slot(slot)?;
     rules::unlocked(pool, frames, handle)?;
     rule(Refusal::BadPage, page != PageNumber(0) && page.0 < pool.pages)?;
-    rule(Refusal::AlreadyNamed, !seen.has(page) && !naming::is_stored(pool, pages_of(store), page))?;
+    let (of_store, first) = (handle.store, place(pool, handle.store, PageNumber(0)));
+    let own = &pages_of(store)[first..first + usize::from(pool.pages)];
+    let is_named = seen.of(of_store).has(page) || naming::is_stored(pool, own, of_store, page);
+    rule(Refusal::AlreadyNamed, !is_named)?;
     rule(Refusal::FullSlot, page::word(&pages_of(frames)[usize::from(handle.frame)], slot) == 0)?;
     put_link(pool, frames, handle, slot, word);
     Ok(())
@@ -231,12 +248,13 @@ pub fn evict(
     frames: &mut [u8],
     store: &mut [u8],
     directory: &mut [u8],
+    of_store: StoreNumber,
     page: PageNumber,
 ) -> Result<(), Refusal> {
     rules::state(pool, frames, store, directory)?;
-    rules::page(pool, page)?;
-    let frame = frame_of(pool, page).ok_or(Refusal::NotResident)?;
-    rule(Refusal::IsRoot, frame != FrameIndex(0))?;
+    rules::page(pool, of_store, page)?;
+    let frame = frame_of(pool, of_store, page).ok_or(Refusal::NotResident)?;
+    rule(Refusal::IsRoot, !is_root(pool, frame))?;
     rule(Refusal::IsPinned, pool.record(frame).pins == 0)?;
     rule(Refusal::IsParent, !page::has_swizzled(&pages_of(frames)[usize::from(frame)]))?;
     moves::evict(pool, frames, store, directory, frame);
@@ -256,11 +274,12 @@ pub fn find(
     frames: &[u8],
     store: &[u8],
     directory: &[u8],
+    of_store: StoreNumber,
     page: PageNumber,
 ) -> Result<Found, Refusal> {
     rules::state(pool, frames, store, directory)?;
-    rules::page(pool, page)?;
-    let (frame, compared) = directory::seek(&pool.records, directory, page);
+    rules::page(pool, of_store, page)?;
+    let (frame, compared) = directory::seek(&pool.records, directory, of_store, page);
     Ok(Found { frame, compared })
 }
 
@@ -281,9 +300,19 @@ fn records(pool: &Pool) -> &[FrameRecord] {
     &pool.records[..usize::from(pool.count)]
 }
 
-/// The frame that holds a page, by the records.
-fn frame_of(pool: &Pool, page: PageNumber) -> Option<FrameIndex> {
-    let holds = |record: &FrameRecord| record.is_used() & (record.page == page);
+/// Whether a frame is that of a store's root.
+fn is_root(pool: &Pool, frame: FrameIndex) -> bool {
+    frame.0 < pool.stores
+}
+
+/// The place of a store's page among the pages of all stores.
+fn place(pool: &Pool, of_store: StoreNumber, page: PageNumber) -> usize {
+    usize::from(pool.pages) * usize::from(of_store) + usize::from(page)
+}
+
+/// The frame that holds a page of a store, by the records.
+fn frame_of(pool: &Pool, of_store: StoreNumber, page: PageNumber) -> Option<FrameIndex> {
+    let holds = |record: &FrameRecord| record.is_used() & (record.page == page) & (record.store == of_store);
     records(pool).iter().position(holds).map(|frame| FrameIndex(frame as u8))
 }
 
@@ -293,7 +322,7 @@ fn pin(pool: &mut Pool, frame: FrameIndex) -> Result<Fixed, Refusal> {
     rule(Refusal::TooManyPins, record.pins < MAX_PINS)?;
     record.pins += 1;
     record.usage = MAX_USAGE.min(record.usage + 1);
-    Ok(Fixed { handle: Handle { frame, page: record.page }, looks: 0 })
+    Ok(Fixed { handle: Handle { frame, store: record.store, page: record.page }, looks: 0 })
 }
 
 /// Puts a word into a slot of the handle's page, which is then dirty.

@@ -1,8 +1,8 @@
 //! A page leaving its frame, coming into one, and settling; and the frame that a load takes.
-use super::directory;
+use super::keys::Keys;
 use super::page::{pages_of, pages_of_mut, put_name, put_word, swizzled_to, word, Page, SWIZZLE_BIT};
-use super::records;
-use pagepool::{FrameIndex, FrameRecord, PageNumber, Pool, Refusal, LOCK_BIT, MAX_USAGE, SLOTS};
+use super::{directory, place, records};
+use pagepool::{FrameIndex, FrameRecord, PageNumber, Pool, Refusal, StoreNumber, LOCK_BIT, MAX_USAGE, SLOTS};
 
 /// The frame that a swizzled word names.
 pub fn frame_in(word: u32) -> FrameIndex {
@@ -23,37 +23,37 @@ pub fn evict(pool: &mut Pool, frames: &mut [u8], store: &mut [u8], directory: &m
     let record = std::mem::replace(pool.record_mut(frame), FrameRecord::EMPTY);
     let frames = pages_of_mut(frames);
     if record.is_dirty() {
-        pages_of_mut(store)[usize::from(record.page)] = frames[usize::from(frame)];
+        pages_of_mut(store)[place(pool, record.store, record.page)] = frames[usize::from(frame)];
     }
     put_name(&mut frames[usize::from(record.parent)], record.slot.into(), record.page.into());
     directory::take_out(directory, frame, record.page);
 }
 
-/// Loads a page into an empty frame, for a slot of its parent's frame.
+/// Loads a page into an empty frame, for a slot of its parent's frame, which holds a page of the same store.
 pub fn load(
     pool: &mut Pool,
     frames: &mut [u8],
     store: &[u8],
-    parent: FrameIndex,
+    (parent, of_store): (FrameIndex, StoreNumber),
     slot: usize,
     frame: FrameIndex,
     page: PageNumber,
 ) {
     let frames = pages_of_mut(frames);
-    frames[usize::from(frame)] = pages_of(store)[usize::from(page)];
+    frames[usize::from(frame)] = pages_of(store)[place(pool, of_store, page)];
     put_name(&mut frames[usize::from(parent)], slot, swizzled_to(frame));
     *pool.record_mut(frame) =
-        FrameRecord { used: 1, dirty: 0, usage: 1, slot: slot as u8, parent, pins: 1, page };
+        FrameRecord { used: 1, dirty: 0, usage: 1, slot: slot as u8, parent, store: of_store, pins: 1, page };
 }
 
-/// Writes the image of each dirty page to the store, and marks it clean.
+/// Writes the image of each dirty page to its store, and marks it clean.
 pub fn settle(pool: &mut Pool, frames: &[Page], store: &mut [Page]) {
-    let parents = parents(records(pool));
+    let parents = parents(pool);
     for (frame, page) in frames.iter().enumerate() {
-        let record = &mut pool.records[frame];
+        let record = pool.records[frame];
         if record.is_dirty() {
-            record.dirty = 0;
-            let stored = &mut store[usize::from(record.page)];
+            pool.records[frame].dirty = 0;
+            let stored = &mut store[place(pool, record.store, record.page)];
             *stored = *page;
             if parents >> frame & 1 == 1 {
                 unswizzle(stored, page, &pool.records);
@@ -70,24 +70,38 @@ fn unswizzle(image: &mut Page, page: &Page, records: &[FrameRecord]) {
 }
 
 /// The frames that are parents, as a mask: where records and frames agree, those with a swizzled word.
-fn parents(records: &[FrameRecord]) -> u64 {
-    records.iter().skip(1).fold(0, |mask, record| mask | u64::from(record.used) << record.parent.0)
+fn parents(pool: &Pool) -> u64 {
+    let others = &records(pool)[usize::from(pool.stores)..];
+    others.iter().fold(0, |mask, record| mask | u64::from(record.used) << record.parent.0)
 }
 
-/// An empty frame for a load, and the looks of the sweep that emptied it.
+/// An empty frame for a load of a page of a store, and the looks of the sweep that emptied it.
 pub fn frame_for_load(
     pool: &mut Pool,
     frames: &mut [u8],
     store: &mut [u8],
     directory: &mut [u8],
-    occupied: usize,
+    of_store: StoreNumber,
+    keys: &Keys,
 ) -> Result<(FrameIndex, u16), Refusal> {
-    if occupied < usize::from(pool.count) {
+    let held = keys.held(of_store);
+    let at_ceiling = held >= pool.ceilings[usize::from(of_store)].into();
+    if !at_ceiling && keys.occupied() < pool.count {
         return Ok((first_empty(pool), 0));
     }
-    let (victim, looks) = sweep(pool).ok_or(Refusal::NoFrame)?;
+    // Where all frames are the store's own, none is to be left out.
+    let swept = if at_ceiling && held < pool.count { own(pool, of_store) } else { u64::MAX };
+    let refusal = if at_ceiling { Refusal::AtCeiling } else { Refusal::NoFrame };
+    let (victim, looks) = sweep(pool, swept).ok_or(refusal)?;
     evict(pool, frames, store, directory, victim);
     Ok((victim, looks))
+}
+
+/// The frames with pages of a store, as a mask.
+fn own(pool: &Pool, of_store: StoreNumber) -> u64 {
+    let is_own = |record: &FrameRecord| record.is_used() & (record.store == of_store);
+    let frames = records(pool).iter().enumerate();
+    frames.fold(0, |mask, (frame, record)| mask | u64::from(is_own(record)) << frame)
 }
 
 /// The first empty frame at or after the hand, going round. There is one.
@@ -100,10 +114,10 @@ fn first_empty(pool: &Pool) -> FrameIndex {
 
 /// The clock sweep, worked out and not walked: the open frame of least usage that comes first from the hand on is taken, after
 /// as many whole rounds as that usage. Each look takes one off the usage of an open frame, and adds one to that of a pinned one,
-/// the root's excepted. Gives the frame that is taken, with the looks.
-fn sweep(pool: &mut Pool) -> Option<(FrameIndex, u16)> {
+/// the roots' excepted; frames that aren't in the mask stay as they are. Gives the frame that is taken, with the looks.
+fn sweep(pool: &mut Pool, swept: u64) -> Option<(FrameIndex, u16)> {
     let (count, hand) = (usize::from(pool.count), usize::from(pool.hand));
-    let Looked { open, warmed } = looked(records(pool));
+    let Looked { open, warmed } = looked(pool, swept);
     let rounds = (0..=MAX_USAGE).find(|usage| open[usize::from(*usage)] != 0)?;
     let victim = first_from(hand, open[usize::from(rounds)]);
     let any = open.iter().fold(0, |any, mask| any | mask);
@@ -157,24 +171,25 @@ fn first_from(hand: usize, mask: u64) -> usize {
 
 /// The frames of which a look changes something, as masks.
 struct Looked {
-    /// Those open to eviction, for each usage: not the root's, not pinned, with no swizzled word.
+    /// Those open to eviction, for each usage: not a root's, not pinned, with no swizzled word.
     open: [u64; MAX_USAGE as usize + 1],
-    /// Those that are pinned, the root's excepted, and below the largest usage.
+    /// Those that are pinned, the roots' excepted, and below the largest usage.
     warmed: u64,
 }
 
-/// Those frames, where none is empty.
-fn looked(records: &[FrameRecord]) -> Looked {
-    const ROOT: u64 = 1;
+/// Those of the frames in a mask, none of which is empty.
+fn looked(pool: &Pool, swept: u64) -> Looked {
+    let (records, roots) = (records(pool), (1 << pool.stores) - 1);
     let (mut pinned, mut low, mut high) = (0, 0, 0);
     for (frame, record) in records.iter().enumerate() {
         pinned |= u64::from(record.pins != 0) << frame;
         low |= u64::from(record.usage & 1) << frame;
         high |= u64::from(record.usage >> 1) << frame;
     }
-    let open = !(ROOT | pinned | parents(records)) & u64::MAX >> (64 - records.len());
+    let swept = swept & !roots & u64::MAX >> (64 - records.len());
+    let open = swept & !(pinned | parents(pool));
     Looked {
         open: [open & !low & !high, open & low & !high, open & !low & high, open & low & high],
-        warmed: pinned & !ROOT & !(low & high),
+        warmed: swept & pinned & !(low & high),
     }
 }

@@ -1,5 +1,5 @@
 -- How many numbers below a bound pass a test, and what a map between those that pass tells. Assumes nothing.
-use Prim.Native.Nat.{ℕ, zero, suc, _+_, _<_, _≤_}
+use Prim.Native.Nat.{ℕ, zero, suc, _+_, _-_, _<_, _≤_}
 use mathlib.Core.Path.{_≡_, refl, sym, _∙_, ap}
 use mathlib.Core.Logic.{_≢_}
 use mathlib.Core.Bool.{Bool, true, false, not}
@@ -7,10 +7,12 @@ use native.Mathlib.Omega.{arith}
 use native.Mathlib.Nat.{add-zero, add-suc, add-assoc}
 use native.Mathlib.Numerals.{add-one}
 use native.Mathlib.Decide.{ℕ-discrete}
-use borrow.Author.Tests.{eqb-true, eqb-false, eq-eqb, ne-eqb, not-true}
+use borrow.Author.Tests.{eqb-true, eq-eqb, ne-eqb, le-ltb, ltb-false, not-true}
 use mir.Val.{boolByte}
-use lib.Dec.{eqb}
+use lib.Dec.{eqb, ltb}
 use Rattle.rules.specs.Tests.{_and_, some}
+use Rattle.chains.specs.Chain.{tally}
+use Rattle.chains.specs.FrameTally.{tally-zero, tally-on, tally-off}
 use Rattle.rules.specs.TestLaws.{clash, case, on, off, is-off, same, and-left, and-true, and-off, both, some-true, some-false}
 
 -- how many numbers below n pass
@@ -48,6 +50,11 @@ unfolding countIf
 count-none zero t h = refl
 count-none (suc n) t h = rw (count-none n t (λ i k. h i (omega arith)), h n (omega arith))
 
+pub count-all : (n : ℕ) (t : ℕ → Bool) → ((i : ℕ) → i < n → t i ≡ true) → countIf n t ≡ n
+unfolding countIf
+count-all zero t h = refl
+count-all (suc n) t h = let e : countIf n t ≡ n = count-all n t (λ i k. h i (omega arith)) in rw (h n (omega arith)) (omega arith)
+
 pub count-le : (n : ℕ) (t : ℕ → Bool) → countIf n t ≤ n
 unfolding countIf
 count-le zero t = omega arith
@@ -62,23 +69,28 @@ unfolding countIf
 count-split zero t u v h = refl
 count-split (suc n) t u v h = omega (arith, count-split n t u v (λ i l. h i (omega arith)), h n (omega arith))
 
--- the test with one number taken out
-unfoldable pub without : ℕ → (ℕ → Bool) → ℕ → Bool
-without x t i = t i and not (eqb i x)
+-- it is the tally of those that pass
+pub count-tally : (n : ℕ) (t : ℕ → Bool) → countIf n t ≡ tally n t
+unfolding countIf
+count-tally zero t = sym (tally-zero t)
+count-tally (suc n) t = elim (case (t n)) [
+  | on e ↦ let q : countIf n t ≡ tally n t = count-tally n t in rw e (omega (arith, tally-on n t e))
+  | off e ↦ let q : countIf n t ≡ tally n t = count-tally n t in rw e (omega (arith, tally-off n t e))
+]
 
-pub without-of : (x : ℕ) (t : ℕ → Bool) (i : ℕ) → without x t i ≡ true → (i ≢ x) × (t i ≡ true)
-unfolding without
-without-of x t i e = let a = and-true (t i) (not (eqb i x)) e in (eqb-false i x (not-true _ (a .1)), a .0)
+-- the test with one number taken out
+unfoldable without : ℕ → (ℕ → Bool) → ℕ → Bool
+without x t i = t i and not (eqb i x)
 
 without-same : (x : ℕ) (t : ℕ → Bool) → without x t x ≡ false
 unfolding without
 without-same x t = rw (eq-eqb x x refl) (and-off (t x))
 
-pub without-other : (x : ℕ) (t : ℕ → Bool) (i : ℕ) → i ≢ x → without x t i ≡ t i
+without-other : (x : ℕ) (t : ℕ → Bool) (i : ℕ) → i ≢ x → without x t i ≡ t i
 unfolding without
 without-other x t i n = same (t i and not (eqb i x)) (t i) (and-left (t i) _) (λ e. both _ _ e (ap not (ne-eqb i x n)))
 
-pub count-without : (n x : ℕ) (t : ℕ → Bool) → x < n → t x ≡ true → countIf n t ≡ countIf n (without x t) + 1
+count-without : (n x : ℕ) (t : ℕ → Bool) → x < n → t x ≡ true → countIf n t ≡ countIf n (without x t) + 1
 unfolding countIf
 count-without zero x t l e = absurd (omega arith)
 count-without (suc n) x t l e = elim (ℕ-discrete x n) [
@@ -92,6 +104,30 @@ count-without (suc n) x t l e = elim (ℕ-discrete x n) [
       let b : without x t n ≡ t n = without-other x t n (λ z. q (sym z)) in
       rw (b, a) (omega arith)
 ]
+
+-- the test from T on
+unfoldable pub beyond : ℕ → (ℕ → Bool) → ℕ → Bool
+beyond T t i = t i and not (ltb i T)
+
+pub beyond-of : (T : ℕ) (t : ℕ → Bool) (i : ℕ) → beyond T t i ≡ true → (T ≤ i) × (t i ≡ true)
+unfolding beyond
+beyond-of T t i e = let a = and-true (t i) (not (ltb i T)) e in (ltb-false i T (not-true _ (a .1)), a .0)
+
+pub of-beyond : (T : ℕ) (t : ℕ → Bool) (i : ℕ) → T ≤ i → t i ≡ true → beyond T t i ≡ true
+unfolding beyond
+of-beyond T t i l e = both _ _ e (ap not (le-ltb i T l))
+
+-- where all below T pass, they are T more
+pub count-beyond : (n T : ℕ) (t : ℕ → Bool) → T ≤ n → ((i : ℕ) → i < T → t i ≡ true) → countIf n t ≡ countIf n (beyond T t) + T
+count-beyond n T t l h =
+    let e : T + (n - T) ≡ n = omega arith in
+    let a : countIf (T + (n - T)) t ≡ countIf T t + countIf (n - T) (λ i. t (T + i)) = count-add T (n - T) t in
+    let b : countIf (T + (n - T)) (beyond T t) ≡ countIf T (beyond T t) + countIf (n - T) (λ i. beyond T t (T + i)) = count-add T (n - T) (beyond T t) in
+    let c : countIf T t ≡ T = count-all T t h in
+    let d : countIf T (beyond T t) ≡ 0 = count-none T (beyond T t) (λ i m. is-off _ (λ z. omega (arith, beyond-of T t i z .0))) in
+    let f : countIf (n - T) (λ i. t (T + i)) ≡ countIf (n - T) (λ i. beyond T t (T + i)) =
+    count-ext (n - T) _ _ (λ i m. same (t (T + i)) (beyond T t (T + i)) (of-beyond T t (T + i) (omega arith)) (λ z. beyond-of T t (T + i) z .1)) in
+    rw (← e) (omega arith)
 
 pub none-passes : (n : ℕ) (t : ℕ → Bool) → countIf n t ≡ 0 → (i : ℕ) → i < n → t i ≡ false
 none-passes n t z i l = is-off (t i) (λ e. omega (arith, count-without n i t l e))

@@ -1,14 +1,12 @@
 -- Laws of the code's tests, for the proofs of its functions. Assumes nothing.
 use Prim.Native.Nat.{ℕ, zero, suc, _+_, _*_, _-_, _/_, _%_, _<_, _≤_}
 use mathlib.Core.Path.{_≡_, refl, sym, _∙_, ap}
-use mathlib.Core.Logic.{_≢_}
 use mathlib.Core.Bool.{Bool, true, false}
 use mathlib.Core.List.{List}
 use native.Mathlib.Numerals.{add-one}
 use native.Mathlib.Omega.{arith}
-use native.Mathlib.Nat.{add-zero, add-assoc}
+use native.Mathlib.Nat.{add-zero, add-assoc, le-refl}
 use native.Mathlib.Decide.{ℕ-discrete, decLt}
-use borrow.Author.Count.{below-more}
 use borrow.Author.Tests.{lt-ltb, le-ltb, le-leb, lt-leb, eq-eqb, ne-eqb, eqb-true}
 use mir.Val.{boolByte}
 use lib.Dec.{eqb}
@@ -21,11 +19,12 @@ use Rattle.page.specs.Page.{slot}
 use Rattle.machine.specs.declared.FrameRecord.{FrameRecord}
 use Rattle.rules.specs.Tests.{_and_}
 use Rattle.rules.specs.TestLaws.{case, on, off, pick-yes, pick-no, both, and-true, and-yes, and-no, clash}
-use Rattle.machine.specs.Machine.{isUsed, recordAt, pageIn}
+use Rattle.machine.specs.Machine.{isUsed, recordAt, pageIn, storeIn}
 use Rattle.machine.specs.Agreement.{isBlank}
 use Rattle.seen.specs.Fold.{fold}
 use Rattle.agreement.specs.Counting.{countIf, count-zero, count-yes, count-no, count-add, count-ext, count-none, count-le}
-use Rattle.agreement.specs.Fit.{Blank, firstFields, lastFields, NoField, Gathers, RootFits, ResidentFits, Linked, Fits, numberBelow, perFrame, numberIn, numbersInFrames, asStands, overFrom, isOver, usedIn, markedInFrames, numbersMet, HasWords, HasNumbers, overWeight, entry, Entries, BelowOf, weight, addWord, fill, SumsWords}
+use Rattle.agreement.specs.Twice.{keyed}
+use Rattle.agreement.specs.Fit.{Blank, firstFields, middleFields, lastFields, NoField, Gathers, RootFits, ResidentFits, Linked, Fits, numberBelow, perFrame, numberIn, numbersInFrames, asStands, overFrom, isOver, usedIn, markedInFrames, numbersMet, HasWords, HasNumbers, overWeight, lowSum, entry, Entries, BelowOf, weight, addWord, fill, SumsWords}
 
 -- ---- the all-zero record
 
@@ -37,13 +36,15 @@ blank-of r t =
     let c = and-true (eqb (r .usage) 0) _ (b .1) in
     let d = and-true (eqb (r .slot) 0) _ (c .1) in
     let e = and-true (eqb (r .parent .0) 0) _ (d .1) in
-    let f = and-true (eqb (r .pins) 0) (eqb (r .page .0) 0) (e .1) in
+    let s = and-true (eqb (r .store .0) 0) _ (e .1) in
+    let f = and-true (eqb (r .pins) 0) (eqb (r .page .0) 0) (s .1) in
     record {
       used = eqb-true _ 0 (a .0);
       dirty = eqb-true _ 0 (b .0);
       usage = eqb-true _ 0 (c .0);
       slot = eqb-true _ 0 (d .0);
       parent = eqb-true _ 0 (e .0);
+      store = eqb-true _ 0 (s .0);
       pins = eqb-true _ 0 (f .0);
       page = eqb-true _ 0 (f .1);
     }
@@ -52,7 +53,7 @@ pub of-blank : (r : FrameRecord) → Blank r → isBlank r ≡ true
 unfolding isBlank
 of-blank r h =
     both _ _ (eq-eqb _ 0 (h .used)) (both _ _ (eq-eqb _ 0 (h .dirty)) (both _ _ (eq-eqb _ 0 (h .usage)) (both _ _ (eq-eqb _ 0 (h .slot))
-    (both _ _ (eq-eqb _ 0 (h .parent)) (both _ _ (eq-eqb _ 0 (h .pins)) (eq-eqb _ 0 (h .page)))))))
+    (both _ _ (eq-eqb _ 0 (h .parent)) (both _ _ (eq-eqb _ 0 (h .store)) (both _ _ (eq-eqb _ 0 (h .pins)) (eq-eqb _ 0 (h .page))))))))
 
 pub blank-unused : (r : FrameRecord) → Blank r → isUsed r ≡ false
 blank-unused r b = ne-eqb (r .used) 1 (λ e. omega (arith, b .used))
@@ -67,23 +68,24 @@ nothing-or a b x y = rw (x, y) (or-zero-l 0)
 
 -- ---- a record's fields as digits
 
-module _ (r : FrameRecord) (x y : ℕ) (first : x ≡ firstFields (r .used) (r .dirty) (r .usage) (r .slot)) (last : y ≡ lastFields (r .pins) (r .page .0)) where
-  fields-blank : NoField x (r .parent .0) y → Blank r
+module _ (r : FrameRecord) (x m y : ℕ) (first : x ≡ firstFields (r .used) (r .dirty) (r .usage) (r .slot)) (middle : m ≡ middleFields (r .parent .0) (r .store .0)) (last : y ≡ lastFields (r .pins) (r .page .0)) where
+  fields-blank : NoField x m y → Blank r
   fields-blank n =
       let a : firstFields (r .used) (r .dirty) (r .usage) (r .slot) ≡ 0 = sym first ∙ n .first in
+      let b : middleFields (r .parent .0) (r .store .0) ≡ 0 = sym middle ∙ n .middle in
       let z : lastFields (r .pins) (r .page .0) ≡ 0 = sym last ∙ n .last in
-      record { used = omega arith; dirty = omega arith; usage = omega arith; slot = omega arith; parent = n .parent; pins = omega arith; page = omega arith }
+      record { used = omega arith; dirty = omega arith; usage = omega arith; slot = omega arith; parent = omega arith; store = omega arith; pins = omega arith; page = omega arith }
 
-  blank-fields : Blank r → NoField x (r .parent .0) y
-  blank-fields b = record { first = omega (arith, first, b .used, b .dirty, b .usage, b .slot); parent = b .parent; last = omega (arith, b .pins, b .page) }
+  blank-fields : Blank r → NoField x m y
+  blank-fields b = record { first = omega (arith, first, b .used, b .dirty, b .usage, b .slot); middle = omega (arith, b .parent, b .store); last = omega (arith, b .pins, b .page) }
 
-  pub gathers : (a p z : ℕ) → Gathers r (NoField a p z) (NoField (bitOr a x) (bitOr p (r .parent .0)) (bitOr z y))
+  pub gathers : (a p z : ℕ) → Gathers r (NoField a p z) (NoField (bitOr a x) (bitOr p m) (bitOr z y))
   gathers a p z = record {
-    kept = λ n. record { first = or-nothing a _ (n .first) .0; parent = or-nothing p _ (n .parent) .0; last = or-nothing z _ (n .last) .0 };
-    blank = λ n. fields-blank (record { first = or-nothing a _ (n .first) .1; parent = or-nothing p _ (n .parent) .1; last = or-nothing z _ (n .last) .1 });
+    kept = λ n. record { first = or-nothing a _ (n .first) .0; middle = or-nothing p _ (n .middle) .0; last = or-nothing z _ (n .last) .0 };
+    blank = λ n. fields-blank (record { first = or-nothing a _ (n .first) .1; middle = or-nothing p _ (n .middle) .1; last = or-nothing z _ (n .last) .1 });
     nothing = λ n b.
-        let m = blank-fields b in
-        record { first = nothing-or a _ (n .first) (m .first); parent = nothing-or p _ (n .parent) (m .parent); last = nothing-or z _ (n .last) (m .last) };
+        let e = blank-fields b in
+        record { first = nothing-or a _ (n .first) (e .first); middle = nothing-or p _ (n .middle) (e .middle); last = nothing-or z _ (n .last) (e .last) };
   }
 
 -- ---- a table filled place by place
@@ -119,7 +121,7 @@ pub below-high : (N w : ℕ) → N ≤ w → numberBelow N w ≡ 0
 unfolding numberBelow
 below-high N w l = sym (pick-no w (le-ltb w N l) refl)
 
-below-lt : (N w : ℕ) → 1 ≤ N → numberBelow N w < N
+pub below-lt : (N w : ℕ) → 1 ≤ N → numberBelow N w < N
 below-lt N w o = elim (decLt w N) [
   | yes l ↦ rw (below-low N w l) l
   | no l ↦ rw (below-high N w (omega arith)) (omega arith)
@@ -137,7 +139,7 @@ module _ (read : ℕ → ℕ) (rs : List FrameRecord) (fs : List ℕ) (N f : ℕ
     at-place : (perFrame * f + j) % perFrame ≡ j
     at-place = omega arith
 
-    pub numbers-used : isUsed (recordAt rs f) ≡ true → numbersInFrames read rs fs N (perFrame * f + j) ≡ numberIn read rs fs N f j
+    pub numbers-used : isUsed (recordAt rs f) ≡ true → numbersInFrames read rs fs N (perFrame * f + j) ≡ keyed (storeIn rs f) (numberIn read rs fs N f j)
     unfolding numbersInFrames
     numbers-used u = rw (at-frame, at-place) (sym (pick-yes 0 u refl))
 
@@ -145,16 +147,16 @@ module _ (read : ℕ → ℕ) (rs : List FrameRecord) (fs : List ℕ) (N f : ℕ
     unfolding numbersInFrames
     numbers-empty u = rw (at-frame, at-place) (sym (pick-no _ u refl))
 
-  pub numbers-page : isUsed (recordAt rs f) ≡ true → numbersInFrames read rs fs N (perFrame * f) ≡ pageIn rs f
+  pub numbers-page : isUsed (recordAt rs f) ≡ true → numbersInFrames read rs fs N (perFrame * f) ≡ keyed (storeIn rs f) (pageIn rs f)
   unfolding numberIn
   numbers-page u =
-      ap (numbersInFrames read rs fs N) (sym (add-zero (perFrame * f))) ∙ numbers-used 0 (omega arith) u ∙ sym (pick-yes (numberBelow N (read (slot fs f (0 - 1)))) (eq-eqb 0 0 refl) refl)
+      ap (numbersInFrames read rs fs N) (sym (add-zero (perFrame * f))) ∙ numbers-used 0 (omega arith) u ∙ ap (keyed (storeIn rs f)) (sym (pick-yes (numberBelow N (read (slot fs f (0 - 1)))) (eq-eqb 0 0 refl) refl))
 
-  pub numbers-word : (k : ℕ) → k < slotCount → isUsed (recordAt rs f) ≡ true → numbersInFrames read rs fs N (perFrame * f + (1 + k)) ≡ numberBelow N (read (slot fs f k))
+  pub numbers-word : (k : ℕ) → k < slotCount → isUsed (recordAt rs f) ≡ true → numbersInFrames read rs fs N (perFrame * f + (1 + k)) ≡ keyed (storeIn rs f) (numberBelow N (read (slot fs f k)))
   unfolding numberIn
   numbers-word k h u =
       let e : 1 + k - 1 ≡ k = omega arith in
-      numbers-used (1 + k) (omega arith) u ∙ sym (pick-no (pageIn rs f) (ne-eqb (1 + k) 0 (λ z. omega arith)) refl) ∙ ap (λ (x : ℕ). numberBelow N (read (slot fs f x))) e
+      numbers-used (1 + k) (omega arith) u ∙ ap (keyed (storeIn rs f)) (sym (pick-no (pageIn rs f) (ne-eqb (1 + k) 0 (λ z. omega arith)) refl) ∙ ap (λ (x : ℕ). numberBelow N (read (slot fs f x))) e)
 
 -- ---- the row has what stands in frame f
 
@@ -163,14 +165,14 @@ module _ (rs : List FrameRecord) (fs : List ℕ) (F N : ℕ) where
   unfolding numbersMet
   met-first i l = sym (pick-yes _ (lt-ltb i (perFrame * F) l) refl)
 
-  pub met-then : (j : ℕ) → numbersMet rs fs F N (perFrame * F + j) ≡ markedInFrames (usedIn rs) fs N j
+  pub met-then : (j : ℕ) → numbersMet rs fs F N (perFrame * F + j) ≡ markedInFrames (usedIn rs) (storeIn rs) fs N j
   unfolding numbersMet
   met-then j =
       let e : perFrame * F + j - perFrame * F ≡ j = omega arith in
-      sym (pick-no _ (le-ltb (perFrame * F + j) (perFrame * F) (omega arith)) refl) ∙ ap (markedInFrames (usedIn rs) fs N) e
+      sym (pick-no _ (le-ltb (perFrame * F + j) (perFrame * F) (omega arith)) refl) ∙ ap (markedInFrames (usedIn rs) (storeIn rs) fs N) e
 
   module _ (f : ℕ) (l : f < F) where
-    has-words : isUsed (recordAt rs f) ≡ true → HasWords fs N (pageSize * f) (numbersMet rs fs F N) (perFrame * f + 1)
+    has-words : isUsed (recordAt rs f) ≡ true → HasWords fs N (pageSize * f) (storeIn rs f) (numbersMet rs fs F N) (perFrame * f + 1)
     unfolding slot
     has-words u k h =
         ap (numbersMet rs fs F N) (add-assoc (perFrame * f) 1 k) ∙ met-first (perFrame * f + (1 + k)) (omega arith) ∙ numbers-word asStands rs fs N f k h u
@@ -221,26 +223,35 @@ module _ (fs : List ℕ) (N at k w : ℕ) (e : w ≡ wordAt fs (at + wordSize * 
 
 -- ---- a frame fits
 
-module _ (fs : List ℕ) (F N f : ℕ) (r : FrameRecord) (above : Bool) where
-  pub fits-root : f ≡ 0 → RootFits r → Fits fs F N f r above
-  fits-root z k = record { root = λ e. k; resident = λ n. absurd (n z); linked = λ n. absurd (n z); empty = λ u. absurd (clash (sym (k .used) ∙ u)) }
+module _ (fs : List ℕ) (F N T f : ℕ) (r : FrameRecord) (above : Bool) where
+  pub fits-root : f < T → RootFits f r → Fits fs F N T f r above
+  fits-root z k = record { root = λ e. k; resident = λ n. absurd (omega arith); linked = λ n. absurd (omega arith); empty = λ u. absurd (clash (sym (k .used) ∙ u)) }
 
-  pub fits-linked : f ≢ 0 → isUsed r ≡ true → ResidentFits F N r → Linked fs f r above → Fits fs F N f r above
-  fits-linked n u k l = record { root = λ z. absurd (n z); resident = λ m v. k; linked = λ m v. l; empty = λ v. absurd (clash (sym u ∙ v)) }
+  pub fits-linked : T ≤ f → isUsed r ≡ true → ResidentFits F N T r → Linked fs f r above → Fits fs F N T f r above
+  fits-linked n u k l = record { root = λ z. absurd (omega arith); resident = λ m v. k; linked = λ m v. l; empty = λ v. absurd (clash (sym u ∙ v)) }
 
-  pub fits-empty : f ≢ 0 → Blank r → Fits fs F N f r above
-  fits-empty n b = record { root = λ z. absurd (n z); resident = λ m v. absurd (clash (sym v ∙ blank-unused r b)); linked = λ m v. absurd (clash (sym v ∙ blank-unused r b)); empty = λ v. b }
+  pub fits-empty : T ≤ f → Blank r → Fits fs F N T f r above
+  fits-empty n b = record { root = λ z. absurd (omega arith); resident = λ m v. absurd (clash (sym v ∙ blank-unused r b)); linked = λ m v. absurd (clash (sym v ∙ blank-unused r b)); empty = λ v. b }
 
-  pub page-below : 1 ≤ N → Fits fs F N f r above → r .page .0 < N
-  page-below o k = elim (case (isUsed r)) [
-    | on u ↦ elim (ℕ-discrete f 0) [
-      | yes z ↦ omega (arith, k .root z .page)
-      | no z ↦ k .resident z u .page
+  pub page-below : 1 ≤ N → Fits fs F N T f r above → r .page .0 < N
+  page-below o k = elim (decLt f T) [
+    | yes z ↦ omega (arith, k .root z .page)
+    | no z ↦ elim (case (isUsed r)) [
+      | on u ↦ k .resident (omega arith) u .page
+      | off u ↦ omega (arith, k .empty u .page)
     ]
-    | off u ↦ omega (arith, k .empty u .page)
   ]
 
-  pub used-bit : Fits fs F N f r above → r .used ≡ boolByte (isUsed r)
+  pub fitting-store : 1 ≤ T → Fits fs F N T f r above → r .store .0 < T
+  fitting-store o k = elim (decLt f T) [
+    | yes z ↦ omega (arith, k .root z .store)
+    | no z ↦ elim (case (isUsed r)) [
+      | on u ↦ k .resident (omega arith) u .store
+      | off u ↦ omega (arith, k .empty u .store)
+    ]
+  ]
+
+  pub used-bit : Fits fs F N T f r above → r .used ≡ boolByte (isUsed r)
   used-bit k = elim (case (isUsed r)) [
     | on u ↦ eqb-true (r .used) 1 u ∙ sym (ap boolByte u)
     | off u ↦ k .empty u .used ∙ sym (ap boolByte u)
@@ -256,16 +267,37 @@ pub weight-high : (last w : ℕ) → last < w → weight last w ≡ overWeight
 unfolding weight
 weight-high last w l = sym (pick-no w (lt-leb w last l) refl)
 
--- what the sum of the first k words from `at` on tells: `low` is what the numbers below N add up to
+-- what the sum of the first k words from `at` on tells
 pub record SumsTo (fs : List ℕ) (N at k sum : ℕ) : Type 0 where
-  pub low : ℕ
-  pub parts : sum ≡ overWeight * countIf k (overFrom fs N at) + low
-  pub few : low ≤ 4095 * k
-  pub none : low ≡ 0 → (j : ℕ) → j < k → numberBelow N (wordAt fs (at + wordSize * j)) ≡ 0
+  pub parts : sum ≡ overWeight * countIf k (overFrom fs N at) + lowSum fs N at k
+  pub few : lowSum fs N at k ≤ 4095 * k
 
 module _ (fs : List ℕ) (N at : ℕ) where
+  pub low-none : lowSum fs N at 0 ≡ 0
+  unfolding lowSum
+  low-none = refl
+
+  pub low-more : (k : ℕ) → lowSum fs N at (k + 1) ≡ lowSum fs N at k + numberBelow N (wordAt fs (at + wordSize * k))
+  unfolding lowSum
+  low-more k = rw (add-one k)
+
+  -- n words more add to it, or are no numbers
+  low-on : (k n : ℕ) → lowSum fs N at k ≤ lowSum fs N at (k + n)
+  low-on k zero = rw (add-zero k) (le-refl (lowSum fs N at k))
+  low-on k (suc n) =
+      let e : k + suc n ≡ k + n + 1 = omega arith in
+      let q : lowSum fs N at (k + suc n) ≡ lowSum fs N at (k + n) + numberBelow N (wordAt fs (at + wordSize * (k + n))) = ap (lowSum fs N at) e ∙ low-more (k + n) in
+      omega (arith, low-on k n)
+
+  pub low-within : (k m : ℕ) → k ≤ m → lowSum fs N at k ≤ lowSum fs N at m
+  low-within k m l = let e : k + (m - k) ≡ m = omega arith in rw e at (low-on k (m - k))
+
+  -- where nothing is added from k on, no word there is a number
+  pub low-rest : (k m : ℕ) → lowSum fs N at m ≤ lowSum fs N at k → (j : ℕ) → k ≤ j → j < m → numberBelow N (wordAt fs (at + wordSize * j)) ≡ 0
+  low-rest k m l j a b = omega (arith, low-within k j a, low-more j, low-within (j + 1) m (omega arith))
+
   sums-none : SumsTo fs N at 0 0
-  sums-none = record { low = 0; parts = sym (ap (λ (n : ℕ). overWeight * n + 0) (count-zero (overFrom fs N at))); few = omega arith; none = λ z j h. absurd (omega arith) }
+  sums-none = record { parts = omega (arith, count-zero (overFrom fs N at), low-none); few = omega (arith, low-none) }
 
   pub sums-few : (k sum : ℕ) → k ≤ slotCount → SumsTo fs N at k sum → sum ≤ 1114112
   sums-few k sum h s = omega (arith, s .parts, s .few, count-le k (overFrom fs N at))
@@ -276,21 +308,13 @@ module _ (fs : List ℕ) (N at : ℕ) where
     | yes h ↦
         let c : countIf (k + 1) (overFrom fs N at) ≡ countIf k (overFrom fs N at) = count-no k (overFrom fs N at) (over-low fs N at k w e h) in
         let x : weight (N - 1) w ≡ w = weight-low (N - 1) w (omega arith) in
-        record {
-          low = s .low + w;
-          parts = omega (arith, s .parts);
-          few = omega (arith, s .few);
-          none = λ z. below-more _ k (s .none (omega arith)) (rw (← e) (below-low N w h ∙ omega arith));
-        }
+        let b : lowSum fs N at (k + 1) ≡ lowSum fs N at k + w = low-more k ∙ ap (λ (y : ℕ). lowSum fs N at k + y) (ap (numberBelow N) (sym e) ∙ below-low N w h) in
+        record { parts = omega (arith, s .parts); few = omega (arith, s .few) }
     | no h ↦
         let c : countIf (k + 1) (overFrom fs N at) ≡ countIf k (overFrom fs N at) + 1 = count-yes k (overFrom fs N at) (over-high fs N at k w e (omega arith)) in
         let x : weight (N - 1) w ≡ overWeight = weight-high (N - 1) w (omega arith) in
-        record {
-          low = s .low;
-          parts = omega (arith, s .parts);
-          few = omega (arith, s .few);
-          none = λ z. below-more _ k (s .none z) (rw (← e) (below-high N w (omega arith)));
-        }
+        let b : lowSum fs N at (k + 1) ≡ lowSum fs N at k + 0 = low-more k ∙ ap (λ (y : ℕ). lowSum fs N at k + y) (ap (numberBelow N) (sym e) ∙ below-high N w (omega arith)) in
+        record { parts = omega (arith, s .parts); few = omega (arith, s .few) }
   ]
 
   -- the sum as the loop makes it
@@ -303,7 +327,4 @@ module _ (fs : List ℕ) (N at : ℕ) where
   sums-to o l k e = rw e (sums-of o l k)
 
   pub sums-all : (sum : ℕ) → SumsTo fs N at slotCount sum → SumsWords fs N at sum
-  sums-all sum s = record {
-    counts = omega (arith, s .parts, s .few);
-    none = λ z. s .none (omega (arith, s .parts, s .few));
-  }
+  sums-all sum s = record { counts = omega (arith, s .parts, s .few); low = omega (arith, s .parts, s .few) }

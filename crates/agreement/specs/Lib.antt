@@ -3,6 +3,7 @@ pub mod Counting
 pub mod Twice
 pub mod Fit
 pub mod FitLaws
+pub mod NumberNotes
 pub mod MarkedNumbers
 pub mod PassLaws
 pub mod ParentSteps

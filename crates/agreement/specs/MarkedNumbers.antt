@@ -10,17 +10,17 @@ use native.Mathlib.Decide.{ℕ-discrete, decLt}
 use borrow.Author.Tests.{lt-ltb, le-ltb, le-leb, lt-leb, eq-eqb, ne-eqb, eqb-false, not-true}
 use mir.Val.{boolByte}
 use lib.Dec.{eqb, ltb, leb}
-use Rattle.page.specs.Figures.{slotCount, pageSize, mostPages}
+use Rattle.page.specs.Figures.{slotCount, pageSize, mostPages, mostStores}
 use Rattle.page.specs.Word.{isMarked, nameOf, isMarkedNumber, plainly, markedly, says, marked-name, unmarked-name, marked-number-is, mark-swizzled}
 use Rattle.page.specs.Page.{slot}
 use Rattle.machine.specs.declared.FrameRecord.{FrameRecord}
-use Rattle.machine.specs.Machine.{isUsed, recordAt}
+use Rattle.machine.specs.Machine.{isUsed, recordAt, storeIn}
 use Rattle.rules.specs.Tests.{pick, _and_}
 use Rattle.seen.specs.Seen.{Seen, Notes}
-use Rattle.residents.specs.Residents.{holdsPage}
+use Rattle.residents.specs.Residents.{holdsPage, storeBy}
 use Rattle.rules.specs.TestLaws.{clash, case, on, off, both, and-true, and-yes, and-no, pick-yes, pick-no, pick-either}
 use Rattle.agreement.specs.Counting.{countIf, count-zero, count-yes, count-no, count-add, count-ext, count-none, count-split}
-use Rattle.agreement.specs.Twice.{RowNoted, pass-zeros, noted-none, noted-one, noted-then, noted-zeros, noted-twice, noted-ext, Sorted}
+use Rattle.agreement.specs.Twice.{keyed, keyed-zero, RowNoted, pass-zeros, noted-none, noted-one, noted-then, noted-zeros, noted-twice, noted-ext, Sorted}
 use Rattle.agreement.specs.Fit.{asStands, perFrame, numberIn, numbersInFrames, isOver, usedIn, marksBelow, markedBelow, isMarkedIn, markedInFrames, numbersMet, placesMet, marksFrom, markedFrom, NoMark, MarksNoted, FrameMarks}
 use Rattle.agreement.specs.FitLaws.{below-low, below-high, numbers-word, numbers-empty, met-first, met-then}
 
@@ -83,14 +83,14 @@ module _ (rs : List FrameRecord) (fs : List ℕ) (N : ℕ) (few : N ≤ mostPage
   pub over-marked : (n : ℕ) → countIf n (isOver asStands rs fs N) ≡ countIf n (isOver nameOf rs fs N) + countIf n (isMarkedIn (usedIn rs) fs N)
   over-marked n = count-split n _ _ _ (λ j l. split-at j)
 
-module _ (held : ℕ → Bool) (fs : List ℕ) (N : ℕ) where
+module _ (held : ℕ → Bool) (store : ℕ → ℕ) (fs : List ℕ) (N : ℕ) where
   -- where none is counted, none stands there
-  pub none-stands : (j : ℕ) → isMarkedIn held fs N j ≡ false → markedInFrames held fs N j ≡ 0
+  pub none-stands : (j : ℕ) → isMarkedIn held fs N j ≡ false → markedInFrames held store fs N j ≡ 0
   unfolding isMarkedIn markedInFrames
   none-stands j t = elim (case (held (j / slotCount))) [
     | off h ↦ sym (pick-no _ h refl)
     | on h ↦ elim (gives N (slot fs (j / slotCount) (j % slotCount))) [
-      | none a b ↦ sym (pick-yes 0 h refl) ∙ b
+      | none a b ↦ sym (pick-yes 0 h refl) ∙ keyed-zero _ _ b
       | one m l a b ↦ absurd (clash (sym (both _ _ h a) ∙ t))
     ]
   ]
@@ -111,23 +111,23 @@ module _ (held : ℕ → Bool) (fs : List ℕ) (N : ℕ) where
     unfolding isMarkedIn
     counted-not h = rw in-frame (sym (and-no _ h))
 
-    pub stands-held : held f ≡ true → markedInFrames held fs N (slotCount * f + k) ≡ markedBelow N (slot fs f k)
+    pub stands-held : held f ≡ true → markedInFrames held store fs N (slotCount * f + k) ≡ keyed (store f) (markedBelow N (slot fs f k))
     unfolding markedInFrames
     stands-held h = rw (in-frame, in-slot) (sym (pick-yes 0 h refl))
 
-    pub stands-not : held f ≡ false → markedInFrames held fs N (slotCount * f + k) ≡ 0
+    pub stands-not : held f ≡ false → markedInFrames held store fs N (slotCount * f + k) ≡ 0
     unfolding markedInFrames
     stands-not h = rw in-frame (sym (pick-no _ h refl))
 
--- frames that are held by two tests alike
+-- frames that are held by two tests alike, with the same stores
 module _ (held held' : ℕ → Bool) (fs : List ℕ) (F N : ℕ) (e : (f : ℕ) → f < F → held f ≡ held' f) (j : ℕ) (l : j < slotCount * F) where
   pub counted-alike : isMarkedIn held fs N j ≡ isMarkedIn held' fs N j
   unfolding isMarkedIn
   counted-alike = rw (e (j / slotCount) (omega arith))
 
-  pub stands-alike : markedInFrames held fs N j ≡ markedInFrames held' fs N j
+  pub stands-alike : (store store' : ℕ → ℕ) → ((f : ℕ) → f < F → store f ≡ store' f) → markedInFrames held store fs N j ≡ markedInFrames held' store' fs N j
   unfolding markedInFrames
-  stands-alike = rw (e (j / slotCount) (omega arith))
+  stands-alike store store' s = rw (e (j / slotCount) (omega arith), s (j / slotCount) (omega arith))
 
 -- ---- the numbers as the code meets them are those in the frames, in another order
 
@@ -152,11 +152,11 @@ module _ (rs : List FrameRecord) (fs : List ℕ) (F N : ℕ) where
     | no z ↦ rw (unmarked-name (wordIn i) (h z)) refl
   ]
 
-  marked-same : (f k : ℕ) → k < slotCount → isMarked (slot fs f k) ≡ true → markedInFrames (usedIn rs) fs N (slotCount * f + k) ≡ byName (perFrame * f + (1 + k))
+  marked-same : (f k : ℕ) → k < slotCount → isMarked (slot fs f k) ≡ true → markedInFrames (usedIn rs) (storeIn rs) fs N (slotCount * f + k) ≡ byName (perFrame * f + (1 + k))
   unfolding markedBelow
   marked-same f k l m = elim (case (isUsed (recordAt rs f))) [
-    | on u ↦ stands-held (usedIn rs) fs N f k l u ∙ sym (pick-yes 0 m refl) ∙ sym (numbers-word nameOf rs fs N f k l u)
-    | off u ↦ stands-not (usedIn rs) fs N f k l u ∙ sym (numbers-empty nameOf rs fs N f (1 + k) (omega arith) u)
+    | on u ↦ stands-held (usedIn rs) (storeIn rs) fs N f k l u ∙ ap (keyed (storeIn rs f)) (sym (pick-yes 0 m refl)) ∙ sym (numbers-word nameOf rs fs N f k l u)
+    | off u ↦ stands-not (usedIn rs) (storeIn rs) fs N f k l u ∙ sym (numbers-empty nameOf rs fs N f (1 + k) (omega arith) u)
   ]
 
   -- ---- from the frames to the order met: a number with a mark goes behind the others
@@ -228,14 +228,14 @@ module _ (rs : List FrameRecord) (fs : List ℕ) (F N : ℕ) where
     unfolding numbersInFrames numberIn pick
     stands-unmarked i z n = elim (case (isMarked (wordIn i))) [
       | off m ↦ m
-      | on m ↦ absurd (z (rw (ne-eqb (i % perFrame) 0 n, below-high N (wordIn i) (omega (arith, marked-name (wordIn i) m))) (pick-either (λ (x : ℕ). x ≡ 0) (isUsed (recordAt rs (i / perFrame))) 0 0 refl refl)))
+      | on m ↦ absurd (z (rw (ne-eqb (i % perFrame) 0 n, below-high N (wordIn i) (omega (arith, marked-name (wordIn i) m)), keyed-zero (storeIn rs (i / perFrame)) 0 refl) (pick-either (λ (x : ℕ). x ≡ 0) (isUsed (recordAt rs (i / perFrame))) 0 0 refl refl)))
     ]
 
     -- one that is met behind the others has
-    behind-marked : (j : ℕ) → markedInFrames (usedIn rs) fs N j ≢ 0 → isMarked (slot fs (j / slotCount) (j % slotCount)) ≡ true
+    behind-marked : (j : ℕ) → markedInFrames (usedIn rs) (storeIn rs) fs N j ≢ 0 → isMarked (slot fs (j / slotCount) (j % slotCount)) ≡ true
     unfolding markedInFrames
     behind-marked j z = elim (gives N (slot fs (j / slotCount) (j % slotCount))) [
-      | none a b ↦ absurd (z (rw b (pick-either (λ (x : ℕ). x ≡ 0) (usedIn rs (j / slotCount)) 0 0 refl refl)))
+      | none a b ↦ absurd (z (rw (b, keyed-zero (storeIn rs (j / slotCount)) 0 refl) (pick-either (λ (x : ℕ). x ≡ 0) (usedIn rs (j / slotCount)) 0 0 refl refl)))
       | one m l a b ↦ m
     ]
 
@@ -257,7 +257,7 @@ module _ (rs : List FrameRecord) (fs : List ℕ) (F N : ℕ) where
           | first h e ↦ rw e (sym (unmarked-same i (stands-unmarked i (stood i h z))) ∙ sym (met-first rs fs F N i h))
           | then j q e ↦
               let g : slotCount * (j / slotCount) + j % slotCount ≡ j = omega arith in
-              rw e (sym (marked-same (j / slotCount) (j % slotCount) (omega arith) (marked i j q z)) ∙ ap (markedInFrames (usedIn rs) fs N) g ∙ sym (met-then rs fs F N j) ∙ ap (numbersMet rs fs F N) (sym q))
+              rw e (sym (marked-same (j / slotCount) (j % slotCount) (omega arith) (marked i j q z)) ∙ ap (markedInFrames (usedIn rs) (storeIn rs) fs N) g ∙ sym (met-then rs fs F N j) ∙ ap (numbersMet rs fs F N) (sym q))
         ]
 
         -- a word has one place
@@ -298,17 +298,17 @@ module _ (test : ℕ → Bool) (w : ℕ → ℕ) where
       notes = noted-zeros w m seen now (M .notes) 1 (λ k l. let q : m + k ≡ m = omega arith in ap w q ∙ e);
     }
 
-    -- it gives x, which was noted
-    module _ (x : ℕ) (e : w m ≡ x) (l : x < mostPages) (next : Seen) (new : Bool) (S : Notes x now next new) where
+    -- it gives x, which was noted in store t
+    module _ (t x : ℕ) (e : w m ≡ keyed t x) (s : t < mostStores) (l : x < mostPages) (next : Seen) (new : Bool) (S : Notes t x now next new) where
       pub noting-new : test m ≡ true → new ≡ true → MarksNoted test w (m + 1) seen next (count + 1) true
-      noting-new t z = record {
+      noting-new y z = record {
         few = omega (arith, M .few);
-        counts = λ y. ap (λ (n : ℕ). n + 1) (M .counts y) ∙ sym (count-yes m test t);
-        notes = rw z at (noted-one w m seen now (M .notes) x e l next new S);
+        counts = λ q. ap (λ (n : ℕ). n + 1) (M .counts q) ∙ sym (count-yes m test y);
+        notes = rw z at (noted-one w m seen now (M .notes) t x e s l next new S);
       }
 
       pub noting-stale : (n : ℕ) → m + 1 ≤ n → new ≡ false → MarksNoted test w n seen next 0 false
-      noting-stale n h z = noting-twice (m + 1) n h seen next next (rw z at (noted-one w m seen now (M .notes) x e l next new S))
+      noting-stale n h z = noting-twice (m + 1) n h seen next next (rw z at (noted-one w m seen now (M .notes) t x e s l next new S))
 
     -- the next n words
     module _ (n : ℕ) (next : Seen) (more : ℕ) (fresh : Bool) (Q : MarksNoted (λ k. test (m + k)) (λ k. w (m + k)) n now next more fresh) where
@@ -340,18 +340,18 @@ noting-ext test test' w w' m t e seen next count fresh M = record {
 module _ (residents fs : List ℕ) (N f : ℕ) (seen : Seen) where
   -- in a frame that holds a page
   module _ (h : holdsPage residents f ≡ true) (at : ℕ) (e : at ≡ pageSize * f) where
-    pub frame-marked : (next : Seen) (count : ℕ) (fresh : Bool) → MarksNoted (marksFrom fs N at) (markedFrom fs N at) slotCount seen next count fresh → FrameMarks residents fs N f seen next count fresh
+    pub frame-marked : (t : ℕ) → t ≡ storeBy residents f → (next : Seen) (count : ℕ) (fresh : Bool) → MarksNoted (marksFrom fs N at) (markedFrom fs N at t) slotCount seen next count fresh → FrameMarks residents fs N f seen next count fresh
     unfolding slot
-    frame-marked next count fresh M =
-        noting-ext _ (marksFrom fs N (pageSize * f)) _ (markedFrom fs N (pageSize * f)) slotCount
-        (λ k l. counted-held (holdsPage residents) fs N f k l h) (λ k l. stands-held (holdsPage residents) fs N f k l h) seen next count fresh (rw e at M)
+    frame-marked t s next count fresh M =
+        noting-ext _ (marksFrom fs N (pageSize * f)) _ (markedFrom fs N (pageSize * f) (storeBy residents f)) slotCount
+        (λ k l. counted-held (holdsPage residents) (storeBy residents) fs N f k l h) (λ k l. stands-held (holdsPage residents) (storeBy residents) fs N f k l h) seen next count fresh (rw (e, s) at M)
 
     pub frame-unmarked : N ≤ mostPages → NoMark fs at → FrameMarks residents fs N f seen seen 0 true
     unfolding slot
     frame-unmarked few z =
-        noting-nothing _ _ slotCount (λ k l. counted-held (holdsPage residents) fs N f k l h ∙ gives-none N _ few (rw e at (z k l)) .0)
-        (λ k l. stands-held (holdsPage residents) fs N f k l h ∙ gives-none N _ few (rw e at (z k l)) .1) seen
+        noting-nothing _ _ slotCount (λ k l. counted-held (holdsPage residents) (storeBy residents) fs N f k l h ∙ gives-none N _ few (rw e at (z k l)) .0)
+        (λ k l. stands-held (holdsPage residents) (storeBy residents) fs N f k l h ∙ keyed-zero _ _ (gives-none N _ few (rw e at (z k l)) .1)) seen
 
   -- in one that holds none
   pub frame-empty : holdsPage residents f ≡ false → FrameMarks residents fs N f seen seen 0 true
-  frame-empty h = noting-nothing _ _ slotCount (λ k l. counted-not (holdsPage residents) fs N f k l h) (λ k l. stands-not (holdsPage residents) fs N f k l h) seen
+  frame-empty h = noting-nothing _ _ slotCount (λ k l. counted-not (holdsPage residents) (storeBy residents) fs N f k l h) (λ k l. stands-not (holdsPage residents) (storeBy residents) fs N f k l h) seen

@@ -121,10 +121,16 @@ lead-of up F s t q r f l = (q f l .steps, sym (q f l .leads) ∙ r f l)
 -- and where it leads there, all have come after F steps
 pub at-root : (up : ℕ → ℕ) (F s : ℕ) (t : List ℕ) → ((f : ℕ) → f < F → up f < F) → up 0 ≡ 0 → F ≤ s → Steps up F s t → AllLead up F → AtRoot F t
 at-root up F s t b z h q lead f l =
-    let a = climb-few up F b f l (lead f l) in
+    let r = lead f l in
+    let s : climb up (r .0) f < 1 = omega (arith, r .1) in
+    let a = climb-few 1 up F b f l (r .0, s) in
     let c = q f l in
     let e : c .steps ≡ a .0 + (c .steps - a .0) = omega (arith, c .many, a .1) in
-    c .leads ∙ ap (λ (k : ℕ). climb up k f) e ∙ climb-more up z (a .0) (c .steps - a .0) f (a .2)
+    let m : climb up (a .0 + (c .steps - a .0)) f < 1 = climb-more up 1 (λ g h. stays g h) (a .0) (c .steps - a .0) f (a .2) in
+    c .leads ∙ ap (λ (k : ℕ). climb up k f) e ∙ omega arith
+  where
+    stays : (g : ℕ) → g < 1 → up g < 1
+    stays g h = let e : up g ≡ 0 = ap up (let q : g ≡ 0 = omega arith in q) ∙ z in omega arith
 
 -- each parent lies before its frame, frame 0's excepted
 abbrev pub InOrder : ℕ → List ℕ → Type 0

@@ -1,6 +1,7 @@
 // Numbers with marks in the words of the frames. The pass over the frames takes words as they stand, and counts such a number among those that aren't below N.
 use page::FrameIndex;
 use page::PageNumber;
+use page::StoreNumber;
 use page::word;
 use residents::Residents;
 use seen::Seen;
@@ -8,9 +9,9 @@ ghost use mathlib.Core.Path.{_≡_};
 ghost use mathlib.Core.Bool.{false};
 ghost use Prim.Native.Nat.{_+_, _*_, _<_, _≤_};
 ghost use lib.ListN.{length};
-ghost use Rattle.page.specs.Figures.{pageSize, payloadStart, slotCount, mostFrames, mostPages};
-ghost use Rattle.seen.specs.Seen.{Table};
-ghost use Rattle.agreement.specs.Fit.{marksFrom, markedFrom, NoMark, MarksNoted, FrameMarks, AllMarks};
+ghost use Rattle.page.specs.Figures.{pageSize, payloadStart, slotCount, mostFrames, mostPages, mostStores};
+ghost use Rattle.residents.specs.Residents.{storeBy};
+ghost use Rattle.agreement.specs.Fit.{marksFrom, markedFrom, NoMark, MarksNoted, FrameMarks, StoresFew, AllMarks};
 
 // What was found of them: how many there are, and whether they are all new.
 pub struct Marked {
@@ -35,10 +36,16 @@ fn has_marked(frames: &[u8], start: usize) -> bool
     hit
 }
 
-// Notes the numbers with marks among the 16 words from `start` on.
-fn note_words(frames: &[u8], start: usize, pages: u32, seen: &mut Seen) -> Marked
-    requires { ⌜ (pages ≤ mostPages) × (start + payloadStart ≤ length (now frames)) ⌝ }
-    ensures { λ r. ⌜ MarksNoted (marksFrom (now (frames .entry)) pages start) (markedFrom (now (frames .entry)) pages start) slotCount (now (seen .entry)) (now (seen .exit)) (r .count) (r .fresh) ⌝ }
+// Notes the numbers with marks among the 16 words from `start` on, in a store.
+fn note_words(
+    frames: &[u8],
+    start: usize,
+    pages: u32,
+    of_store: StoreNumber,
+    seen: &mut Seen,
+) -> Marked
+    requires { ⌜ (pages ≤ mostPages) × («of_store» .0 < mostStores) × (start + payloadStart ≤ length (now frames)) ⌝ }
+    ensures { λ r. ⌜ MarksNoted (marksFrom (now (frames .entry)) pages start) (markedFrom (now (frames .entry)) pages start («of_store» .0)) slotCount (now (seen .entry)) (now (seen .exit)) (r .count) (r .fresh) ⌝ }
 {
     let mut count: u32 = 0;
     let mut k: usize = 0;
@@ -47,7 +54,7 @@ fn note_words(frames: &[u8], start: usize, pages: u32, seen: &mut Seen) -> Marke
         if word::is_marked_number(w) {
             let x = word::name_of(w);
             if x < pages {
-                if !seen::note(seen, x as usize) {
+                if !seen::note(seen, of_store, x as usize) {
                     return Marked {
                         count: 0,
                         fresh: false,
@@ -64,6 +71,15 @@ fn note_words(frames: &[u8], start: usize, pages: u32, seen: &mut Seen) -> Marke
     }
 }
 
+// The store of the page in a frame.
+fn store_in(residents: &Residents, frame: FrameIndex) -> StoreNumber
+    requires { ⌜ (frame .0 < mostFrames) × (storeBy (now residents) (frame .0) < mostStores) ⌝ }
+    ensures { λ r. ⌜ r .0 ≡ storeBy (now (residents .entry)) (frame .0) ⌝ }
+{
+    let f = frame.0 as usize;
+    StoreNumber((page::wide::from_u16(residents[f]) / PageNumber::MOST) as u8)
+}
+
 // Notes those in a frame, where it holds a page.
 fn note_frame(
     frames: &[u8],
@@ -72,13 +88,13 @@ fn note_frame(
     pages: u32,
     seen: &mut Seen,
 ) -> Marked
-    requires { ⌜ (pages ≤ mostPages) × (frame .0 < mostFrames) × (pageSize * frame .0 + pageSize ≤ length (now frames)) ⌝ }
+    requires { ⌜ (pages ≤ mostPages) × (frame .0 < mostFrames) × (storeBy (now residents) (frame .0) < mostStores) × (pageSize * frame .0 + pageSize ≤ length (now frames)) ⌝ }
     ensures { λ r. ⌜ FrameMarks (now (residents .entry)) (now (frames .entry)) pages (frame .0) (now (seen .entry)) (now (seen .exit)) (r .count) (r .fresh) ⌝ }
 {
     if residents::holds_page(residents, frame) {
         let start = FrameIndex::start(frame);
         if has_marked(frames, start) {
-            return note_words(frames, start, pages, seen);
+            return note_words(frames, start, pages, store_in(residents, frame), seen);
         }
         return Marked {
             count: 0,
@@ -100,7 +116,7 @@ pub fn note(
     even: bool,
     seen: &mut Seen,
 ) -> Marked
-    requires { ⌜ (pages ≤ mostPages) × (count ≤ mostFrames) × (length (now frames) ≡ pageSize * count) ⌝ }
+    requires { ⌜ (pages ≤ mostPages) × (count ≤ mostFrames) × StoresFew (now residents) count × (length (now frames) ≡ pageSize * count) ⌝ }
     ensures { λ r. ⌜ AllMarks (now (residents .entry)) (now (frames .entry)) count pages even (now (seen .entry)) (now (seen .exit)) (r .count) (r .fresh) ⌝ }
 {
     if even {

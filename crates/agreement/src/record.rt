@@ -4,16 +4,22 @@ use page::FrameIndex;
 use page::PageNumber;
 ghost use mathlib.Core.Path.{_≡_};
 ghost use Rattle.rules.specs.Deciding.{Decides};
-ghost use Rattle.agreement.specs.Fit.{Blank, firstFields, lastFields, RootFits, ResidentFits};
+ghost use Rattle.agreement.specs.Fit.{Blank, firstFields, middleFields, lastFields, RootFits, ResidentFits};
 
 // The largest value of a flag.
 const MAX_FLAG: u8 = 1;
 
-// A record's fields before its parent, and those after it, as the digits of one number.
+// A record's fields before its parent, its parent with its store, and those after them, each as the digits of one number.
 pub fn first_fields(used: u8, dirty: u8, usage: u8, slot: u8) -> u32
     ensures { λ r. ⌜ r ≡ firstFields used dirty usage slot ⌝ }
 {
     used as u32 + 256 * (dirty as u32) + 65536 * (usage as u32) + 16777216 * (slot as u32)
+}
+
+pub fn middle_fields(parent: u8, store: u8) -> u32
+    ensures { λ r. ⌜ r ≡ middleFields parent store ⌝ }
+{
+    parent as u32 + 256 * (store as u32)
 }
 
 pub fn last_fields(pins: u16, page: u16) -> u32
@@ -41,15 +47,18 @@ pub fn is_blank(rec: FrameRecord) -> bool
     if rec.parent.0 != 0 {
         return false;
     }
+    if rec.store.0 != 0 {
+        return false;
+    }
     if rec.pins != 0 {
         return false;
     }
     rec.page.0 == 0
 }
 
-// Is frame 0's record that of page 0, with no parent.
-pub fn root_fits(rec: FrameRecord) -> bool
-    ensures { λ r. ⌜ Decides r (RootFits rec) ⌝ }
+// Is a root's frame's record that of page 0 of its store, with no parent.
+pub fn root_fits(rec: FrameRecord, frame: FrameIndex) -> bool
+    ensures { λ r. ⌜ Decides r (RootFits (frame .0) rec) ⌝ }
 {
     if FrameIndex::MAX_PINS < rec.pins {
         return false;
@@ -66,15 +75,18 @@ pub fn root_fits(rec: FrameRecord) -> bool
     if rec.parent.0 != 0 {
         return false;
     }
+    if rec.store.0 != frame.0 {
+        return false;
+    }
     if rec.page.0 != 0 {
         return false;
     }
     rec.used == 1
 }
 
-// Is another occupied frame's record in range, and its page not the root's.
-pub fn resident_fits(rec: FrameRecord, count: usize, pages: u32) -> bool
-    ensures { λ r. ⌜ Decides r (ResidentFits count pages rec) ⌝ }
+// Is another occupied frame's record in range, and its page not a root's.
+pub fn resident_fits(rec: FrameRecord, count: usize, pages: u32, stores: u8) -> bool
+    ensures { λ r. ⌜ Decides r (ResidentFits count pages stores rec) ⌝ }
 {
     if FrameIndex::MAX_PINS < rec.pins {
         return false;
@@ -89,6 +101,9 @@ pub fn resident_fits(rec: FrameRecord, count: usize, pages: u32) -> bool
         return false;
     }
     if count <= rec.parent.0 as usize {
+        return false;
+    }
+    if stores <= rec.store.0 {
         return false;
     }
     if pages <= rec.page.0 as u32 {

@@ -54,13 +54,14 @@ once (g ∷ l) = not (has g l) and once l
 
 -- ---- what open, loading and eviction do to it
 
--- "Open leaves page 0 alone in it": frame 0 is chain 0's head
-unfoldable pub openedDirectory : List ℕ
-openedDirectory = set (replicate directorySize 0) 0 1
-
 -- "an entry added at its chain's head on loading": frame e, in chain b
 unfoldable pub entered : List ℕ → ℕ → ℕ → List ℕ
 entered d b e = set (set d (linkAt e) (getD d b 0)) b (suc e)
+
+-- "Open leaves page 0 alone in it"; request A.11: of T stores, whose roots are "entered in the directory in that order", from frame 0 on
+unfoldable pub openedDirectory : ℕ → List ℕ
+openedDirectory zero = replicate directorySize 0
+openedDirectory (suc t) = entered (openedDirectory t) (bucketOf 0) t
 
 -- "and taken out on eviction": frame e, from byte a on, among n entries. The byte that led to it leads on to the next, and its own is 0.
 unfoldable pub takenFrom : List ℕ → ℕ → ℕ → ℕ → List ℕ
@@ -79,13 +80,14 @@ pub record Sought : Type 0 where
   pub frame : ℕ
   pub compared : ℕ
 
--- page q along the frames of a chain, each with page `page f`, where c entries were compared before: "the place of the page's entry in its chain, from 1, or the chain's length if absent"
+-- page q along the frames of a chain, where frame f has page `page f`, and c entries were compared before: "the place of the page's entry in its chain, from 1, or the chain's length if absent"
 unfoldable pub seekIn : (ℕ → ℕ) → ℕ → ℕ → ℕ → List ℕ → Sought
 seekIn page F q c [] = record { frame = F; compared = c }
 seekIn page F q c (f ∷ l) = pick (eqb (page f) q) (record { frame = f; compared = c + 1 }) (seekIn page F q (c + 1) l)
 
-abbrev pub soughtIn : (ℕ → ℕ) → ℕ → List ℕ → ℕ → Sought
-soughtIn page F d q = seekIn page F q 0 (chainOf d (bucketOf q))
+-- the same along chain b
+abbrev pub soughtIn : (ℕ → ℕ) → ℕ → List ℕ → ℕ → ℕ → Sought
+soughtIn page F d b q = seekIn page F q 0 (chainOf d b)
 
 -- how many of the first n frames pass a test
 unfoldable pub tally : ℕ → (ℕ → Bool) → ℕ

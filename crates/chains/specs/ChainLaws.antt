@@ -14,6 +14,7 @@ use Rattle.page.specs.Figures.{mostFrames}
 use Rattle.rules.specs.Tests.{pick}
 use Rattle.rules.specs.TestLaws.{clash, case, on, off, is-off, both, and-true, or-left, or-right, or-second, pick-yes, pick-no, pick-either}
 use Rattle.chains.specs.Chain.{directorySize, buckets, linkAt, entryOf, chainFrom, has, eachOf, once, entered, takenFrom, Sought, seekIn, tally}
+use Rattle.chains.specs.FrameTally.{tally-le, tally-on, tally-more}
 
 -- ---- lists of frames
 
@@ -171,25 +172,6 @@ length-dropped e (f ∷ l) i = elim (ℕ-discrete f e) [
 ]
 
 -- ---- how many there are: no more than pass the test that all of them pass
-
-pub tally-le : (n : ℕ) (t : ℕ → Bool) → tally n t ≤ n
-unfolding tally
-tally-le zero t = omega arith
-tally-le (suc n) t = elim (case (t n)) [
-  | on e ↦ rw (← pick-yes {x = suc (tally n t)} (tally n t) e refl) (let h : tally n t ≤ n = tally-le n t in omega arith)
-  | off e ↦ rw (← pick-no {x = tally n t} (suc (tally n t)) e refl) (let h : tally n t ≤ n = tally-le n t in omega arith)
-]
-
-tally-on : (n : ℕ) (t : ℕ → Bool) → t n ≡ true → tally (suc n) t ≡ suc (tally n t)
-unfolding tally
-tally-on n t e = sym (pick-yes _ e refl)
-
-tally-more : (n : ℕ) (t : ℕ → Bool) → tally n t ≤ tally (suc n) t
-unfolding tally
-tally-more n t = elim (case (t n)) [
-  | on e ↦ rw (← pick-yes {x = suc (tally n t)} (tally n t) e refl) (omega arith)
-  | off e ↦ rw (← pick-no {x = tally n t} (suc (tally n t)) e refl) (omega arith)
-]
 
 pub single-few : (n : ℕ) (t : ℕ → Bool) (l : List ℕ) → Single l → ((f : ℕ) → In f l → (f < n) × (t f ≡ true)) → length l ≤ tally n t
 single-few zero t [] s h = omega arith

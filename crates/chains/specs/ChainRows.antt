@@ -42,10 +42,10 @@ pub list-rows :
 unfolding has eachOf once _and_ _or_
 list-rows = refl
 
--- "Open leaves page 0 alone in it"
-pub opened-row : openedDirectory ≡ 1 ∷ replicate 130 0
-unfolding openedDirectory
-opened-row = refl
+-- "Open leaves page 0 alone in it"; request A.11, of two stores and of four: the roots, "entered in the directory in that order"
+pub opened-rows : map openedDirectory (1 ∷ 2 ∷ 4 ∷ []) ≡ (directoryOf (1 ∷ []) [] ∷ directoryOf (2 ∷ []) (0 ∷ 1 ∷ []) ∷ directoryOf (4 ∷ []) (0 ∷ 1 ∷ 2 ∷ 3 ∷ []) ∷ [])
+unfolding openedDirectory entered
+opened-rows = refl
 
 -- "an entry added at its chain's head on loading": in an empty chain, and before others; no other chain changes
 pub entered-rows : (entered (directoryOf (2 ∷ 1 ∷ []) (4 ∷ [])) 2 2 ∷ entered (directoryOf (2 ∷ 1 ∷ []) (4 ∷ [])) 1 2 ∷ []) ≡ (directoryOf (2 ∷ 1 ∷ 3 ∷ []) (4 ∷ []) ∷ three ∷ [])
@@ -73,7 +73,7 @@ pub seek-rows : map seeks (102 ∷ 100 ∷ 103 ∷ 101 ∷ []) ≡ ((2 ∷ 1 ∷
 unfolding chainFrom seekIn pick
 seek-rows = refl
 
--- absent in an empty chain: nothing is compared
-pub sought-row : soughtIn (λ f. 100 + f) 4 three 103 ≡ record { frame = 4; compared = 0 }
+-- along the chain that is asked for: in an empty one nothing is compared
+pub sought-rows : map (λ b. soughtIn (λ f. 100 + f) 4 three b 103) (1 ∷ 36 ∷ []) ≡ (record { frame = 3; compared = 3 } ∷ record { frame = 4; compared = 0 } ∷ [])
 unfolding chainFrom seekIn pick
-sought-row = refl
+sought-rows = refl

@@ -46,7 +46,7 @@ write-kept s h offset n e z =
     record { kept = a .0; from = leb-true offset payloadSize (b .0); size = leb-true n (payloadSize - offset) (b .1) }
 
 pub linkable : (s : State) (h : Handle) (k : ℕ) (q : PageNumber) {m : ℕ} → m ≡ firstBroken (linkRules s h k q) → m ≡ 0 → EditKept s h k
-linkable s h k q e z = edit-parts s h k (rule6-link s (q .0) ∷ rule9 s (q .0) ∷ rule8 (wordOf s h k) ∷ []) (sym e ∙ z) .0
+linkable s h k q e z = edit-parts s h k (rule6-link s (q .0) ∷ rule9 s (h .store .0) (q .0) ∷ rule8 (wordOf s h k) ∷ []) (sym e ∙ z) .0
 
 pub unlinkable : (s : State) (h : Handle) (k : ℕ) {m : ℕ} → m ≡ firstBroken (unlinkRules s h k) → m ≡ 0 → EditKept s h k
 unlinkable s h k e z = edit-parts s h k (rule7 (wordOf s h k) ∷ rule10 (wordOf s h k) ∷ []) (sym e ∙ z) .0

@@ -29,9 +29,11 @@ pub fn write(
     let mut next = pool;
     let at = guard::record_place(handle);
     let held = next.records[at];
+    let stores = next.stores;
     let refusal = refusals::write_refusal(
         pool,
         held,
+        stores,
         frames,
         store,
         directory,
@@ -74,9 +76,13 @@ pub fn link(
     let mut next = pool;
     let at = guard::record_place(handle);
     let held = next.records[at];
+    let stores = next.stores;
+    let pages = next.pages;
     let refusal = refusals::link_refusal(
         pool,
         held,
+        stores,
+        pages,
         frames,
         store,
         directory,
@@ -114,9 +120,11 @@ pub fn unlink(
     let mut next = pool;
     let at = guard::record_place(handle);
     let held = next.records[at];
+    let stores = next.stores;
     let refusal = refusals::unlink_refusal(
         pool,
         held,
+        stores,
         frames,
         store,
         directory,

@@ -1,4 +1,4 @@
-// The refusals of write, link and unlink: the number of the first broken rule, 0 for none. `held` is the record at the handle's place.
+// The refusals of write, link and unlink: the number of the first broken rule, 0 for none. `held` is the record at the handle's place; T and N are those of the records, which the caller has a copy of.
 use machine::FrameRecord;
 use machine::Handle;
 use machine::Pool;
@@ -23,10 +23,11 @@ fn range_fits(offset: usize, n: usize) -> bool
     n <= PageNumber::PAYLOAD_SIZE - offset
 }
 
-// Rules 1 to 3, 5 and 26.
+// Rules 1, 2, 28, 3, 5 and 26.
 pub fn write_refusal(
     pool: Pool,
     held: FrameRecord,
+    stores: u8,
     frames: &[u8],
     store: &[u8],
     directory: &[u8],
@@ -36,7 +37,7 @@ pub fn write_refusal(
     residents: &mut Residents,
     seen: &mut Seen,
 ) -> u8
-    requires { ⌜ (held ≡ recordAt (pool .records) (recordPlace handle)) × Clear (now residents) (now seen) ⌝ }
+    requires { ⌜ (held ≡ recordAt (pool .records) (recordPlace handle)) × (stores ≡ pool .stores) × Clear (now residents) (now seen) ⌝ }
     ensures { λ r. ⌜ r ≡ firstBroken (writeRules (state pool (now (frames .entry)) (now (store .entry)) (now (directory .entry))) handle offset n) ⌝ }
 {
     let refusal = guard::handle_refusal(
@@ -55,16 +56,18 @@ pub fn write_refusal(
     if !range_fits(offset, n) {
         return 5;
     }
-    if guard::is_locked(held, frames, handle.frame) {
+    if guard::is_locked(held, frames, handle.frame, stores) {
         return 26;
     }
     0
 }
 
-// Rules 1 to 4, 26, 6, 9 and 8.
+// Rules 1, 2, 28, 3, 4, 26, 6, 9 and 8.
 pub fn link_refusal(
     pool: Pool,
     held: FrameRecord,
+    stores: u8,
+    pages: u16,
     frames: &[u8],
     store: &[u8],
     directory: &[u8],
@@ -74,12 +77,13 @@ pub fn link_refusal(
     residents: &mut Residents,
     seen: &mut Seen,
 ) -> u8
-    requires { ⌜ (held ≡ recordAt (pool .records) (recordPlace handle)) × Clear (now residents) (now seen) ⌝ }
+    requires { ⌜ (held ≡ recordAt (pool .records) (recordPlace handle)) × (stores ≡ pool .stores) × (pages ≡ pool .pages) × Clear (now residents) (now seen) ⌝ }
     ensures { λ r. ⌜ r ≡ firstBroken (linkRules (state pool (now (frames .entry)) (now (store .entry)) (now (directory .entry))) handle slot page) ⌝ }
 {
     let refusal = guard::edit_refusal(
         pool,
         held,
+        stores,
         frames,
         store,
         directory,
@@ -94,11 +98,12 @@ pub fn link_refusal(
     if page.0 == 0 {
         return 6;
     }
-    let n = store.len() / PageNumber::SIZE;
-    if n <= page.0 as usize {
+    if pages <= page.0 {
         return 6;
     }
-    if naming::is_named(residents, seen, store, n, page) {
+    let n = pages as usize;
+    let of_store = handle.store;
+    if naming::is_named(residents, seen, store, n, of_store, page) {
         return 9;
     }
     if page::slot::slot_name(frames, handle.frame, slot) != page::word::NOTHING {
@@ -107,10 +112,11 @@ pub fn link_refusal(
     0
 }
 
-// Rules 1 to 4, 26, 7 and 10.
+// Rules 1, 2, 28, 3, 4, 26, 7 and 10.
 pub fn unlink_refusal(
     pool: Pool,
     held: FrameRecord,
+    stores: u8,
     frames: &[u8],
     store: &[u8],
     directory: &[u8],
@@ -119,12 +125,13 @@ pub fn unlink_refusal(
     residents: &mut Residents,
     seen: &mut Seen,
 ) -> u8
-    requires { ⌜ (held ≡ recordAt (pool .records) (recordPlace handle)) × Clear (now residents) (now seen) ⌝ }
+    requires { ⌜ (held ≡ recordAt (pool .records) (recordPlace handle)) × (stores ≡ pool .stores) × Clear (now residents) (now seen) ⌝ }
     ensures { λ r. ⌜ r ≡ firstBroken (unlinkRules (state pool (now (frames .entry)) (now (store .entry)) (now (directory .entry))) handle slot) ⌝ }
 {
     let refusal = guard::edit_refusal(
         pool,
         held,
+        stores,
         frames,
         store,
         directory,

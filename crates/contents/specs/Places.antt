@@ -1,5 +1,5 @@
 -- Places of payloads: that show and peek name a place within its buffer. Assumes nothing.
-use Prim.Native.Nat.{ℕ, _+_, _-_, _<_, _≤_}
+use Prim.Native.Nat.{ℕ, _+_, _*_, _-_, _<_, _≤_}
 use mathlib.Core.Path.{_≡_, refl, sym, subst}
 use mathlib.Core.Bool.{Bool, true, false}
 use mathlib.Core.List.{List}
@@ -11,16 +11,17 @@ use lib.ListN.{length, take, drop}
 use Rattle.page.specs.declared.PageNumber.{PageNumber}
 use Rattle.page.specs.Figures.{payloadSize}
 use Rattle.page.specs.Page.{payloadAt, bytesFrom}
+use Rattle.page.specs.StorePlaces.{storePlace, place-lt}
 use Rattle.machine.specs.declared.Handle.{Handle}
 use Rattle.machine.specs.declared.Place.{Place}
 use Rattle.rules.specs.Tests.{Rule, firstBroken}
-use Rattle.rules.specs.TestLaws.{clash, pick-yes, pick-no, verdict-no, verdict-yes, case, on, off}
+use Rattle.rules.specs.TestLaws.{clash, pick-yes, pick-no, case, on, off}
 use Rattle.machine.specs.Machine.{State}
 use Rattle.machine.specs.Answers.{Answer, payload, inStore, out, placeOf, Lent, cut, Shown, lentIf, handedAt}
 use Rattle.machine.specs.Calls.{decide, handleRules, pageRules, sought, payloadPlace, showCall, peekCall}
 use Rattle.machine.specs.Laws.RuleLaws.{handle-kept, page-kept, answer-no, answer-yes}
 
--- the payload of page p of the store, or of the frames
+-- the payload at place p of the store, or of frame p
 abbrev pub payloadIn : Bool → ℕ → Place
 payloadIn b p = record { refusal = 0; in_store = b; start = payloadAt p; size = payloadSize }
 
@@ -50,14 +51,15 @@ pub show-within : (s : State) (h : Handle) {r : Place} → r ≡ placeOf (showCa
 unfolding showCall
 show-within s h e = rw e (decided s (handleRules s h) _ (λ z. let k = handle-kept s h z in in-frames (s .frames) (s .store) 0 (omega arith)))
 
-pub peek-within : (s : State) (q : PageNumber) {r : Place} → r ≡ placeOf (peekCall s q .answer) → Within r (s .frames) (s .store)
+pub peek-within : (s : State) (t : ℕ) (q : PageNumber) {r : Place} → r ≡ placeOf (peekCall s t q .answer) → Within r (s .frames) (s .store)
 unfolding peekCall payloadPlace
-peek-within s q e = rw e (decided s (pageRules s q) _ (λ z.
-    let k = page-kept s q z in
-    let f = sought s (q .0) .frame in
+peek-within s t q e = rw e (decided s (pageRules s t q) _ (λ z.
+    let k = page-kept s t q z in
+    let f = sought s t (q .0) .frame in
+    let p : storePlace (s .pool .pages) t (q .0) < s .pool .pages * s .pool .stores = place-lt (s .pool .pages) t (s .pool .stores) (q .0) (k .store) (k .below) in
     elim (case (ltb f (s .pool .count))) [
-      | on t ↦ let l : f < s .pool .count = ltb-true f (s .pool .count) t in subst (Placed s) (pick-yes _ t refl) (in-frames (s .frames) (s .store) 0 (omega arith))
-      | off t ↦ subst (Placed s) (pick-no _ t refl) (in-store (s .frames) (s .store) (omega arith))
+      | on i ↦ let l : f < s .pool .count = ltb-true f (s .pool .count) i in subst (Placed s) (pick-yes _ i refl) (in-frames (s .frames) (s .store) 0 (omega arith))
+      | off i ↦ subst (Placed s) (pick-no _ i refl) (in-store (s .frames) (s .store) (omega arith))
     ]))
 
 -- ---- what is handed back at a place

@@ -21,6 +21,7 @@ use Rattle.machine.specs.Calls.{wordRules, wordCall}
 use Rattle.machine.specs.Laws.RuleLaws.{SlotKept, slot-kept, held-occupied, answer-yes}
 use Rattle.seen.specs.Seen.{Seen}
 use Rattle.residents.specs.Residents.{pageBy}
+use Rattle.residents.specs.ResidentLaws.{page-by}
 use Rattle.residents.specs.Handed.{Handed}
 
 -- a page number below the largest N, or swizzled to one of the largest F frames
@@ -28,7 +29,7 @@ pub record Resolvable (w : ℕ) : Type 0 where
   pub number : Number w → w < mostPages
   pub frame : Swizzled w → frameIn w < mostFrames
 
--- n is the refusal by rules 1 to 4, and w the name that the code read
+-- n is the refusal by the rules of the slot, and w the name that the code read
 module _ (s : State) (h : Handle) (k : ℕ) {residents : List ℕ} {seen : Seen} {n : ℕ} (e : (n ≡ firstBroken (wordRules s h k)) × (n ≡ 0 → Handed (s .pool) (s .frames) residents seen)) (z : n ≡ 0) where
   kept : SlotKept s h k
   kept = slot-kept s h k (sym (e .0) ∙ z)
@@ -56,7 +57,7 @@ module _ (s : State) (h : Handle) (k : ℕ) {residents : List ℕ} {seen : Seen}
       | low l ↦ plain-low _ w l ∙ sym (plain-low _ w l)
       | high g y ↦
           let l = resolvable .frame (omega arith) in
-          rw y (plain-high _ g ∙ e .1 z .held .right g (omega arith) ∙ sym (plain-high _ g))
+          rw y (plain-high _ g ∙ page-by (e .1 z .held) g (omega arith) ∙ sym (plain-high _ g))
     ]
 
     pub word-names : {p : PageNumber} {l : Bool} → p ≡ pageNumber (plain (pageBy residents) w) → l ≡ markOf s h k → number (p .0) l ≡ wordCall s h k .answer

@@ -8,6 +8,8 @@ use machine::Pool;
 use machine::WordAnswer;
 use page::FrameIndex;
 use page::PageNumber;
+use page::StoreNumber;
+use page::StorePlace;
 use residents::Residents;
 ghost use mathlib.Core.Path.{_≡_};
 ghost use Rattle.machine.specs.Machine.{state, pageNumber};
@@ -53,30 +55,32 @@ pub fn peek_place(
     frames: &[u8],
     store: &[u8],
     directory: &[u8],
+    of_store: StoreNumber,
     page: PageNumber,
 ) -> Place
-    ensures { λ r. ⌜ r ≡ placeOf (peekCall (state pool (now (frames .entry)) (now (store .entry)) (now (directory .entry))) page .answer) ⌝ }
+    ensures { λ r. ⌜ r ≡ placeOf (peekCall (state pool (now (frames .entry)) (now (store .entry)) (now (directory .entry))) («of_store» .0) page .answer) ⌝ }
 {
     let mut residents = residents::NONE;
     let mut seen = seen::NONE;
-    let refusal = guard::page_refusal(
+    let tested = guard::page_tested(
         pool,
         frames,
         store,
         directory,
+        of_store,
         page,
         &mut residents,
         &mut seen,
     );
-    if refusal != 0 {
-        return part::refused(refusal);
+    if tested.refusal != 0 {
+        return part::refused(tested.refusal);
     }
     let count = frames.len() / PageNumber::SIZE;
-    let frame = directory::seek(&residents, directory, count, page).frame;
+    let frame = directory::seek(&residents, directory, count, of_store, page).frame;
     if frame < count {
         return part::in_frame(FrameIndex(frame as u8));
     }
-    part::in_store(page)
+    part::in_store(StorePlace::of(of_store, page, tested.pages))
 }
 
 // The payload of the handle's page.
@@ -100,12 +104,13 @@ pub fn peek<'a>(
     frames: &'a [u8],
     store: &'a [u8],
     directory: &[u8],
+    of_store: StoreNumber,
     page: PageNumber,
     number: &mut u8,
 ) -> &'a [u8]
-    ensures { λ r. ⌜ record { part = lent r; number = now (number .exit) } ≡ handedBack (lent (frames .entry)) (lent (store .entry)) (peekCall (state pool (now (frames .entry)) (now (store .entry)) (now (directory .entry))) page .answer) ⌝ }
+    ensures { λ r. ⌜ record { part = lent r; number = now (number .exit) } ≡ handedBack (lent (frames .entry)) (lent (store .entry)) (peekCall (state pool (now (frames .entry)) (now (store .entry)) (now (directory .entry))) («of_store» .0) page .answer) ⌝ }
 {
-    let place = peek_place(pool, frames, store, directory, page);
+    let place = peek_place(pool, frames, store, directory, of_store, page);
     part::part_at(place, frames, store, number)
 }
 
@@ -119,7 +124,7 @@ fn page_named(residents: &Residents, name: u32) -> PageNumber
         return PageNumber(number);
     }
     let g = page::word::frame_in(name);
-    PageNumber(residents[g])
+    residents::page_in(residents, FrameIndex(g as u8))
 }
 
 // The page number in a slot of the handle's page, 0 for none, and whether that page is locked.
@@ -162,9 +167,10 @@ pub fn find(
     frames: &[u8],
     store: &[u8],
     directory: &[u8],
+    of_store: StoreNumber,
     page: PageNumber,
 ) -> FindAnswer
-    ensures { λ r. ⌜ findAnswer r ≡ findCall (state pool (now (frames .entry)) (now (store .entry)) (now (directory .entry))) page .answer ⌝ }
+    ensures { λ r. ⌜ findAnswer r ≡ findCall (state pool (now (frames .entry)) (now (store .entry)) (now (directory .entry))) («of_store» .0) page .answer ⌝ }
 {
     let mut residents = residents::NONE;
     let mut seen = seen::NONE;
@@ -173,6 +179,7 @@ pub fn find(
         frames,
         store,
         directory,
+        of_store,
         page,
         &mut residents,
         &mut seen,
@@ -181,7 +188,7 @@ pub fn find(
         return FindAnswer::Refused(refusal);
     }
     let count = frames.len() / PageNumber::SIZE;
-    let sought = directory::seek(&residents, directory, count, page);
+    let sought = directory::seek(&residents, directory, count, of_store, page);
     let compared = sought.compared as u16;
     if sought.frame < count {
         return FindAnswer::At(FrameIndex(sought.frame as u8), compared);

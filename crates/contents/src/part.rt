@@ -32,14 +32,14 @@ pub fn in_frame(frame: FrameIndex) -> Place
     }
 }
 
-// The place of a page's payload in the store.
-pub fn in_store(page: PageNumber) -> Place
-    ensures { λ r. ⌜ r ≡ payloadIn true (page .0) ⌝ }
+// The place of a stored page's payload.
+pub fn in_store(place: StorePlace) -> Place
+    ensures { λ r. ⌜ r ≡ payloadIn true (place .0) ⌝ }
 {
     Place {
         refusal: 0,
         in_store: true,
-        start: StorePlace::start(PageNumber::place(page)) + PageNumber::PAYLOAD_START,
+        start: StorePlace::start(place) + PageNumber::PAYLOAD_START,
         size: PageNumber::PAYLOAD_SIZE,
     }
 }

@@ -1,5 +1,5 @@
 -- The table of the chain that each frame belongs in, filled frame after frame. Assumes nothing.
-use Prim.Native.Nat.{ℕ, _+_, _<_, _≤_}
+use Prim.Native.Nat.{ℕ, _+_, _%_, _<_, _≤_}
 use mathlib.Core.Path.{_≡_, refl, sym, _∙_, ap}
 use mathlib.Core.Logic.{_≢_}
 use mathlib.Core.Bool.{not}
@@ -10,35 +10,35 @@ use borrow.Author.Tests.{eq-eqb, ne-eqb}
 use lib.Dec.{eqb}
 use lib.ListN.{length, getD, set, replicate, length-set, length-replicate}
 use lib.Seq.{getD-set-same, getD-set-other}
-use Rattle.page.specs.Figures.{mostFrames}
+use Rattle.page.specs.Figures.{mostFrames, mostPages}
 use Rattle.rules.specs.Tests.{pick}
 use Rattle.rules.specs.TestLaws.{or-left, or-right, or-skip, pick-yes, pick-no}
 use Rattle.chains.specs.Chain.{buckets, bucketOf}
-use Rattle.residents.specs.Residents.{pageBy, holdsPage}
+use Rattle.residents.specs.Residents.{keyBy, pageBy, holdsPage}
 use Rattle.directory.specs.Homes.{homeBy, home-on-by, home-off-by}
 use Rattle.directory.specs.Pass.{HomeTable}
 
--- the chain of a frame with page q, where it isn't the root's frame: 67 for none
+-- the chain of a frame other than 0 with the key k: 67 for none
 unfoldable pub homeWith : ℕ → ℕ
-homeWith q = pick (eqb q 0) buckets (bucketOf q)
+homeWith k = pick (eqb k 0) buckets (bucketOf (k % mostPages))
 
-pub with-none : (q : ℕ) → q ≡ 0 → homeWith q ≡ buckets
+pub with-none : (k : ℕ) → k ≡ 0 → homeWith k ≡ buckets
 unfolding homeWith
-with-none q e = sym (pick-yes _ (eq-eqb q 0 e) refl)
+with-none k e = sym (pick-yes _ (eq-eqb k 0 e) refl)
 
-pub with-page : (q : ℕ) → q ≢ 0 → homeWith q ≡ bucketOf q
+pub with-page : (k : ℕ) → k ≢ 0 → homeWith k ≡ bucketOf (k % mostPages)
 unfolding homeWith
-with-page q e = sym (pick-no _ (ne-eqb q 0 e) refl)
+with-page k e = sym (pick-no _ (ne-eqb k 0 e) refl)
 
 pub record HomesTo (residents w : List ℕ) (n : ℕ) : Type 0 where
   pub most : n ≤ mostFrames
   pub size : length w ≡ mostFrames
-  pub each : (f : ℕ) → f < n → getD w f 0 ≡ homeWith (pageBy residents f)
+  pub each : (f : ℕ) → f < n → getD w f 0 ≡ homeWith (keyBy residents f)
 
 pub homes-none : (residents : List ℕ) → HomesTo residents (replicate mostFrames buckets) 0
 homes-none residents = record { most = omega arith; size = length-replicate {A = ℕ} mostFrames buckets; each = λ f l. absurd (omega arith) }
 
-pub homes-more : (residents w : List ℕ) (n x : ℕ) → n < mostFrames → x ≡ homeWith (pageBy residents n) → HomesTo residents w n → HomesTo residents (set w n x) (n + 1)
+pub homes-more : (residents w : List ℕ) (n x : ℕ) → n < mostFrames → x ≡ homeWith (keyBy residents n) → HomesTo residents w n → HomesTo residents (set w n x) (n + 1)
 homes-more residents w n x l e T = record {
   most = omega arith;
   size = length-set w n x ∙ T .size;
@@ -48,14 +48,14 @@ homes-more residents w n x l e T = record {
   ];
 }
 
-home-with : (residents : List ℕ) (f : ℕ) → f < mostFrames → f ≢ 0 → homeWith (pageBy residents f) ≡ homeBy residents f
+home-with : (residents : List ℕ) (f : ℕ) → f < mostFrames → f ≢ 0 → homeWith (keyBy residents f) ≡ homeBy residents f
 unfolding holdsPage
-home-with residents f l n = elim (ℕ-discrete (pageBy residents f) 0) [
-  | yes z ↦ with-none _ z ∙ sym (home-off-by residents f (or-skip _ (ne-eqb f 0 n) ∙ ap not (eq-eqb (pageBy residents f) 0 z)))
-  | no z ↦ with-page _ z ∙ sym (home-on-by residents f l (or-right (eqb f 0) (ap not (ne-eqb (pageBy residents f) 0 z))))
+home-with residents f l n = elim (ℕ-discrete (keyBy residents f) 0) [
+  | yes z ↦ with-none _ z ∙ sym (home-off-by residents f (or-skip _ (ne-eqb f 0 n) ∙ ap not (eq-eqb (keyBy residents f) 0 z)))
+  | no z ↦ with-page _ z ∙ sym (home-on-by residents f l (or-right (eqb f 0) (ap not (ne-eqb (keyBy residents f) 0 z))))
 ]
 
--- the root's frame holds its page, whatever that is
+-- frame 0 holds its page, whatever that is
 pub homes-all : (residents w : List ℕ) (n x : ℕ) → mostFrames ≤ n → x ≡ bucketOf (pageBy residents 0) → HomesTo residents w n → HomeTable (homeBy residents) (set w 0 x)
 unfolding holdsPage
 homes-all residents w n x l e T = record {

@@ -7,12 +7,13 @@ use mathlib.Core.List.{List, [], _∷_}
 use native.Mathlib.Omega.{arith}
 use native.Mathlib.Decide.{decLt}
 use borrow.Author.Tests.{lt-ltb, le-ltb}
-use lib.Dec.{ltb}
+use lib.Dec.{eqb, ltb}
 use lib.ListN.{length, getD, List·getD-eq-default}
 use Rattle.page.specs.Figures.{mostFrames}
+use Rattle.page.specs.StorePlaces.{storePlace}
 use Rattle.rules.specs.Tests.{pick}
 use Rattle.rules.specs.TestLaws.{case, on, off, pick-yes, pick-no, same}
-use Rattle.machine.specs.Machine.{State, pageIn, occupied}
+use Rattle.machine.specs.Machine.{State, pageIn, storeIn, placeIn, occupied}
 use Rattle.machine.specs.Laws.AgreementFacts.{Agreed, occupied-lt}
 use Rattle.chains.specs.Chain.{directorySize, buckets, bucketOf, linkAt, seekIn, soughtIn}
 use Rattle.machine.specs.Directory.{chainsAgree}
@@ -21,8 +22,8 @@ use Rattle.chains.specs.ChainLaws.{In, Chain}
 use Rattle.chains.specs.ChainFacts.{Bucket, Chained, Framed, chained-ext, bucket-chain}
 use Rattle.machine.specs.Laws.DirectoryFacts.{bucket-lt, homeOf, home-on, home-off, home-framed, chains-facts, chains-tests}
 use Rattle.machine.specs.Laws.Ready.{Kept}
-use Rattle.residents.specs.Residents.{pageBy, Residents, holdsPage}
-use Rattle.residents.specs.ResidentLaws.{holds-page}
+use Rattle.residents.specs.Residents.{keyOf, keyBy, pageBy, Residents, holdsPage}
+use Rattle.residents.specs.ResidentLaws.{key-place, page-by, holds-page}
 use Rattle.rules.specs.Deciding.{Decides, decided, fails}
 
 -- the chain that frame f belongs in, 67 for none
@@ -60,12 +61,12 @@ home-most residents f = elim (decLt (homeBy residents f) buckets) [
 
 -- ---- where records and frames agree
 
-module _ (s : State) (few : s .pool .count ≤ mostFrames) (A : Agreed (s .pool) (s .frames)) (residents : List ℕ) (T : Residents (s .pool .records) residents) where
+module _ (s : State) (few : s .pool .count ≤ mostFrames) (some : 1 ≤ s .pool .stores) (A : Agreed (s .pool) (s .frames)) (residents : List ℕ) (T : Residents (s .pool .records) residents) where
   home-by : (f : ℕ) → homeBy residents f ≡ homeOf (s .pool) f
   home-by f = elim (decLt f mostFrames) [
     | yes l ↦ elim (case (occupied (s .pool) f)) [
-      | on o ↦ home-on-by residents f l (holds-page s few A residents T f l ∙ o) ∙ ap bucketOf (T .right f l) ∙ sym (home-on (s .pool) f o)
-      | off o ↦ home-off-by residents f (holds-page s few A residents T f l ∙ o) ∙ sym (home-off (s .pool) f o)
+      | on o ↦ home-on-by residents f l (holds-page s few some A residents T f l ∙ o) ∙ ap bucketOf (page-by T f l) ∙ sym (home-on (s .pool) f o)
+      | off o ↦ home-off-by residents f (holds-page s few some A residents T f l ∙ o) ∙ sym (home-off (s .pool) f o)
     ]
     | no l ↦ home-beyond residents f (omega arith) ∙ sym (home-off (s .pool) f (elim (case (occupied (s .pool) f)) [ off o ↦ o | on o ↦ absurd (omega (arith, occupied-lt (s .pool) f o, few)) ]))
   ]
@@ -119,17 +120,18 @@ pub record Followed (d : List ℕ) : Type 0 where
 pub followed : (s : State) → Kept s → Followed (s .directory)
 followed s K = record { size = K .directory; small = chained-small (homeOf (s .pool)) (home-framed (s .pool) (K .sized .most)) (s .directory) (K .directory) (K .chained) }
 
--- a search by the table is one by the records
-seek-same : (page other : ℕ → ℕ) (F q c : ℕ) (l : List ℕ) → ((f : ℕ) → In f l → page f ≡ other f) → seekIn page F q c l ≡ seekIn other F q c l
+-- a search by keys is one by places: both are asked of each frame of the chain alike
+seek-same : (key place : ℕ → ℕ) (F k q c : ℕ) (l : List ℕ) → ((f : ℕ) → In f l → eqb (key f) k ≡ eqb (place f) q) → seekIn key F k c l ≡ seekIn place F q c l
 unfolding seekIn In
-seek-same page other F q c [] h = refl
-seek-same page other F q c (f ∷ l) h = rw (h f (inl refl), seek-same page other F q (c + 1) l (λ g i. h g (inr i))) refl
+seek-same key place F k q c [] h = refl
+seek-same key place F k q c (f ∷ l) h = rw (h f (inl refl), seek-same key place F k q (c + 1) l (λ g i. h g (inr i))) refl
 
-module _ (s : State) (few : s .pool .count ≤ mostFrames) (residents : List ℕ) (T : Residents (s .pool .records) residents) (C : Chained (homeOf (s .pool)) (s .directory)) (q : ℕ) where
+module _ (s : State) (K : Kept s) (residents : List ℕ) (T : Residents (s .pool .records) residents) (t q : ℕ) (below : q < s .pool .pages) where
   abbrev B : Bucket (homeOf (s .pool)) (s .directory) (bucketOf q)
-  B = C .at (bucketOf q) (bucket-lt q)
+  B = K .chained .at (bucketOf q) (bucket-lt q)
 
-  pub sought-by : soughtIn (pageBy residents) (s .pool .count) (s .directory) q ≡ sought s q
-  sought-by = rw (bucket-chain (homeOf (s .pool)) (home-framed (s .pool) few) (s .directory) (bucketOf q) (bucket-lt q) B)
-      (seek-same (pageBy residents) (pageIn (s .pool .records)) (s .pool .count) q 0 (B .chain) (λ f i.
-      T .right f (home-framed (s .pool) few f (let e : homeOf (s .pool) f ≡ bucketOf q = B .only f i in let l : bucketOf q < buckets = bucket-lt q in omega arith))))
+  pub sought-by : soughtIn (keyBy residents) (s .pool .count) (s .directory) (bucketOf q) (keyOf t q) ≡ sought s t q
+  sought-by = rw (bucket-chain (homeOf (s .pool)) (home-framed (s .pool) (K .sized .most)) (s .directory) (bucketOf q) (bucket-lt q) B)
+      (seek-same (keyBy residents) (placeIn (s .pool .pages) (s .pool .records)) (s .pool .count) (keyOf t q) (storePlace (s .pool .pages) t q) 0 (B .chain) (λ f i.
+      let l : f < mostFrames = home-framed (s .pool) (K .sized .most) f (let e : homeOf (s .pool) f ≡ bucketOf q = B .only f i in let h : bucketOf q < buckets = bucket-lt q in omega arith) in
+      ap (λ (k : ℕ). eqb k (keyOf t q)) (T .right f l) ∙ key-place (s .pool .pages) (storeIn (s .pool .records) f) (pageIn (s .pool .records) f) t q (K .sized .pages) (K .agreed .inRange f l .page) below))

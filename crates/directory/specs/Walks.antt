@@ -9,7 +9,7 @@ use borrow.Author.Tests.{eq-eqb, ne-eqb}
 use lib.ListN.{getD, set}
 use Rattle.page.specs.Figures.{mostFrames}
 use Rattle.rules.specs.TestLaws.{pick-yes, pick-no}
-use Rattle.chains.specs.Chain.{linkAt, entryOf, chainFrom, entered, takenFrom, takenOut, Sought, bucketOf, seekIn, soughtIn}
+use Rattle.chains.specs.Chain.{linkAt, entryOf, chainFrom, entered, takenFrom, takenOut, Sought, seekIn, soughtIn}
 
 pub entered-by : (d : List ℕ) (b e x y : ℕ) → x ≡ b → y ≡ linkAt e → set (set d y (getD d x 0)) x (e + 1) ≡ entered d b e
 unfolding entered
@@ -64,5 +64,5 @@ module _ (page : ℕ → ℕ) (F q : ℕ) (d : List ℕ) (c a : ℕ) where
     unfolding seekIn
     seek-on f z e h y l = rw l (ap (seekIn page F q c) (step f z e) ∙ sym (pick-no _ (ne-eqb (page f) q h) refl))
 
-pub sought-at : (page : ℕ → ℕ) (F : ℕ) (d : List ℕ) (q x : ℕ) → x ≡ bucketOf q → soughtIn page F d q ≡ seekIn page F q 0 (chainFrom d (suc mostFrames) x)
-sought-at page F d q x e = rw e refl
+pub sought-at : (page : ℕ → ℕ) (F : ℕ) (d : List ℕ) (b q x k : ℕ) → x ≡ b → k ≡ q → soughtIn page F d b q ≡ seekIn page F k 0 (chainFrom d (suc mostFrames) x)
+sought-at page F d b q x k e i = rw (e, i) refl

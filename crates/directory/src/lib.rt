@@ -1,15 +1,16 @@
 // The directory of resident pages: rule 2's test of its chains, an entry that comes in and one that goes, and the search.
 use page::FrameIndex;
 use page::PageNumber;
+use page::StoreNumber;
 use residents::Residents;
 ghost use mathlib.Core.Path.{_≡_};
 ghost use mathlib.Core.Bool.{true};
-ghost use Prim.Native.Nat.{_+_, _<_, _≤_};
+ghost use Prim.Native.Nat.{_+_, _%_, _<_, _≤_};
 ghost use lib.ListN.{length, getD, set};
-ghost use Rattle.page.specs.Figures.{mostFrames};
+ghost use Rattle.page.specs.Figures.{mostFrames, mostPages, mostStores};
 ghost use Rattle.chains.specs.Chain.{directorySize, buckets, bucketOf, openedDirectory, entered, takenOut, soughtIn};
 ghost use Rattle.chains.specs.ChainFacts.{Chained};
-ghost use Rattle.residents.specs.Residents.{pageBy};
+ghost use Rattle.residents.specs.Residents.{keyOf, keyBy};
 ghost use Rattle.rules.specs.Deciding.{Decides};
 ghost use Rattle.directory.specs.Homes.{homeBy, Followed};
 ghost use Rattle.directory.specs.HomeFilling.{homeWith};
@@ -39,6 +40,13 @@ pub struct Sought {
     pub compared: usize,
 }
 
+// The chain of the page with this key: pages of all stores share the chains.
+fn remainder(key: u16) -> u16
+    ensures { λ r. ⌜ r ≡ bucketOf (key % mostPages) ⌝ }
+{
+    residents::page_of(key).0 % DIVISOR
+}
+
 // The chain of a page.
 fn bucket(page: u16) -> usize
     ensures { λ r. ⌜ (r ≡ bucketOf page) × (r < buckets) ⌝ }
@@ -46,14 +54,14 @@ fn bucket(page: u16) -> usize
     page as usize % BUCKETS
 }
 
-// The chain of a page in a frame other than 0, NOWHERE for page 0, which says that the frame is empty.
-fn home(page: u16) -> u16
-    ensures { λ r. ⌜ r ≡ homeWith page ⌝ }
+// The chain of the page with this key in a frame other than 0, NOWHERE for 0, which says that the frame is empty.
+fn home(key: u16) -> u16
+    ensures { λ r. ⌜ r ≡ homeWith key ⌝ }
 {
-    if page == 0 {
+    if key == 0 {
         return NOWHERE;
     }
-    page % DIVISOR
+    remainder(key)
 }
 
 // The chain that each frame belongs in, NOWHERE for none. No frame is branched on, so that the compiler takes them side by side.
@@ -66,7 +74,7 @@ fn homes(residents: &Residents) -> [u16; FrameIndex::MOST]
         homes[f] = home(residents[f]);
         f += 1;
     }
-    homes[0] = residents[0] % DIVISOR;
+    homes[0] = remainder(residents[0]);
     homes
 }
 
@@ -173,17 +181,21 @@ pub fn chains_agree(residents: &Residents, directory: &[u8]) -> bool
     none_awaited(&awaited, directory)
 }
 
-// A directory with page 0 alone in it, in frame 0.
-pub fn start(directory: &mut [u8])
-    requires { ⌜ length (now directory) ≡ directorySize ⌝ }
-    ensures { λ r. ⌜ now (directory .exit) ≡ openedDirectory ⌝ }
+// A directory with the stores' roots alone in it, in frame 0 and on, entered in that order.
+pub fn start(directory: &mut [u8], stores: u8)
+    requires { ⌜ (length (now directory) ≡ directorySize) × (stores ≤ mostStores) ⌝ }
+    ensures { λ r. ⌜ now (directory .exit) ≡ openedDirectory stores ⌝ }
 {
     let mut at: usize = 0;
     while at < SIZE {
         directory[at] = 0;
         at += 1;
     }
-    directory[0] = 1;
+    let mut t: u8 = 0;
+    while t < stores {
+        enter(directory, FrameIndex(t), PageNumber(0));
+        t += 1;
+    }
 }
 
 // A page that comes into a frame: its entry is its chain's head.
@@ -231,10 +243,17 @@ pub fn take_out(directory: &mut [u8], frame: FrameIndex, page: PageNumber)
 }
 
 // The frame that holds the page, or F, and the entries compared.
-pub fn seek(residents: &Residents, directory: &[u8], count: usize, page: PageNumber) -> Sought
-    requires { ⌜ Followed (now directory) ⌝ }
-    ensures { λ r. ⌜ record { frame = r .frame; compared = r .compared } ≡ soughtIn (pageBy (now (residents .entry))) count (now (directory .entry)) (page .0) ⌝ }
+pub fn seek(
+    residents: &Residents,
+    directory: &[u8],
+    count: usize,
+    of_store: StoreNumber,
+    page: PageNumber,
+) -> Sought
+    requires { ⌜ Followed (now directory) × («of_store» .0 < mostStores) × (page .0 < mostPages) ⌝ }
+    ensures { λ r. ⌜ record { frame = r .frame; compared = r .compared } ≡ soughtIn (keyBy (now (residents .entry))) count (now (directory .entry)) (bucketOf (page .0)) (keyOf («of_store» .0) (page .0)) ⌝ }
 {
+    let sought = residents::key(of_store, page);
     let mut at = bucket(page.0);
     let mut compared: usize = 0;
     while compared <= FrameIndex::MOST {
@@ -247,7 +266,7 @@ pub fn seek(residents: &Residents, directory: &[u8], count: usize, page: PageNum
         }
         let f = x - 1;
         compared += 1;
-        if residents[f] == page.0 {
+        if residents[f] == sought {
             return Sought { frame: f, compared };
         }
         at = BUCKETS + f;

@@ -8,7 +8,7 @@ use lib.ListN.{length, replicate}
 use Rattle.page.specs.Figures.{slotCount, payloadSize, byteRadix}
 use Rattle.page.specs.Page.{bytesFrom}
 use Rattle.rules.specs.Tests.{pick, firstBroken, verdict}
-use Rattle.machine.specs.Machine.{State, frameIndex, pageNumber, occupied, pageIn}
+use Rattle.machine.specs.Machine.{State, frameIndex, storeNumber, pageNumber, occupied, pageIn}
 use Rattle.machine.specs.Calls.{poolRules}
 use Rattle.recording.specs.Listing.{callIn, pageInRecord, handleIn, parentIn, slotIn, offsetIn, lengthIn}
 use Rattle.generator.specs.declared.Generator.{Generator}
@@ -26,7 +26,7 @@ fieldsFrom F N x =
     let e = numberAfter d in
     record { call = a % 9 + 1; frame = frameIndex (b % F); page = pageNumber (c % N); slot = d % 16; offset = e % 193; generator = record { number = e } }
 
--- "Link's parent page is the page resident in the drawn frame, else 0."; 0 in the record of any other call
+-- "Link's parent page is the page resident in the drawn frame, else 0.", of whichever store: a record has its number alone. 0 in the record of any other call
 unfoldable pub parentPage : State → ℕ → ℕ → ℕ
 parentPage s call f = pick (eqb call 5) (pick (occupied (s .pool) f) (pageIn (s .pool .records) f) 0) 0
 
@@ -36,7 +36,7 @@ entryFrom r p =
     r .call ∷ r .frame .0 ∷ r .page .0 % byteRadix ∷ r .page .0 / byteRadix ∷ r .slot ∷ r .offset ∷ 0
     ∷ p % byteRadix ∷ p / byteRadix ∷ 0 ∷ 0 ∷ 0 ∷ 0 ∷ 0 ∷ 0 ∷ 0 ∷ []
 
--- the fields on a pool: its F, its N
+-- the fields on a pool: its F, its N, which is that of each store
 abbrev pub drawnFields : State → Generator → Fields
 drawnFields s g = fieldsFrom (s .pool .count) (s .pool .pages) (g .number)
 
@@ -67,10 +67,10 @@ pub record InRanges (s : State) (b : List ℕ) : Type 0 where
   pub rest : bytesFrom b 9 7 ≡ replicate 7 0
   pub others : callIn b ≢ 5 → bytesFrom b 7 9 ≡ replicate 9 0
 
--- what the call listing reads in them is what was drawn
+-- what the call listing reads in them is what was drawn; its handles are of store 0
 pub record ReadBack (s : State) (g : Generator) (b : List ℕ) : Type 0 where
   pub call : callIn b ≡ drawnFields s g .call
-  pub handle : handleIn b ≡ record { frame = drawnFields s g .frame; page = drawnFields s g .page }
+  pub handle : handleIn b ≡ record { frame = drawnFields s g .frame; store = storeNumber 0; page = drawnFields s g .page }
   pub slot : slotIn b ≡ drawnFields s g .slot
   pub offset : offsetIn b ≡ drawnFields s g .offset
-  pub parent : parentIn b ≡ record { frame = drawnFields s g .frame; page = pageNumber (parentPage s (drawnFields s g .call) (drawnFields s g .frame .0)) }
+  pub parent : parentIn b ≡ record { frame = drawnFields s g .frame; store = storeNumber 0; page = pageNumber (parentPage s (drawnFields s g .call) (drawnFields s g .frame .0)) }

@@ -1,5 +1,5 @@
--- A record drawn in code: its counts by the lengths of frames and store, its parent page by the table of the page in each frame. Assumes nothing.
-use Prim.Native.Nat.{ℕ, _+_, _/_, _%_, _<_, _≤_}
+-- A record drawn in code: its parent page by the table of the page in each frame. Assumes nothing.
+use Prim.Native.Nat.{ℕ, _+_, _%_, _<_, _≤_}
 use mathlib.Core.Path.{_≡_, refl, sym, _∙_, ap}
 use mathlib.Core.Logic.{_≢_}
 use mathlib.Core.Bool.{false}
@@ -8,17 +8,16 @@ use native.Mathlib.Omega.{arith}
 use native.Mathlib.Nat.{mod-lt}
 use borrow.Author.Tests.{eq-eqb, ne-eqb, eqb-true, not-false}
 use lib.Dec.{eqb}
-use lib.ListN.{length}
 use Rattle.page.specs.declared.PageNumber.{PageNumber}
-use Rattle.page.specs.Figures.{pageSize, mostFrames, mostPages}
+use Rattle.page.specs.Figures.{mostFrames, mostPages}
 use Rattle.rules.specs.Tests.{pick, firstBroken}
 use Rattle.rules.specs.TestLaws.{case, on, off, or-none, pick-yes, pick-no, verdict-yes, verdict-no}
 use Rattle.machine.specs.Machine.{State, frameIndex, pageNumber, occupied}
 use Rattle.machine.specs.Calls.{poolRules}
 use Rattle.machine.specs.Laws.Ready.{Kept, rules-kept}
 use Rattle.seen.specs.Seen.{Seen}
-use Rattle.residents.specs.Residents.{pageBy, holdsPage}
-use Rattle.residents.specs.ResidentLaws.{holds-page}
+use Rattle.residents.specs.Residents.{Residents, pageBy, holdsPage}
+use Rattle.residents.specs.ResidentLaws.{page-by, holds-page}
 use Rattle.residents.specs.Handed.{Handed}
 use Rattle.generator.specs.declared.Generator.{Generator}
 use Rattle.generator.specs.Generator.{numberAfter}
@@ -62,22 +61,19 @@ pub draw-refused : (s : State) (g : Generator) {n : ℕ} → n ≡ firstBroken (
 unfolding drawnOut
 draw-refused s g e h = verdict-no (refusedDraw g) _ e h
 
--- ---- accepted: n is the refusal by rules 1 and 2, F and N are the counts that the lengths give
-module _ (s : State) {residents : List ℕ} {seen : Seen} {n F N : ℕ} (e : (n ≡ firstBroken (poolRules s)) × (n ≡ 0 → Handed (s .pool) (s .frames) residents seen)) (z : n ≡ 0) (f≡ : F ≡ length (s .frames) / pageSize) (n≡ : N ≡ length (s .store) / pageSize) where
+-- ---- accepted: n is the refusal by rules 1 and 2
+module _ (s : State) {residents : List ℕ} {seen : Seen} {n : ℕ} (e : (n ≡ firstBroken (poolRules s)) × (n ≡ 0 → Handed (s .pool) (s .frames) residents seen)) (z : n ≡ 0) where
   kept : Kept s
   kept = rules-kept s (sym (e .0) ∙ z)
 
-  counted : F ≡ s .pool .count
-  counted = let k = kept .sized in omega arith
+  held : Residents (s .pool .records) residents
+  held = e .1 z .held
 
-  paged : N ≡ s .pool .pages
-  paged = let k = kept .sized in omega arith
+  pub counts-fit : (1 ≤ s .pool .count) × (s .pool .count ≤ mostFrames) × (1 ≤ s .pool .pages) × (s .pool .pages ≤ mostPages)
+  counts-fit = let k = kept .sized in (omega arith, k .most, k .some, k .pages)
 
-  pub counts-fit : (1 ≤ F) × (F ≤ mostFrames) × (1 ≤ N) × (N ≤ mostPages)
-  counts-fit = let k = kept .sized in let c = counted in let p = paged in (omega arith, omega arith, omega arith, omega arith)
-
-  module _ (g : Generator) (r : Fields) (d : r ≡ fieldsFrom F N (g .number)) where
-    frame-below : r .frame .0 < F
+  module _ (g : Generator) (r : Fields) (d : r ≡ fieldsFrom (s .pool .count) (s .pool .pages) (g .number)) where
+    frame-below : r .frame .0 < s .pool .count
     unfolding fieldsFrom
     frame-below = let l = counts-fit .0 in rw d (mod-lt _ (omega arith))
 
@@ -87,19 +83,16 @@ module _ (s : State) {residents : List ℕ} {seen : Seen} {n F N : ℕ} (e : (n 
     -- an empty frame's entry in the table is 0
     empty-none : occupied (s .pool) (r .frame .0) ≡ false → pageBy residents (r .frame .0) ≡ 0
     unfolding holdsPage
-    empty-none o = eqb-true _ 0 (not-false _ (or-none (eqb (r .frame .0) 0) _ (holds-page s (kept .sized .most) (kept .agreed) residents (e .1 z .held) (r .frame .0) frame-fits ∙ o) .1))
+    empty-none o = ap (λ (k : ℕ). k % mostPages) (eqb-true _ 0 (not-false _ (or-none (eqb (r .frame .0) 0) _ (holds-page s (kept .sized .most) (kept .stores .some) (kept .agreed) residents held (r .frame .0) frame-fits ∙ o) .1)))
 
     parent-same : parentBy residents (r .call) (r .frame .0) ≡ parentPage s (r .call) (r .frame .0)
     unfolding parentBy parentPage
     parent-same = ap (λ (p : ℕ). pick (eqb (r .call) 5) p 0) (elim (case (occupied (s .pool) (r .frame .0))) [
-      | on o ↦ e .1 z .held .right (r .frame .0) frame-fits ∙ pick-yes _ o refl
+      | on o ↦ page-by held (r .frame .0) frame-fits ∙ pick-yes _ o refl
       | off o ↦ empty-none o ∙ pick-no _ o refl
     ])
-
-    same-fields : r ≡ fieldsFrom (s .pool .count) (s .pool .pages) (g .number)
-    same-fields = d ∙ ap (λ (m : ℕ). fieldsFrom m N (g .number)) counted ∙ ap (λ (m : ℕ). fieldsFrom (s .pool .count) m (g .number)) paged
 
     pub draw-made : (p : PageNumber) {b : List ℕ} → p ≡ pageNumber (parentBy residents (r .call) (r .frame .0)) → b ≡ entryFrom r (p .0)
         → _≡_ {A = Drawn} (record { refusal = 0; entry = b; generator = r .generator }) (drawnOut s g)
     unfolding drawnOut
-    draw-made p q h = verdict-yes (refusedDraw g) (e .0) z (rw (h, q, parent-same, same-fields))
+    draw-made p q h = verdict-yes (refusedDraw g) (e .0) z (rw (h, q, parent-same, d))

@@ -10,7 +10,7 @@ use Rattle.machine.specs.Machine.{State}
 use Rattle.machine.specs.Agreement.{agree}
 use Rattle.machine.specs.Directory.{chainsAgree}
 use Rattle.machine.specs.Answers.{refused, done}
-use Rattle.machine.specs.Rules.{lengthsFit, directoryFits, rule2}
+use Rattle.machine.specs.Rules.{lengthsFit, storesFit, directoryFits, rule2}
 use Rattle.machine.specs.Calls.{poolRules, openCall, settleCall}
 use Rattle.machine.specs.History.{Call, settle, Point, start, run, AllBytes}
 use Rattle.machine.specs.Demand3.{Holds}
@@ -28,8 +28,8 @@ module _ (x : Point) (H : Holds x) where
   settle-refused n z e = answers-as (refused-by (x .now) (poolRules (x .now)) _ n z e)
 
   pub point-kept : firstBroken (poolRules (x .now)) ≡ 0
-  point-kept = elim (case (lengthsFit (x .now .pool .count) (x .now .pool .pages) (x .now .frames) (x .now .store) and directoryFits (x .now .directory))) [
-    | off t ↦ absurd (H .neverRefused settle 1 (settle-refused 1 (λ z. omega arith) (broken-here 1 (rule2 (x .now) ∷ []) t)) .0 refl)
+  point-kept = elim (case (lengthsFit (x .now .pool .count) (x .now .pool .pages) (x .now .pool .stores) (x .now .frames) (x .now .store) and storesFit (x .now .pool .count) (x .now .pool .stores) (x .now .pool .ceilings) and directoryFits (x .now .directory))) [
+    | off t ↦ absurd (H .neverRefused settle 1 (settle-refused 1 (λ z. omega arith) (broken-here 1 (rule2 (x .now) ∷ []) t)) .0 refl refl)
     | on t ↦ elim (case (agree (x .now .pool) (x .now .frames) and chainsAgree (x .now .pool) (x .now .directory))) [
       | off u ↦ absurd (H .neverRefused settle 2 (settle-refused 2 (λ z. omega arith) (kept-then 1 (rule2 (x .now) ∷ []) t ∙ broken-here 2 [] u)) .1 refl)
       | on u ↦ kept-then 1 (rule2 (x .now) ∷ []) t ∙ kept-then 2 [] u ∙ none-broken
@@ -44,6 +44,6 @@ pub record DrawnThere (s : State) (g : Generator) : Type 0 where
 pub drawn-there : (s : State) (g : Generator) → firstBroken (poolRules s) ≡ 0 → DrawnThere s g
 drawn-there s g z = record { accepted = ap (λ (d : Drawn). d .refusal) (accepted-record s g z); ranges = in-ranges s g z }
 
-pub draws-in-list : (frames store directory : List ℕ) → Octets frames → Octets store → openCall frames store directory .answer ≡ done → (cs : List Call) → AllBytes cs → (g : Generator)
-    → DrawnThere (run cs (start (openCall frames store directory .left)) .now) g
-draws-in-list frames store directory bf bs e cs b g = let x = run cs (start (openCall frames store directory .left)) in drawn-there (x .now) g (point-kept x (demand3 frames store directory bf bs e cs b))
+pub draws-in-list : (T : ℕ) (ceilings frames store directory : List ℕ) → Octets frames → Octets store → openCall T ceilings frames store directory .answer ≡ done → (cs : List Call) → AllBytes cs → (g : Generator)
+    → DrawnThere (run cs (start (openCall T ceilings frames store directory .left)) .now) g
+draws-in-list T ceilings frames store directory bf bs e cs b g = let x = run cs (start (openCall T ceilings frames store directory .left)) in drawn-there (x .now) g (point-kept x (demand3 T ceilings frames store directory bf bs e cs b))

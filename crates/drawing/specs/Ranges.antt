@@ -12,7 +12,7 @@ use Rattle.page.specs.Figures.{byteRadix}
 use Rattle.page.specs.Page.{bytesFrom}
 use Rattle.rules.specs.Tests.{firstBroken}
 use Rattle.rules.specs.TestLaws.{pick-either, pick-no, verdict-yes, verdict-no}
-use Rattle.machine.specs.Machine.{State, pageNumber}
+use Rattle.machine.specs.Machine.{State, storeNumber, pageNumber}
 use Rattle.machine.specs.Calls.{poolRules}
 use Rattle.machine.specs.Laws.Ready.{Kept, rules-kept}
 use Rattle.generator.specs.declared.Generator.{Generator}
@@ -29,10 +29,10 @@ fields-read s g =
     let p = parentPage s (r .call) (r .frame .0) in
     record {
       call = refl;
-      handle = ap (λ (n : ℕ). record { frame = r .frame; page = pageNumber n }) (two-bytes (r .page .0));
+      handle = ap (λ (n : ℕ). record { frame = r .frame; store = storeNumber 0; page = pageNumber n }) (two-bytes (r .page .0));
       slot = refl;
       offset = refl;
-      parent = ap (λ (n : ℕ). record { frame = r .frame; page = pageNumber n }) (two-bytes p);
+      parent = ap (λ (n : ℕ). record { frame = r .frame; store = storeNumber 0; page = pageNumber n }) (two-bytes p);
     }
 
 module _ (s : State) (g : Generator) (z : firstBroken (poolRules s) ≡ 0) where

@@ -37,7 +37,7 @@ fn refused(refusal: u8, generator: Generator) -> Drawn
     }
 }
 
-// Link's parent page by the table of the page in each frame, which has 0 for an empty one; 0 for every other call.
+// Link's parent page by the table of the page in each frame, which has page 0 for an empty one; 0 for every other call.
 fn parent_page(residents: &Residents, call: u8, frame: FrameIndex) -> PageNumber
     requires { ⌜ frame .0 < mostFrames ⌝ }
     ensures { λ r. ⌜ r ≡ pageNumber (parentBy (now (residents .entry)) call (frame .0)) ⌝ }
@@ -45,7 +45,7 @@ fn parent_page(residents: &Residents, call: u8, frame: FrameIndex) -> PageNumber
     if call != LINK {
         return PageNumber(0);
     }
-    PageNumber(residents[frame.0 as usize])
+    residents::page_in(residents, frame)
 }
 
 // The next record of a workload on the pool as it stands.
@@ -60,13 +60,13 @@ pub fn draw_record(
 {
     let mut residents = residents::NONE;
     let mut seen = seen::NONE;
+    let count = pool.count as u32;
+    let pages = pool.pages as u32;
     let refusal = guard::table_refusal(pool, frames, store, directory, &mut residents, &mut seen);
     if refusal != 0 {
         return refused(refusal, generator);
     }
-    let count = frames.len() / PageNumber::SIZE;
-    let pages = store.len() / PageNumber::SIZE;
-    let fields = fields::draw_fields(generator, count as u32, pages as u32);
+    let fields = fields::draw_fields(generator, count, pages);
     let parent = parent_page(&residents, fields.call, fields.frame);
     let entry = entry::of_fields(fields, parent);
     let after = fields.generator;

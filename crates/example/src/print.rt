@@ -50,6 +50,8 @@ pub fn fixed(call: &[u8], answer: FixAnswer) {
             text(call);
             text(b": page ");
             number(handle.page.0);
+            text(b" of store ");
+            number(handle.store.0 as u16);
             text(b" in frame ");
             number(handle.frame.0 as u16);
             after(looks);
@@ -59,18 +61,20 @@ pub fn fixed(call: &[u8], answer: FixAnswer) {
 }
 
 // Find.
-pub fn found(answer: FindAnswer) {
+pub fn found(call: &[u8], answer: FindAnswer) {
     match answer {
         FindAnswer::At(frame, entries) => {
-            text(b"find: in frame ");
+            text(call);
+            text(b": in frame ");
             number(frame.0 as u16);
             compared(entries);
         }
         FindAnswer::Absent(entries) => {
-            text(b"find: absent");
+            text(call);
+            text(b": absent");
             compared(entries);
         }
-        FindAnswer::Refused(refusal) => refused(b"find", refusal),
+        FindAnswer::Refused(refusal) => refused(call, refusal),
     }
 }
 

@@ -7,28 +7,41 @@ use machine::Handle;
 use machine::Pool;
 use page::FrameIndex;
 use page::PageNumber;
+use page::StoreNumber;
 use page::word;
 ghost use mathlib.Core.Path.{_≡_};
 ghost use Rattle.machine.specs.Machine.{state};
 ghost use Rattle.machine.specs.Answers.{out, fixAnswer};
 ghost use Rattle.machine.specs.Calls.{rootCall, fixCall};
 
-// Pins page 0.
-pub fn root(pool: Pool, frames: &[u8], store: &[u8], directory: &[u8]) -> Fix
-    ensures { λ r. ⌜ out (fixAnswer (r .answer)) (state (r .pool) (now (frames .entry)) (now (store .entry)) (now (directory .entry))) ≡ rootCall (state pool (now (frames .entry)) (now (store .entry)) (now (directory .entry))) ⌝ }
+// Pins page 0 of a store, in the frame of the same number.
+pub fn root(pool: Pool, frames: &[u8], store: &[u8], directory: &[u8], of_store: StoreNumber) -> Fix
+    ensures { λ r. ⌜ out (fixAnswer (r .answer)) (state (r .pool) (now (frames .entry)) (now (store .entry)) (now (directory .entry))) ≡ rootCall (state pool (now (frames .entry)) (now (store .entry)) (now (directory .entry))) («of_store» .0) ⌝ }
 {
-    let refusal = guard::pool_refusal(pool, frames, store, directory);
+    let mut residents = residents::NONE;
+    let mut seen = seen::NONE;
+    let refusal = guard::store_refusal(
+        pool,
+        frames,
+        store,
+        directory,
+        of_store,
+        &mut residents,
+        &mut seen,
+    );
     if refusal != 0 {
         return answer::refused(pool, refusal);
     }
     let mut next = pool;
-    let rec = next.records[0];
+    let at = of_store.0 as usize;
+    let rec = next.records[at];
     if rec.pins == FrameIndex::MAX_PINS {
         return answer::refused(pool, 13);
     }
+    let own_store = rec.store;
     let page = rec.page;
-    next.records[0] = records::pinned(rec);
-    answer::given(next, FrameIndex(0), page, 0)
+    next.records[at] = records::pinned(rec);
+    answer::given(next, FrameIndex(of_store.0), own_store, page, 0)
 }
 
 // Pins the page that a slot of a handle's page names.
@@ -67,6 +80,7 @@ pub fn fix(
         return answer::refused(pool, 7);
     }
     if word::is_number(name) {
+        let of_store = handle.store;
         let page = PageNumber(name as u16);
         return load::bring_in(
             pool,
@@ -75,6 +89,7 @@ pub fn fix(
             directory,
             parent,
             slot,
+            of_store,
             page,
             &residents,
             &mut seen,
@@ -85,7 +100,8 @@ pub fn fix(
     if child.pins == FrameIndex::MAX_PINS {
         return answer::refused(pool, 13);
     }
+    let own_store = child.store;
     let page = child.page;
     next.records[g] = records::pinned(child);
-    answer::given(next, FrameIndex(g as u8), page, 0)
+    answer::given(next, FrameIndex(g as u8), own_store, page, 0)
 }

@@ -9,7 +9,7 @@ use pool::Pool;
 ghost use Prim.Native.Nat.{_≤_};
 
 // 4 frames, a store of 16 pages, and the directory.
-const FRAMES: usize = 4 * PageNumber::SIZE;
+const FRAMES: usize = recording::FRAMES * PageNumber::SIZE;
 
 const STORE: usize = 16 * PageNumber::SIZE;
 
@@ -92,7 +92,7 @@ fn main() {
     let mut store = [0u8; STORE];
     let mut directory = [0u8; DIRECTORY];
     let mut block = [0u8; BLOCK];
-    let opened = pool::open(&mut frames, &store, &mut directory);
+    let opened = recording::open_listing(&mut frames, &store, &mut directory);
     let pool = opened.pool;
     let mut turn = Turn {
         more: true,

@@ -24,8 +24,8 @@ pub data Answer : Type 0 where
   refused : ℕ → Answer
   -- accepted, with nothing to give: open, unfix, write, link, unlink, evict, settle
   done : Answer
-  -- root and fix: the handle's frame and page, and the looks of the sweep
-  handle : ℕ → ℕ → ℕ → Answer
+  -- root and fix: the handle's frame, store and page, and the looks of the sweep
+  handle : ℕ → ℕ → ℕ → ℕ → Answer
   -- show and peek: the place of the payload, its buffer, start and size
   payload : Buffer → ℕ → ℕ → Answer
   -- word: the page number, and whether that page is locked
@@ -49,7 +49,7 @@ unfoldable pub doneAnswer : ℕ → Answer
 doneAnswer n = verdict n refused done
 
 abbrev pub fixAnswer : FixAnswer → Answer
-fixAnswer (Fixed h looks) = handle (h .frame .0) (h .page .0) looks
+fixAnswer (Fixed h looks) = handle (h .frame .0) (h .store .0) (h .page .0) looks
 fixAnswer (Refused n) = refused n
 
 abbrev pub wordAnswer : WordAnswer → Answer
@@ -74,7 +74,7 @@ abbrev pub placeOf : Answer → Place
 placeOf (payload b a n) = record { refusal = 0; in_store = isStore b; start = a; size = n }
 placeOf (refused n) = noPlace n
 placeOf done = noPlace 0
-placeOf (handle f p n) = noPlace 0
+placeOf (handle f t p n) = noPlace 0
 placeOf (number p l) = noPlace 0
 placeOf (frame f n) = noPlace 0
 placeOf (nowhere n) = noPlace 0

@@ -14,9 +14,13 @@ use Rattle.machine.specs.Machine.{pageIn, occupied}
 unfoldable pub belongs : Pool → ℕ → ℕ → Bool
 belongs p b f = occupied p f and eqb (bucketOf (pageIn (p .records) f)) b
 
+-- chain b gives resident pages of its remainder, no others, each once
+unfoldable pub chainRight : Pool → ℕ → List ℕ → Bool
+chainRight p b chain = eachOf (belongs p b) chain and once chain
+
 -- chains give resident pages "of their remainders", no others, "each once in any order"
 unfoldable pub chainsRight : Pool → List ℕ → Bool
-chainsRight p d = every buckets (λ b. eachOf (belongs p b) (chainOf d b) and once (chainOf d b))
+chainsRight p d = every buckets (λ b. chainRight p b (chainOf d b))
 
 -- and "exactly" those: every resident page is in its chain
 unfoldable pub chainsWhole : Pool → List ℕ → Bool

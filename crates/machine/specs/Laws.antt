@@ -18,3 +18,6 @@ pub mod EvictReasons
 pub mod WarmPages
 pub mod FindByChain
 pub mod BitThirty
+pub mod HeldLaws
+pub mod RootRecords
+pub mod RecordRows

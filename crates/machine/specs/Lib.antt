@@ -14,6 +14,5 @@ pub mod Demand3
 pub mod LockedPages
 pub mod ByChain
 -- Cases computed from them, laws of them for the code and the theorem, and the proofs of demand 3 and of what is said of locked pages and of the directory.
-pub mod Tables
 pub mod Laws
 pub mod Theorem

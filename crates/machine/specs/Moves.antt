@@ -9,6 +9,7 @@ use Rattle.machine.specs.declared.FrameRecord.{FrameRecord}
 use Rattle.machine.specs.declared.Pool.{Pool}
 use Rattle.rules.specs.Tests.{pick}
 use Rattle.chains.specs.Chain.{bucketOf, entered, takenOut}
+use Rattle.page.specs.StorePlaces.{storePlace}
 use Rattle.machine.specs.Machine.{State, state, blank, loadedRecord, cleaned, isDirty, recordAt, pageIn, withRecord, withRecords}
 
 -- ---- "The image of a resident page is its bytes with each swizzled word replaced by the number of the page in that frame." Request A.8: "settling .. carry it", the mark
@@ -31,27 +32,27 @@ imageOf rs fs f = imageTo (pageIn rs) (pageOf fs f) slotCount
 
 -- ---- writing out
 
--- the store with the image of the page in frame f, whose record is r, if that is dirty
-unfoldable pub writtenOutBy : (ℕ → ℕ) → FrameRecord → List ℕ → List ℕ → ℕ → List ℕ
-writtenOutBy page r fs st f = pick (isDirty r) (putPage st (r .page .0) (imageTo page (pageOf fs f) slotCount)) st
+-- the store with the image of the page in frame f, whose record is r, at its place among N pages of each store, if that is dirty
+unfoldable pub writtenOutBy : ℕ → (ℕ → ℕ) → FrameRecord → List ℕ → List ℕ → ℕ → List ℕ
+writtenOutBy N page r fs st f = pick (isDirty r) (putPage st (storePlace N (r .store .0) (r .page .0)) (imageTo page (pageOf fs f) slotCount)) st
 
-abbrev pub writtenOut : List FrameRecord → List ℕ → List ℕ → ℕ → List ℕ
-writtenOut rs fs st f = writtenOutBy (pageIn rs) (recordAt rs f) fs st f
+abbrev pub writtenOut : ℕ → List FrameRecord → List ℕ → List ℕ → ℕ → List ℕ
+writtenOut N rs fs st f = writtenOutBy N (pageIn rs) (recordAt rs f) fs st f
 
--- the same for the first n frames; and their records marked clean
-unfoldable pub writtenOutTo : List FrameRecord → List ℕ → List ℕ → ℕ → List ℕ
-writtenOutTo rs fs st zero = st
-writtenOutTo rs fs st (suc n) = writtenOut rs fs (writtenOutTo rs fs st n) n
+-- the same for the first n frames, of whichever stores; and their records marked clean
+unfoldable pub writtenOutTo : ℕ → List FrameRecord → List ℕ → List ℕ → ℕ → List ℕ
+writtenOutTo N rs fs st zero = st
+writtenOutTo N rs fs st (suc n) = writtenOut N rs fs (writtenOutTo N rs fs st n) n
 
 unfoldable pub cleanedTo : List FrameRecord → ℕ → List FrameRecord
 cleanedTo rs zero = rs
 cleanedTo rs (suc n) = set (cleanedTo rs n) n (cleaned (recordAt (cleanedTo rs n) n))
 
--- "Settle writes the image of each dirty page and marks it clean."
+-- "Settle writes the image of each dirty page and marks it clean." Request A.11: "Settle writes every store"
 unfoldable pub settled : State → State
 settled s =
     state (withRecords (s .pool) (cleanedTo (s .pool .records) (s .pool .count))) (s .frames)
-    (writtenOutTo (s .pool .records) (s .frames) (s .store) (s .pool .count)) (s .directory)
+    (writtenOutTo (s .pool .pages) (s .pool .records) (s .frames) (s .store) (s .pool .count)) (s .directory)
 
 -- ---- the two changes of which frame holds what
 
@@ -67,11 +68,11 @@ evicted s f =
     let r = recordAt (s .pool .records) f in
     state (vacate (s .pool) f)
     (putSlot (s .frames) (r .parent .0) (r .slot) (renamed (slot (s .frames) (r .parent .0) (r .slot)) (numberWord (r .page .0))))
-    (writtenOut (s .pool .records) (s .frames) (s .store) f) (takenOut (s .directory) (bucketOf (r .page .0)) f)
+    (writtenOut (s .pool .pages) (s .pool .records) (s .frames) (s .store) f) (takenOut (s .directory) (bucketOf (r .page .0)) f)
 
--- "the page is loaded with pins 1, heat 1, clean, its parent recorded and the parent's word swizzled": page q into frame e, for slot k of frame f. Request A.8: "Loading .. carry it". Request A.3: "an entry added at its chain's head on loading"
-unfoldable pub loaded : State → ℕ → ℕ → ℕ → ℕ → State
-loaded s f k e q =
-    state (occupy (s .pool) e (loadedRecord q f k))
-    (putSlot (putPage (s .frames) e (pageOf (s .store) q)) f k (renamed (slot (s .frames) f k) (frameWord e)))
+-- "the page is loaded with pins 1, heat 1, clean, its parent recorded and the parent's word swizzled": page q of store t into frame e, for slot k of frame f. Request A.8: "Loading .. carry it". Request A.3: "an entry added at its chain's head on loading"
+unfoldable pub loaded : State → ℕ → ℕ → ℕ → ℕ → ℕ → State
+loaded s f k e t q =
+    state (occupy (s .pool) e (loadedRecord t q f k))
+    (putSlot (putPage (s .frames) e (pageOf (s .store) (storePlace (s .pool .pages) t q))) f k (renamed (slot (s .frames) f k) (frameWord e)))
     (s .store) (entered (s .directory) (bucketOf q) e)

@@ -1,6 +1,6 @@
 -- "The sweep": the frame that a load uses.
 use Prim.Native.Nat.{ℕ, zero, suc, _+_, _*_}
-use mathlib.Core.Bool.{Bool, true, false}
+use mathlib.Core.Bool.{Bool, true, false, not}
 use mathlib.Core.List.{List}
 use lib.Dec.{eqb, ltb}
 use lib.ListN.{set}
@@ -13,7 +13,7 @@ use Rattle.machine.specs.declared.Pool.{Pool}
 use Rattle.machine.specs.declared.Standing.{Standing}
 use Rattle.machine.specs.declared.Standing.the-variants.{Root, Pinned, Parent, Evictable}
 use Rattle.rules.specs.Tests.{pick, _and_, every}
-use Rattle.machine.specs.Machine.{isUsed, recordAt, frameIndex, isRoot, cooled, warmed}
+use Rattle.machine.specs.Machine.{isUsed, recordAt, frameIndex, isRoot, cooled, warmed, isOf, atCeiling}
 
 -- what a sweep ends with: whether a frame was taken and which, the looks, and the records and the hand after it
 pub record Swept : Type 0 where
@@ -40,9 +40,9 @@ firstEmpty p = emptyFrom (p .records) (p .count) (p .count) (p .hand .0)
 unfoldable pub childless : List ℕ → ℕ → Bool
 childless fs f = every slotCount (λ k. isNumber (name fs f k))
 
--- where the page in frame f, with record r, stands: "The root, a pinned page and a page with a swizzled word are passed over." Any other is open to eviction.
-unfoldable pub standing : FrameRecord → List ℕ → ℕ → Standing
-standing r fs f = pick (isRoot f) Root (pick (eqb (r .pins) 0) (pick (childless fs f) Evictable Parent) Pinned)
+-- where the page in frame f, with record r, stands among T stores: "The root, a pinned page and a page with a swizzled word are passed over." Request A.11: "every root passed over unchanged". Any other is open to eviction.
+unfoldable pub standing : ℕ → FrameRecord → List ℕ → ℕ → Standing
+standing T r fs f = pick (isRoot T f) Root (pick (eqb (r .pins) 0) (pick (childless fs f) Evictable Parent) Pinned)
 
 abbrev pub evictable : Standing → Bool
 evictable Root = false
@@ -50,8 +50,8 @@ evictable Pinned = false
 evictable Parent = false
 evictable Evictable = true
 
-abbrev pub isOpen : FrameRecord → List ℕ → ℕ → Bool
-isOpen r fs f = evictable (standing r fs f)
+abbrev pub isOpen : ℕ → FrameRecord → List ℕ → ℕ → Bool
+isOpen T r fs f = evictable (standing T r fs f)
 
 -- the classes of a look: it leaves the frame as it is, it warms it, or the frame is open to eviction
 pub data Class : Type 0 where
@@ -75,8 +75,12 @@ classOf Pinned = warm
 classOf Parent = rest
 classOf Evictable = yield
 
-abbrev pub kind : List ℕ → Kind
-kind fs r f = classOf (standing r fs f)
+abbrev pub kind : ℕ → List ℕ → Kind
+kind T fs r f = classOf (standing T r fs f)
+
+-- in a sweep for a page of store t. Request A.11: "A store at its ceiling sweeps its own pages only, even where frames are empty; any other frame costs a look and is left unchanged. Below it, loading goes as in 01"
+unfoldable pub kindFor : Pool → List ℕ → ℕ → Kind
+kindFor p fs t r f = pick (atCeiling p t and not (isOf t r)) rest (kind (p .stores) fs r f)
 
 -- what a look leaves of the record: "Any other with heat above 0 loses 1."; request A.5: "raises its heat by one, to 3 at most"
 unfoldable pub lookLeaves : FrameRecord → Class → FrameRecord
@@ -102,9 +106,9 @@ sweepFrom k F (suc m) n rs h =
 abbrev pub mostLooks : ℕ → ℕ
 mostLooks F = 4 * F
 
-abbrev pub sweep : Pool → List ℕ → Swept
-sweep p fs = sweepFrom (kind fs) (p .count) (mostLooks (p .count)) 0 (p .records) (p .hand .0)
+abbrev pub sweep : Pool → List ℕ → ℕ → Swept
+sweep p fs t = sweepFrom (kindFor p fs t) (p .count) (mostLooks (p .count)) 0 (p .records) (p .hand .0)
 
 -- the records and the hand as a sweep leaves them
 abbrev pub withSwept : Pool → Swept → Pool
-withSwept p v = record { records = v .records; count = p .count; pages = p .pages; hand = v .hand }
+withSwept p v = record { records = v .records; count = p .count; pages = p .pages; stores = p .stores; ceilings = p .ceilings; hand = v .hand }

@@ -1,4 +1,5 @@
 -- The proof of demand 3: the machine as functions and the invariant; each effect keeps it; what it makes of the calls' tests; what holds at a point; the theorem; and, from the same invariant, what is said of locked pages and of the directory.
+pub mod Lift
 pub mod View
 pub mod Invariant
 pub mod KeepEffect
@@ -11,6 +12,7 @@ pub mod RecordChange
 pub mod SlotChange
 pub mod Chains
 pub mod Holders
+pub mod FrameReads
 pub mod Reads
 pub mod StateFit
 pub mod KeepsRecords
@@ -32,7 +34,9 @@ pub mod AnswersHold
 pub mod DeniedHolds
 pub mod SweepStep
 pub mod CallSteps
+pub mod FiguresStay
 pub mod HandlesHold
+pub mod NeighboursHold
 pub mod Steps
 pub mod NeverRefused
 pub mod Demand3Holds

@@ -1,6 +1,7 @@
 // The pool's records and the answers of its calls. What they mean stands in specs/: document 01 as definitions, and demand 3.
 use page::FrameIndex;
 use page::PageNumber;
+use page::StoreNumber;
 
 // What is known of one frame (document 01: its record). The all-zero record is the empty frame's.
 #[repr(C)]
@@ -12,11 +13,13 @@ pub struct FrameRecord {
     pub usage: u8,
     pub slot: u8,
     pub parent: FrameIndex,
+    // Request A.11: the store that the page is of.
+    pub store: StoreNumber,
     pub pins: u16,
     pub page: PageNumber,
 }
 
-// The pool's records: one for each of up to 64 frames, F, N and the clock hand.
+// The pool's records: one for each of up to 64 frames, F, N, T, the stores' ceilings and the clock hand.
 #[repr(C)]
 pub struct Pool {
     pub records: [FrameRecord; FrameIndex::MOST],
@@ -24,12 +27,17 @@ pub struct Pool {
     pub count: u16,
     // N.
     pub pages: u16,
+    // T.
+    pub stores: u8,
+    // The most resident pages of each store, its root included; 0 where there is no store.
+    pub ceilings: [u8; StoreNumber::MOST],
     pub hand: FrameIndex,
 }
 
 #[repr(C)]
 pub struct Handle {
     pub frame: FrameIndex,
+    pub store: StoreNumber,
     pub page: PageNumber,
 }
 
@@ -64,7 +72,7 @@ pub enum FindAnswer {
     Refused(u8),
 }
 
-// Why a page stays in its frame, told apart: it is the root, it is pinned, a word of it is swizzled. The first of these that holds; a page of which none does is open to eviction.
+// Why a page stays in its frame, told apart: it is a root, it is pinned, a word of it is swizzled. The first of these that holds; a page of which none does is open to eviction.
 pub enum Standing {
     Root,
     Pinned,

@@ -26,8 +26,7 @@ fn imaged_word(w: u32, residents: &Residents) -> u32
         return w;
     }
     let frame = page::word::frame_in(page::word::name_of(w));
-    let held = residents[frame];
-    by_number(w, PageNumber(held))
+    by_number(w, residents::page_of(residents[frame]))
 }
 
 // Makes `dst` the image of the page `src`.

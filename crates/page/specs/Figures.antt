@@ -18,6 +18,10 @@ payloadSize = 192
 abbrev pub mostPages : ℕ
 mostPages = 4096
 
+-- the largest T
+abbrev pub mostStores : ℕ
+mostStores = 4
+
 -- the least and the largest F
 abbrev pub leastFrames : ℕ
 leastFrames = 2

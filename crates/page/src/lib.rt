@@ -5,9 +5,10 @@ pub mod wide;
 pub mod word;
 
 ghost use mathlib.Core.Path.{_≡_};
-ghost use Prim.Native.Nat.{_+_, _*_};
+ghost use Prim.Native.Nat.{_+_, _*_, _≤_, _<_};
 ghost use Rattle.page.specs.Word.{frameWord, numberWord};
-ghost use Rattle.page.specs.Figures.{pageSize};
+ghost use Rattle.page.specs.Figures.{pageSize, mostPages, mostStores};
+ghost use Rattle.page.specs.StorePlaces.{storePlace};
 
 // A page number. Its figures are those of a page.
 #[repr(C)]
@@ -17,7 +18,11 @@ pub struct PageNumber(pub u16);
 #[repr(C)]
 pub struct FrameIndex(pub u8);
 
-// A page's place in the store, counted in pages.
+// Which of up to four stores a page is of.
+#[repr(C)]
+pub struct StoreNumber(pub u8);
+
+// A page's place in the buffer of the stores, counted in pages.
 pub struct StorePlace(pub u16);
 
 impl PageNumber {
@@ -38,13 +43,11 @@ impl PageNumber {
     {
         page.0 as u32
     }
+}
 
-    // Its place in the store: the pages stand in the order of their numbers.
-    pub fn place(page: PageNumber) -> StorePlace
-        ensures { λ r. ⌜ r .0 ≡ page .0 ⌝ }
-    {
-        StorePlace(page.0)
-    }
+impl StoreNumber {
+    // The largest T.
+    pub const MOST: usize = 4;
 }
 
 impl FrameIndex {
@@ -74,6 +77,14 @@ impl FrameIndex {
 }
 
 impl StorePlace {
+    // The place of a page of a store: the stores stand one after another, of as many pages each, in the order of their numbers.
+    pub fn of(of_store: StoreNumber, page: PageNumber, pages: u16) -> StorePlace
+        requires { ⌜ («of_store» .0 < mostStores) × (page .0 < mostPages) × (pages ≤ mostPages) ⌝ }
+        ensures { λ r. ⌜ r .0 ≡ storePlace pages («of_store» .0) (page .0) ⌝ }
+    {
+        StorePlace(pages * of_store.0 as u16 + page.0)
+    }
+
     // Where it starts in the store.
     pub fn start(place: StorePlace) -> usize
         ensures { λ r. ⌜ r ≡ pageSize * place .0 ⌝ }

@@ -6,6 +6,7 @@ use pool::FrameIndex;
 use pool::Handle;
 use pool::PageNumber;
 use pool::Pool;
+use pool::StoreNumber;
 use pool::WordAnswer;
 ghost use mathlib.Core.Path.{_≡_};
 ghost use Rattle.machine.specs.Answers.{fixAnswer, wordAnswer, findAnswer};
@@ -53,6 +54,7 @@ pub fn from_fix(fix: Fix) -> Fixed
         FixAnswer::Refused(refusal) => {
             let handle = Handle {
                 frame: FrameIndex(0),
+                store: StoreNumber(0),
                 page: PageNumber(0),
             };
             Fixed {

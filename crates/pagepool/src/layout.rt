@@ -14,8 +14,9 @@ use pool::Handle;
 use pool::PageNumber;
 use pool::Place;
 use pool::Pool;
+use pool::StoreNumber;
 
-// Records in which no number stands twice.
+// Records in none of which a number stands twice.
 fn marked_pool() -> Pool {
     let blank = FrameRecord {
         used: 0,
@@ -23,6 +24,7 @@ fn marked_pool() -> Pool {
         usage: 0,
         slot: 0,
         parent: FrameIndex(0),
+        store: StoreNumber(0),
         pins: 0,
         page: PageNumber(0),
     };
@@ -35,6 +37,7 @@ fn marked_pool() -> Pool {
             usage: i as u8,
             slot: 64 + i as u8,
             parent: FrameIndex(128 + i as u8),
+            store: StoreNumber(63 - i as u8),
             pins: 1000 + i as u16,
             page: PageNumber(2000 + i as u16),
         };
@@ -44,6 +47,8 @@ fn marked_pool() -> Pool {
         records,
         count: 3001,
         pages: 3002,
+        stores: 227,
+        ceilings: [228, 229, 230, 231],
         hand: FrameIndex(200),
     }
 }
@@ -62,6 +67,7 @@ pub extern "C" fn pool_layout_done() -> Done {
 pub extern "C" fn pool_layout_fixed() -> Fixed {
     let handle = Handle {
         frame: FrameIndex(203),
+        store: StoreNumber(232),
         page: PageNumber(4001),
     };
     Fixed {

@@ -16,6 +16,7 @@ use pool::Handle;
 use pool::PageNumber;
 use pool::Place;
 use pool::Pool;
+use pool::StoreNumber;
 ghost use mathlib.Core.Path.{_≡_};
 ghost use Rattle.machine.specs.Machine.{state};
 ghost use Rattle.machine.specs.Answers.{out, doneAnswer, placeOf};
@@ -25,20 +26,39 @@ ghost use Rattle.drawing.specs.Drawing.{drawnOut};
 ghost use Rattle.depths.specs.Tallying.{addOut, shareOut, reportOut};
 ghost use Rattle.pagepool.specs.Structs.{fixedOut, namedOf, foundOf};
 
-// Brings page 0 into frame 0 and gives the records of a new pool; refused, all-zero ones.
-#[no_mangle]
-pub extern "C" fn pool_open(frames: &mut [u8], store: &[u8], directory: &mut [u8]) -> Done
-    ensures { λ r. ⌜ out (doneAnswer (r .refusal)) (state (r .pool) (now (frames .exit)) (now (store .entry)) (now (directory .exit))) ≡ openCall (now (frames .entry)) (now (store .entry)) (now (directory .entry)) ⌝ }
-{
-    pool::open(frames, store, directory)
+// The most resident pages of each store, as open takes them.
+#[repr(C)]
+pub struct Ceilings {
+    pub most: [u8; StoreNumber::MOST],
 }
 
-// Pins page 0.
+// Brings page 0 of each store into the frame of the store's number and gives the records of a new pool; refused, all-zero ones.
 #[no_mangle]
-pub extern "C" fn pool_root(pool: Pool, frames: &[u8], store: &[u8], directory: &[u8]) -> Fixed
-    ensures { λ r. ⌜ record { fixed = r; frames = now (frames .entry); store = now (store .entry); directory = now (directory .entry) } ≡ fixedOut (rootCall (state pool (now (frames .entry)) (now (store .entry)) (now (directory .entry)))) ⌝ }
+pub extern "C" fn pool_open(
+    frames: &mut [u8],
+    store: &[u8],
+    directory: &mut [u8],
+    stores: u8,
+    ceilings: Ceilings,
+) -> Done
+    ensures { λ r. ⌜ out (doneAnswer (r .refusal)) (state (r .pool) (now (frames .exit)) (now (store .entry)) (now (directory .exit))) ≡ openCall stores (ceilings .most) (now (frames .entry)) (now (store .entry)) (now (directory .entry)) ⌝ }
 {
-    answers::from_fix(pool::root(pool, frames, store, directory))
+    let most = ceilings.most;
+    pool::open(frames, store, directory, stores, most)
+}
+
+// Pins page 0 of a store.
+#[no_mangle]
+pub extern "C" fn pool_root(
+    pool: Pool,
+    frames: &[u8],
+    store: &[u8],
+    directory: &[u8],
+    of_store: StoreNumber,
+) -> Fixed
+    ensures { λ r. ⌜ record { fixed = r; frames = now (frames .entry); store = now (store .entry); directory = now (directory .entry) } ≡ fixedOut (rootCall (state pool (now (frames .entry)) (now (store .entry)) (now (directory .entry))) («of_store» .0)) ⌝ }
+{
+    answers::from_fix(pool::root(pool, frames, store, directory, of_store))
 }
 
 // Pins the page that a slot of a handle's page names.
@@ -84,18 +104,19 @@ pub extern "C" fn pool_show(
     pool::show_place(pool, frames, store, directory, handle)
 }
 
-// Where the payload of a page lies, in its frame if it is resident, otherwise in the store.
+// Where the payload of a page of a store lies, in its frame if it is resident, otherwise in the store.
 #[no_mangle]
 pub extern "C" fn pool_peek(
     pool: Pool,
     frames: &[u8],
     store: &[u8],
     directory: &[u8],
+    of_store: StoreNumber,
     page: PageNumber,
 ) -> Place
-    ensures { λ r. ⌜ r ≡ placeOf (peekCall (state pool (now (frames .entry)) (now (store .entry)) (now (directory .entry))) page .answer) ⌝ }
+    ensures { λ r. ⌜ r ≡ placeOf (peekCall (state pool (now (frames .entry)) (now (store .entry)) (now (directory .entry))) («of_store» .0) page .answer) ⌝ }
 {
-    pool::peek_place(pool, frames, store, directory, page)
+    pool::peek_place(pool, frames, store, directory, of_store, page)
 }
 
 // The page number in a slot of the handle's page, and whether that page is locked.
@@ -161,21 +182,22 @@ pub extern "C" fn pool_unlink(
     pool::unlink(pool, frames, store, directory, handle, slot)
 }
 
-// Takes a page out of its frame.
+// Takes a page of a store out of its frame.
 #[no_mangle]
 pub extern "C" fn pool_evict(
     pool: Pool,
     frames: &mut [u8],
     store: &mut [u8],
     directory: &mut [u8],
+    of_store: StoreNumber,
     page: PageNumber,
 ) -> Done
-    ensures { λ r. ⌜ out (doneAnswer (r .refusal)) (state (r .pool) (now (frames .exit)) (now (store .exit)) (now (directory .exit))) ≡ evictCall (state pool (now (frames .entry)) (now (store .entry)) (now (directory .entry))) page ⌝ }
+    ensures { λ r. ⌜ out (doneAnswer (r .refusal)) (state (r .pool) (now (frames .exit)) (now (store .exit)) (now (directory .exit))) ≡ evictCall (state pool (now (frames .entry)) (now (store .entry)) (now (directory .entry))) («of_store» .0) page ⌝ }
 {
-    pool::evict(pool, frames, store, directory, page)
+    pool::evict(pool, frames, store, directory, of_store, page)
 }
 
-// Writes the image of each dirty page to the store.
+// Writes the image of each dirty page to its store.
 #[no_mangle]
 pub extern "C" fn pool_settle(pool: Pool, frames: &[u8], store: &mut [u8], directory: &[u8]) -> Done
     ensures { λ r. ⌜ out (doneAnswer (r .refusal)) (state (r .pool) (now (frames .entry)) (now (store .exit)) (now (directory .entry))) ≡ settleCall (state pool (now (frames .entry)) (now (store .entry)) (now (directory .entry))) ⌝ }
@@ -183,18 +205,19 @@ pub extern "C" fn pool_settle(pool: Pool, frames: &[u8], store: &mut [u8], direc
     pool::settle(pool, frames, store, directory)
 }
 
-// The frame that holds a page, and how many entries of its chain were compared.
+// The frame that holds a page of a store, and how many entries of its chain were compared.
 #[no_mangle]
 pub extern "C" fn pool_find(
     pool: Pool,
     frames: &[u8],
     store: &[u8],
     directory: &[u8],
+    of_store: StoreNumber,
     page: PageNumber,
 ) -> Found
-    ensures { λ r. ⌜ r ≡ foundOf (findCall (state pool (now (frames .entry)) (now (store .entry)) (now (directory .entry))) page .answer) ⌝ }
+    ensures { λ r. ⌜ r ≡ foundOf (findCall (state pool (now (frames .entry)) (now (store .entry)) (now (directory .entry))) («of_store» .0) page .answer) ⌝ }
 {
-    answers::from_find(pool::find(pool, frames, store, directory, page))
+    answers::from_find(pool::find(pool, frames, store, directory, of_store, page))
 }
 
 // The generator of a seed.

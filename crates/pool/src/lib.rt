@@ -21,6 +21,7 @@ pub use machine::Pool;
 pub use machine::WordAnswer;
 pub use page::FrameIndex;
 pub use page::PageNumber;
+pub use page::StoreNumber;
 pub use residency::evict;
 pub use residency::open;
 pub use residency::settle;

@@ -9,9 +9,21 @@ use Rattle.page.specs.Figures.{byteRadix}
 use Rattle.page.specs.Page.{bytesFrom}
 use Rattle.machine.specs.declared.Handle.{Handle}
 use Rattle.rules.specs.Tests.{pick, _and_, Rule, firstBroken, verdict}
-use Rattle.machine.specs.Machine.{State, frameIndex, pageNumber}
+use Rattle.machine.specs.Machine.{State, frameIndex, storeNumber, pageNumber}
 use Rattle.machine.specs.Answers.{Answer, refused, done, handle, payload, number, frame, nowhere, Out, out}
+use Rattle.machine.specs.Calls.{openCall}
 use Rattle.machine.specs.History.{Call, root, fix, unfix, write, link, unlink, evict, settle, find, row}
+
+-- ---- the pool: "4 frames". Request A.11: "the listing has T 1 and ceiling F", the other ceilings being "0 for no store"
+
+abbrev pub listingFrames : ℕ
+listingFrames = 4
+
+abbrev pub listingCeilings : List ℕ
+listingCeilings = listingFrames ∷ 0 ∷ 0 ∷ 0 ∷ []
+
+abbrev pub openListing : List ℕ → List ℕ → List ℕ → Out
+openListing fs st d = openCall 1 listingCeilings fs st d
 
 -- ---- the fields of a record
 
@@ -27,13 +39,13 @@ pageFrom b i = pageNumber (getD b i 0 + byteRadix * getD b (i + 1) 0)
 abbrev pub pageInRecord : List ℕ → PageNumber
 pageInRecord b = pageFrom b 2
 
--- "byte 1 the frame", with the page
+-- "byte 1 the frame", with the page. With T 1, the calls of a record name store 0
 abbrev pub handleIn : List ℕ → Handle
-handleIn b = record { frame = frameIndex (getD b 1 0); page = pageInRecord b }
+handleIn b = record { frame = frameIndex (getD b 1 0); store = storeNumber 0; page = pageInRecord b }
 
 -- "Link takes its parent handle's page from bytes 7 and 8."
 abbrev pub parentIn : List ℕ → Handle
-parentIn b = record { frame = frameIndex (getD b 1 0); page = pageFrom b 7 }
+parentIn b = record { frame = frameIndex (getD b 1 0); store = storeNumber 0; page = pageFrom b 7 }
 
 -- "byte 4 slot, 5 offset, 6 length, 7 to 15 data"
 abbrev pub slotIn : List ℕ → ℕ
@@ -53,15 +65,15 @@ dataIn b = bytesFrom b 7 (lengthIn b)
 -- "1 root, 2 fix, 3 unfix, 4 write, 5 link, 6 unlink, 7 evict, 8 settle, 9 find"; request A.8: "Link takes the mark, in the listing never."
 unfoldable pub callOf : List ℕ → Call
 callOf b =
-    pick (eqb (callIn b) 1) root (
+    pick (eqb (callIn b) 1) (root 0) (
     pick (eqb (callIn b) 2) (fix (handleIn b) (slotIn b)) (
     pick (eqb (callIn b) 3) (unfix (handleIn b)) (
     pick (eqb (callIn b) 4) (write (handleIn b) (offsetIn b) (dataIn b)) (
     pick (eqb (callIn b) 5) (link (parentIn b) (slotIn b) (pageInRecord b) false) (
     pick (eqb (callIn b) 6) (unlink (handleIn b) (slotIn b)) (
-    pick (eqb (callIn b) 7) (evict (pageInRecord b)) (
+    pick (eqb (callIn b) 7) (evict 0 (pageInRecord b)) (
     pick (eqb (callIn b) 8) settle (
-    find (pageInRecord b)))))))))
+    find 0 (pageInRecord b)))))))))
 
 -- 17. "The listing program's record has a call outside 1 to 9 or a length above 9 (tested there before all others)."
 abbrev pub rule17 : List ℕ → Rule
@@ -84,7 +96,7 @@ lineNumbers c n f p = record { call = c; refusal = n; frame = f; page = p }
 abbrev pub lineOf : List ℕ → Answer → Numbers
 lineOf b (refused n) = lineNumbers (callIn b) n 0 0
 lineOf b done = lineNumbers (callIn b) 0 0 0
-lineOf b (handle f p looks) = lineNumbers (callIn b) 0 f p
+lineOf b (handle f t p looks) = lineNumbers (callIn b) 0 f p
 lineOf b (payload y a n) = lineNumbers (callIn b) 0 0 0
 lineOf b (number p l) = lineNumbers (callIn b) 0 0 0
 lineOf b (frame f compared) = lineNumbers (callIn b) 0 f (pageInRecord b .0)

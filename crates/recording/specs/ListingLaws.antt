@@ -43,11 +43,11 @@ unfolding lineFor
 line-listed b a x e h = rw (e, ← h)
 
 -- find leaves all as it is
-pub find-leaves : (s : State) (q : PageNumber) {a : Answer} → a ≡ findCall s q .answer → out a s ≡ findCall s q
+pub find-leaves : (s : State) (t : ℕ) (q : PageNumber) {a : Answer} → a ≡ findCall s t q .answer → out a s ≡ findCall s t q
 unfolding findCall decide verdict pick
-find-leaves s q e = rw e (elim (case (eqb (firstBroken (pageRules s q)) 0)) [
-  | on t ↦ rw t
-  | off t ↦ rw t
+find-leaves s t q e = rw e (elim (case (eqb (firstBroken (pageRules s t q)) 0)) [
+  | on y ↦ rw y
+  | off y ↦ rw y
 ])
 
 -- ---- rule 17
@@ -74,7 +74,7 @@ fields-of b h =
 -- ---- the call by its number
 
 module _ (b : List ℕ) where
-  pub is-root : callIn b ≡ 1 → callOf b ≡ root
+  pub is-root : callIn b ≡ 1 → callOf b ≡ root 0
   unfolding callOf pick
   is-root e = rw e
 
@@ -98,7 +98,7 @@ module _ (b : List ℕ) where
   unfolding callOf pick
   is-unlink e = rw e
 
-  pub is-evict : callIn b ≡ 7 → callOf b ≡ evict (pageInRecord b)
+  pub is-evict : callIn b ≡ 7 → callOf b ≡ evict 0 (pageInRecord b)
   unfolding callOf pick
   is-evict e = rw e
 
@@ -106,7 +106,7 @@ module _ (b : List ℕ) where
   unfolding callOf pick
   is-settle e = rw e
 
-  pub is-find : callIn b ≡ 9 → callOf b ≡ find (pageInRecord b)
+  pub is-find : callIn b ≡ 9 → callOf b ≡ find 0 (pageInRecord b)
   unfolding callOf pick
   is-find e = rw e
 
@@ -144,7 +144,7 @@ last-call b h n =
 line-without-count : (b : List ℕ) (a : Answer) → lineOf b a ≡ lineOf b (withoutCount a)
 line-without-count b (refused n) = refl
 line-without-count b done = refl
-line-without-count b (handle f p looks) = refl
+line-without-count b (handle f t p looks) = refl
 line-without-count b (payload y a n) = refl
 line-without-count b (number p l) = refl
 line-without-count b (frame f compared) = refl
@@ -154,8 +154,8 @@ same-listed : (b : List ℕ) (o p : Out) → lineOf b (o .answer) ≡ lineOf b (
 same-listed b o p e h = rw (e, h)
 
 -- a find lists what document 01's lists, by the frames: the same line, and the same state for the next record
-pub find-listed-before : (s : State) (b : List ℕ) → rule17 b .1 ≡ true → callIn b ≡ 9 → listed s b ≡ listedOut b (findByFrames s (pageInRecord b))
+pub find-listed-before : (s : State) (b : List ℕ) → rule17 b .1 ≡ true → callIn b ≡ 9 → listed s b ≡ listedOut b (findByFrames s 0 (pageInRecord b))
 find-listed-before s b h e =
     let q : PageNumber = pageInRecord b in
-    ap (listedOut b) (sym (record-runs s b (find q) h (is-find b e)))
-    ∙ same-listed b (findCall s q) (findByFrames s q) (line-without-count b (findCall s q .answer) ∙ ap (lineOf b) (as-by-frames s q .finds)) (as-by-frames s q .left)
+    ap (listedOut b) (sym (record-runs s b (find 0 q) h (is-find b e)))
+    ∙ same-listed b (findCall s 0 q) (findByFrames s 0 q) (line-without-count b (findCall s 0 q .answer) ∙ ap (lineOf b) (as-by-frames s 0 q .finds)) (as-by-frames s 0 q .left)

@@ -13,9 +13,12 @@ ghost use Rattle.recording.specs.Lines.{lined, listedOut};
 
 // Root; the record's other fields count for nothing.
 pub fn root(pool: Pool, frames: &[u8], store: &[u8], directory: &[u8], entry: &[u8; 16]) -> Line
-    ensures { λ r. ⌜ lined r (now (frames .entry)) (now (store .entry)) (now (directory .entry)) ≡ listedOut (now (entry .entry)) (rootCall (state pool (now (frames .entry)) (now (store .entry)) (now (directory .entry)))) ⌝ }
+    ensures { λ r. ⌜ lined r (now (frames .entry)) (now (store .entry)) (now (directory .entry)) ≡ listedOut (now (entry .entry)) (rootCall (state pool (now (frames .entry)) (now (store .entry)) (now (directory .entry))) 0) ⌝ }
 {
-    lines::of_fix(pool::root(pool, frames, store, directory), entry)
+    lines::of_fix(
+        pool::root(pool, frames, store, directory, fields::STORE),
+        entry,
+    )
 }
 
 // Fix, by the record's handle and slot.
@@ -103,10 +106,13 @@ pub fn evict(
     directory: &mut [u8],
     entry: &[u8; 16],
 ) -> Line
-    ensures { λ r. ⌜ lined r (now (frames .exit)) (now (store .exit)) (now (directory .exit)) ≡ listedOut (now (entry .entry)) (evictCall (state pool (now (frames .entry)) (now (store .entry)) (now (directory .entry))) (pageInRecord (now (entry .entry)))) ⌝ }
+    ensures { λ r. ⌜ lined r (now (frames .exit)) (now (store .exit)) (now (directory .exit)) ≡ listedOut (now (entry .entry)) (evictCall (state pool (now (frames .entry)) (now (store .entry)) (now (directory .entry))) 0 (pageInRecord (now (entry .entry)))) ⌝ }
 {
     let page = fields::page(entry);
-    lines::of_done(pool::evict(pool, frames, store, directory, page), entry)
+    lines::of_done(
+        pool::evict(pool, frames, store, directory, fields::STORE, page),
+        entry,
+    )
 }
 
 // Settle; the record's other fields count for nothing.
@@ -124,9 +130,9 @@ pub fn settle(
 
 // Find, of the record's page.
 pub fn find(pool: Pool, frames: &[u8], store: &[u8], directory: &[u8], entry: &[u8; 16]) -> Line
-    ensures { λ r. ⌜ lined r (now (frames .entry)) (now (store .entry)) (now (directory .entry)) ≡ listedOut (now (entry .entry)) (findCall (state pool (now (frames .entry)) (now (store .entry)) (now (directory .entry))) (pageInRecord (now (entry .entry)))) ⌝ }
+    ensures { λ r. ⌜ lined r (now (frames .entry)) (now (store .entry)) (now (directory .entry)) ≡ listedOut (now (entry .entry)) (findCall (state pool (now (frames .entry)) (now (store .entry)) (now (directory .entry))) 0 (pageInRecord (now (entry .entry)))) ⌝ }
 {
     let page = fields::page(entry);
-    let answer = pool::find(pool, frames, store, directory, page);
+    let answer = pool::find(pool, frames, store, directory, fields::STORE, page);
     lines::of_find(pool, answer, entry)
 }

@@ -1,6 +1,7 @@
 // The fields of a record.
 use page::FrameIndex;
 use page::PageNumber;
+use page::StoreNumber;
 use pool::Handle;
 ghost use mathlib.Core.Path.{_≡_};
 ghost use Prim.Native.Nat.{_+_, _*_, _≤_};
@@ -22,6 +23,9 @@ const OFFSET: usize = 5;
 const LENGTH: usize = 6;
 
 const DATA: usize = 7;
+
+// The listing has one store.
+pub const STORE: StoreNumber = StoreNumber(0);
 
 // How many calls there are, from 1 on, and the most bytes of data.
 const CALLS: u8 = 9;
@@ -62,7 +66,11 @@ pub fn handle(entry: &[u8; 16]) -> Handle
 {
     let frame = FrameIndex(entry[FRAME]);
     let page = page(entry);
-    Handle { frame, page }
+    Handle {
+        frame,
+        store: STORE,
+        page,
+    }
 }
 
 // The handle of link's parent, whose page stands where other calls have data.
@@ -71,7 +79,11 @@ pub fn parent(entry: &[u8; 16]) -> Handle
 {
     let frame = FrameIndex(entry[FRAME]);
     let page = page_of(entry[DATA], entry[DATA + 1]);
-    Handle { frame, page }
+    Handle {
+        frame,
+        store: STORE,
+        page,
+    }
 }
 
 // The slot of a record.

@@ -1,13 +1,30 @@
-// The call listing: one record of 16 bytes is run on the pool, and gives the four numbers of its line.
+// The call listing: its pool is opened, and one record of 16 bytes is run on it, and gives the four numbers of its line.
 mod calls;
 mod fields;
 mod lines;
 
 pub use lines::Line;
+use page::StoreNumber;
+use pool::Done;
 use pool::Pool;
 ghost use mathlib.Core.Path.{_≡_};
 ghost use Rattle.machine.specs.Machine.{state};
-ghost use Rattle.recording.specs.Listing.{lineNumbers, listed};
+ghost use Rattle.machine.specs.Answers.{out, doneAnswer};
+ghost use Rattle.recording.specs.Listing.{lineNumbers, listed, openListing};
+
+// The figures of the listing's pool: F, T, and a ceiling of F for its one store.
+pub const FRAMES: usize = 4;
+
+const STORES: u8 = 1;
+
+const CEILINGS: [u8; StoreNumber::MOST] = [FRAMES as u8, 0, 0, 0];
+
+// Opens the listing's pool.
+pub fn open_listing(frames: &mut [u8], store: &[u8], directory: &mut [u8]) -> Done
+    ensures { λ r. ⌜ out (doneAnswer (r .refusal)) (state (r .pool) (now (frames .exit)) (now (store .entry)) (now (directory .exit))) ≡ openListing (now (frames .entry)) (now (store .entry)) (now (directory .entry)) ⌝ }
+{
+    pool::open(frames, store, directory, STORES, CEILINGS)
+}
 
 // Runs a record on the pool: rule 17, and the call that it names.
 pub fn list_record(

@@ -2,6 +2,7 @@
 use machine::FrameRecord;
 use page::FrameIndex;
 use page::PageNumber;
+use page::StoreNumber;
 ghost use mathlib.Core.Path.{_≡_};
 ghost use Prim.Native.Nat.{_+_, _<_, min};
 ghost use Rattle.page.specs.Figures.{maxUsage, maxPins};
@@ -17,23 +18,25 @@ pub fn empty() -> FrameRecord
         usage: 0,
         slot: 0,
         parent: FrameIndex(0),
+        store: StoreNumber(0),
         pins: 0,
         page: PageNumber(0),
     }
 }
 
-// Page 0's, as open makes it.
-pub fn root() -> FrameRecord
-    ensures { λ r. ⌜ r ≡ rootRecord ⌝ }
+// That of page 0 of a store, as open makes it.
+pub fn root(of_store: StoreNumber) -> FrameRecord
+    ensures { λ r. ⌜ r ≡ rootRecord («of_store» .0) ⌝ }
 {
     let mut next = empty();
     next.used = 1;
+    next.store = of_store;
     next
 }
 
 // A page's that is loaded for a slot of its parent's frame.
-pub fn loaded(page: PageNumber, parent: FrameIndex, slot: u8) -> FrameRecord
-    ensures { λ r. ⌜ r ≡ loadedRecord (page .0) (parent .0) slot ⌝ }
+pub fn loaded(of_store: StoreNumber, page: PageNumber, parent: FrameIndex, slot: u8) -> FrameRecord
+    ensures { λ r. ⌜ r ≡ loadedRecord («of_store» .0) (page .0) (parent .0) slot ⌝ }
 {
     FrameRecord {
         used: 1,
@@ -41,6 +44,7 @@ pub fn loaded(page: PageNumber, parent: FrameIndex, slot: u8) -> FrameRecord
         usage: 1,
         slot,
         parent,
+        store: of_store,
         pins: 1,
         page,
     }

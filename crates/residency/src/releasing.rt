@@ -6,6 +6,7 @@ use machine::Pool;
 use machine::Standing;
 use page::FrameIndex;
 use page::PageNumber;
+use page::StoreNumber;
 ghost use mathlib.Core.Path.{_≡_};
 ghost use Prim.Native.Nat.{_+_, _*_, _≤_};
 ghost use lib.ListN.{length};
@@ -45,12 +46,12 @@ pub fn unfix(pool: Pool, frames: &[u8], store: &[u8], directory: &[u8], handle: 
     }
 }
 
-// The rule by which a frame's page stays, or 0 where it may go: 20 for the root, 21 for a pinned page, 22 for one with a swizzled word.
-fn staying(rec: FrameRecord, frames: &[u8], frame: FrameIndex) -> u8
+// The rule by which a frame's page stays, or 0 where it may go: 20 for a root, 21 for a pinned page, 22 for one with a swizzled word.
+fn staying(rec: FrameRecord, frames: &[u8], frame: FrameIndex, stores: u8) -> u8
     requires { ⌜ pageSize * frame .0 + pageSize ≤ length (now frames) ⌝ }
-    ensures { λ r. ⌜ r ≡ stayNumber (standing rec (now (frames .entry)) (frame .0)) ⌝ }
+    ensures { λ r. ⌜ r ≡ stayNumber (standing stores rec (now (frames .entry)) (frame .0)) ⌝ }
 {
-    let reason = scan::standing::of(rec, frames, frame);
+    let reason = scan::standing::of(rec, frames, frame, stores);
     match reason {
         Standing::Root => 20,
         Standing::Pinned => 21,
@@ -65,9 +66,10 @@ pub fn evict(
     frames: &mut [u8],
     store: &mut [u8],
     directory: &mut [u8],
+    of_store: StoreNumber,
     page: PageNumber,
 ) -> Done
-    ensures { λ r. ⌜ out (doneAnswer (r .refusal)) (state (r .pool) (now (frames .exit)) (now (store .exit)) (now (directory .exit))) ≡ evictCall (state pool (now (frames .entry)) (now (store .entry)) (now (directory .entry))) page ⌝ }
+    ensures { λ r. ⌜ out (doneAnswer (r .refusal)) (state (r .pool) (now (frames .exit)) (now (store .exit)) (now (directory .exit))) ≡ evictCall (state pool (now (frames .entry)) (now (store .entry)) (now (directory .entry))) («of_store» .0) page ⌝ }
 {
     let mut residents = residents::NONE;
     let mut seen = seen::NONE;
@@ -77,6 +79,7 @@ pub fn evict(
         frames,
         store,
         directory,
+        of_store,
         page,
         &mut residents,
         &mut seen,
@@ -85,20 +88,22 @@ pub fn evict(
         return Done { pool, refusal };
     }
     let count = frames.len() / PageNumber::SIZE;
-    let f = scan::find_frame(&residents, count, page);
+    let f = scan::find_frame(&residents, count, of_store, page);
     if count <= f {
         return Done { pool, refusal: 11 };
     }
     let rec = next.records[f];
     let frame = FrameIndex(f as u8);
-    let stays = staying(rec, frames, frame);
+    let stores = next.stores;
+    let stays = staying(rec, frames, frame, stores);
     if stays != 0 {
         return Done {
             pool,
             refusal: stays,
         };
     }
-    moves::take_out(rec, frames, store, directory, frame);
+    let pages = next.pages;
+    moves::take_out(rec, pages, frames, store, directory, frame);
     next.records[f] = records::empty();
     Done {
         pool: next,

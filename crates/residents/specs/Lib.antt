@@ -1,3 +1,4 @@
 pub mod Residents
+pub mod HeldByTable
 pub mod ResidentLaws
 pub mod Handed

@@ -2,7 +2,7 @@
 use Prim.Native.Nat.{ℕ, zero, suc, _+_, _-_, _%_, _<_, _≤_}
 use mathlib.Core.Path.{_≡_, refl, sym, _∙_, ap}
 use mathlib.Core.Logic.{_≢_}
-use mathlib.Core.Bool.{true, false}
+use mathlib.Core.Bool.{Bool, true, false, not}
 use mathlib.Core.List.{List}
 use native.Mathlib.Omega.{arith}
 use native.Mathlib.Decide.{decLt, ℕ-discrete}
@@ -14,11 +14,11 @@ use Rattle.page.specs.Figures.{mostFrames, maxUsage}
 use Rattle.machine.specs.declared.FrameRecord.{FrameRecord}
 use Rattle.machine.specs.declared.Standing.{Standing}
 use Rattle.machine.specs.declared.Pool.{Pool}
-use Rattle.rules.specs.Tests.{pick}
-use Rattle.rules.specs.TestLaws.{and-yes, and-no, pick-no, pick-two}
-use Rattle.machine.specs.Machine.{blank, frameIndex, withUsage, recordAt}
-use Rattle.machine.specs.Sweep.{Class, rest, warm, yield, Kind, classOf, kind, standing, Swept, after, lookLeaves, lookTakes, mostLooks, sweepFrom, sweep}
-use Rattle.machine.specs.Laws.SweepLaws.{after-in, Cooler, UsageBlind, looked, looked-cooler, looked-here, looked-other, kind-usage-blind, cooled-from}
+use Rattle.rules.specs.Tests.{pick, _and_}
+use Rattle.rules.specs.TestLaws.{and-yes, and-no, pick-yes, pick-no, pick-two}
+use Rattle.machine.specs.Machine.{blank, frameIndex, withUsage, recordAt, isOf, atCeiling}
+use Rattle.machine.specs.Sweep.{Class, rest, warm, yield, Kind, classOf, kind, kindFor, standing, Swept, after, lookLeaves, lookTakes, mostLooks, sweepFrom, sweep}
+use Rattle.machine.specs.Laws.SweepLaws.{after-in, Cooler, UsageBlind, looked, looked-cooler, looked-here, looked-other, for-usage-blind, cooled-from}
 use Rattle.scan.specs.declared.Walk.{Walk}
 
 -- what a sweep sees of a frame, in one number: its class, and its usage in the lower two bits
@@ -111,8 +111,19 @@ cools-same rs ts qs vs n a b = ext-getD blank ts qs (a .size ∙ sym (b .size)) 
 
 -- ---- what the code sees
 
-pub sight-by : (r : FrameRecord) (fs : List ℕ) (f u : ℕ) {a : Standing} → a ≡ standing r fs f → sight (classOf a) u ≡ sight (kind fs r f) u
-sight-by r fs f u e = ap (λ (a : Standing). sight (classOf a) u) e
+module _ (T : ℕ) (r : FrameRecord) (fs : List ℕ) (f u : ℕ) {resting : Bool} where
+  -- a frame at rest, and one that isn't
+  pub sight-resting : resting ≡ true → sight rest u ≡ sight (pick resting rest (kind T fs r f)) u
+  sight-resting e = ap (λ (c : Class). sight c u) (pick-yes _ e refl)
+
+  pub sight-by : {a : Standing} → a ≡ standing T r fs f → resting ≡ false → sight (classOf a) u ≡ sight (pick resting rest (kind T fs r f)) u
+  sight-by e i = ap (λ (a : Standing). sight (classOf a) u) e ∙ ap (λ (c : Class). sight c u) (pick-no _ i refl)
+
+-- at rest are, for a store at its ceiling, the frames that hold no page of it
+pub sight-for : (p : Pool) (fs : List ℕ) (t : ℕ) (r : FrameRecord) (f u : ℕ) {resting : Bool} → resting ≡ (atCeiling p t and not (isOf t r))
+    → sight (pick resting rest (kind (p .stores) fs r f)) u ≡ sight (kindFor p fs t r f) u
+unfolding kindFor
+sight-for p fs t r f u e = rw e refl
 
 -- ---- what a look at a number does
 
@@ -161,7 +172,7 @@ usage-in yield u l = omega arith
 -- a record that differs in its usage is the other with that usage
 cooled-to : (r q : FrameRecord) (v : ℕ) → Cooler r q → v % 4 ≡ q .usage → q ≡ cooledTo r v
 unfolding cooledTo
-cooled-to r q v c e = rw (e, ← c .used, ← c .dirty, ← c .slot, ← c .parent, ← c .pins, ← c .page)
+cooled-to r q v c e = rw (e, ← c .used, ← c .dirty, ← c .slot, ← c .parent, ← c .store, ← c .pins, ← c .page)
 
 -- ---- the same sweep
 
@@ -226,16 +237,13 @@ module _ (k : Kind) (K : UsageBlind k) (F : ℕ) (most : F ≤ mostFrames) where
       }
 
 -- the same sweep, where no usage is above the largest: it ends alike
-pub same-end : (p : Pool) (fs us vs : List ℕ) (r : Walk) → p .count ≤ mostFrames → p .hand .0 < p .count → Few (p .records) (p .count)
-    → Sees (kind fs) (p .records) us (p .count) → Walked (p .count) (p .hand .0) us vs r
-    → r ≡ record { taken = sweep p fs .taken; frame = sweep p fs .frame; looks = sweep p fs .looks; hand = sweep p fs .hand }
-same-end p fs us vs r most hand few s w = w .ended ∙ alike (kind fs) (kind-usage-blind fs) (p .count) most (mostLooks (p .count)) 0 (p .records) us (p .hand .0) hand few s .ended
+module _ (p : Pool) (fs : List ℕ) (t : ℕ) (us vs : List ℕ) (r : Walk) (most : p .count ≤ mostFrames) (hand : p .hand .0 < p .count) (few : Few (p .records) (p .count)) (s : Sees (kindFor p fs t) (p .records) us (p .count)) (w : Walked (p .count) (p .hand .0) us vs r) where
+  pub same-end : r ≡ record { taken = sweep p fs t .taken; frame = sweep p fs t .frame; looks = sweep p fs t .looks; hand = sweep p fs t .hand }
+  same-end = w .ended ∙ alike (kindFor p fs t) (for-usage-blind p fs t) (p .count) most (mostLooks (p .count)) 0 (p .records) us (p .hand .0) hand few s .ended
 
--- and leaves the same records
-pub same-sweep : (p : Pool) (fs us vs : List ℕ) (ts : List FrameRecord) (r : Walk) → p .count ≤ mostFrames → p .hand .0 < p .count → Few (p .records) (p .count)
-    → Sees (kind fs) (p .records) us (p .count) → Walked (p .count) (p .hand .0) us vs r → Cools (p .records) ts vs (p .count)
-    → sweep p fs ≡ record { taken = r .taken; frame = r .frame; looks = r .looks; records = ts; hand = r .hand }
-same-sweep p fs us vs ts r most hand few s w c =
-    let a = cools-swept (kind fs) (kind-usage-blind fs) (p .count) most (mostLooks (p .count)) 0 (p .records) us (p .hand .0) hand few s in
-    let t : ts ≡ sweep p fs .records = cools-same (p .records) ts _ vs (p .count) c (rw (w .left) a) in
-    rw (same-end p fs us vs r most hand few s w, t)
+  -- and leaves the same records
+  pub same-sweep : (ts : List FrameRecord) → Cools (p .records) ts vs (p .count) → sweep p fs t ≡ record { taken = r .taken; frame = r .frame; looks = r .looks; records = ts; hand = r .hand }
+  same-sweep ts c =
+      let a = cools-swept (kindFor p fs t) (for-usage-blind p fs t) (p .count) most (mostLooks (p .count)) 0 (p .records) us (p .hand .0) hand few s in
+      let e : ts ≡ sweep p fs t .records = cools-same (p .records) ts _ vs (p .count) c (rw (w .left) a) in
+      rw (same-end, e)

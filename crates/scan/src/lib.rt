@@ -6,14 +6,17 @@ use machine::FrameRecord;
 use machine::Standing;
 use page::FrameIndex;
 use page::PageNumber;
+use page::StoreNumber;
 use residents::Residents;
 ghost use mathlib.Core.Path.{_≡_};
 ghost use mathlib.Core.Logic.{_≢_};
 ghost use Prim.Native.Nat.{_+_, _*_, _%_, _≤_, _<_};
 ghost use lib.ListN.{length};
-ghost use Rattle.page.specs.Figures.{pageSize, mostFrames, maxUsage};
+ghost use Rattle.page.specs.Figures.{pageSize, mostFrames, mostPages, mostStores, maxUsage};
+ghost use Rattle.rules.specs.Tests.{pick};
 ghost use Rattle.machine.specs.Machine.{frameIndex};
-ghost use Rattle.machine.specs.Sweep.{after, kind};
+ghost use Rattle.machine.specs.Sweep.{after, rest, kind};
+ghost use Rattle.residents.specs.Residents.{keyOf};
 ghost use Rattle.scan.specs.FoundByTable.{foundBy, emptyBy};
 ghost use Rattle.scan.specs.Walk.{sight as classAndUsage, warmest, lookedAt, Walked};
 
@@ -40,13 +43,19 @@ pub struct Walk {
 const ROUNDS: u16 = 4;
 
 // The frame that holds a page, or F, by the table of the page in each frame.
-pub fn find_frame(residents: &Residents, count: usize, page: PageNumber) -> usize
-    requires { ⌜ count ≤ mostFrames ⌝ }
-    ensures { λ r. ⌜ r ≡ foundBy (now (residents .entry)) (page .0) count 0 ⌝ }
+pub fn find_frame(
+    residents: &Residents,
+    count: usize,
+    of_store: StoreNumber,
+    page: PageNumber,
+) -> usize
+    requires { ⌜ (count ≤ mostFrames) × («of_store» .0 < mostStores) × (page .0 < mostPages) ⌝ }
+    ensures { λ r. ⌜ r ≡ foundBy (now (residents .entry)) (keyOf («of_store» .0) (page .0)) count 0 ⌝ }
 {
+    let sought = residents::key(of_store, page);
     let mut frame = 0;
     while frame < count {
-        if residents[frame] == page.0 {
+        if residents[frame] == sought {
             return frame;
         }
         frame += 1;
@@ -83,12 +92,15 @@ pub fn first_empty(residents: &Residents, count: u16, hand: FrameIndex) -> usize
     count as usize
 }
 
-// What a sweep sees of a frame.
-pub fn sight(rec: FrameRecord, frames: &[u8], frame: FrameIndex) -> u8
+// What a sweep sees of a frame. One at rest, whoever's page it holds, it leaves as it is.
+pub fn sight(rec: FrameRecord, frames: &[u8], frame: FrameIndex, stores: u8, resting: bool) -> u8
     requires { ⌜ (pageSize * frame .0 + pageSize ≤ length (now frames)) × (rec .usage ≤ maxUsage) ⌝ }
-    ensures { λ r. ⌜ r ≡ classAndUsage (kind (now (frames .entry)) rec (frame .0)) (rec .usage) ⌝ }
+    ensures { λ r. ⌜ r ≡ classAndUsage (pick resting rest (kind stores (now (frames .entry)) rec (frame .0))) (rec .usage) ⌝ }
 {
-    let reason = standing::of(rec, frames, frame);
+    if resting {
+        return REST + rec.usage;
+    }
+    let reason = standing::of(rec, frames, frame, stores);
     match reason {
         Standing::Root => REST + rec.usage,
         Standing::Pinned => WARM + rec.usage,

@@ -10,11 +10,11 @@ ghost use Rattle.page.specs.Figures.{pageSize};
 ghost use Rattle.machine.specs.Sweep.{standing};
 
 // The reason why the page of a frame stays, the first that holds.
-pub fn of(rec: FrameRecord, frames: &[u8], frame: FrameIndex) -> Standing
+pub fn of(rec: FrameRecord, frames: &[u8], frame: FrameIndex, stores: u8) -> Standing
     requires { ⌜ pageSize * frame .0 + pageSize ≤ length (now frames) ⌝ }
-    ensures { λ r. ⌜ r ≡ standing rec (now (frames .entry)) (frame .0) ⌝ }
+    ensures { λ r. ⌜ r ≡ standing stores rec (now (frames .entry)) (frame .0) ⌝ }
 {
-    if frame.0 == 0 {
+    if frame.0 < stores {
         return Standing::Root;
     }
     if rec.pins != 0 {

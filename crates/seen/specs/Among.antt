@@ -11,7 +11,7 @@ use lib.Dec.{eqb}
 use Rattle.page.specs.Figures.{slotCount, wordSize}
 use Rattle.page.specs.Word.{wordAt, halfRadix, name-half}
 use Rattle.page.specs.Page.{wordsFrom}
-use Rattle.rules.specs.Tests.{_or_, some}
+use Rattle.rules.specs.Tests.{some}
 use Rattle.rules.specs.TestLaws.{clash, is-off, some-zero, some-suc, true-some, some-true, some-false}
 use Rattle.seen.specs.Fold.{or-same}
 

@@ -1,4 +1,5 @@
 pub mod Fold
 pub mod Among
+pub mod BitLaws
 pub mod Seen
 pub mod SeenLaws

@@ -1,9 +1,10 @@
--- The table of the page numbers seen, and what it tells of a row of numbers. Its form shows in `Seen`, `none` and `noted` alone, and no other crate goes by it.
-use Prim.Native.Nat.{ℕ, _<_, _≤_}
+-- The table of the page numbers seen, of up to four stores, and what it tells of a row of numbers of one of them. Its form shows in `Seen`, `none`, `noted`, `OneStore` and `Marks` alone, and no other crate goes by it.
+use Prim.Native.Nat.{ℕ, _/_, _%_, _^_, _<_, _≤_}
 use mathlib.Core.Path.{_≡_}
 use mathlib.Core.Logic.{_≢_}
 use mathlib.Core.Bool.{Bool, true, false, not}
 use mathlib.Core.List.{List}
+use lib.Bits.{bitOr}
 use lib.Dec.{eqb, ltb}
 use lib.ListN.{length, getD, set, replicate}
 use Rattle.page.specs.Figures.{slotCount, mostPages}
@@ -11,39 +12,49 @@ use Rattle.rules.specs.Tests.{_and_, _or_, every}
 use Rattle.seen.specs.Among.{among}
 
 abbrev pub Seen : Type 0
-Seen = List Bool
+Seen = List ℕ
 
 -- the table before anything is noted
 abbrev pub none : Seen
-none = replicate mostPages false
+none = replicate mostPages 0
 
--- x is noted
-unfoldable pub noted : Seen → ℕ → Bool
-noted seen x = getD seen x false
+-- number x of store t is noted: bit t of entry x is set
+unfoldable pub noted : Seen → ℕ → ℕ → Bool
+noted seen t x = eqb (getD seen x 0 / 2 ^ t % 2) 1
 
--- the table is whole, and 0, which names no page, isn't noted
+-- the table is whole, and 0, which names no page, isn't noted in any store
 pub record Table (seen : Seen) : Type 0 where
   pub size : length seen ≡ mostPages
-  pub zero : noted seen 0 ≡ false
+  pub zero : (t : ℕ) → noted seen t 0 ≡ false
 
--- of each page number but 0 the table tells what the test tells
-pub record Tells (seen : Seen) (test : ℕ → Bool) : Type 0 where
+-- of each page number of store t but 0 the table tells what the test tells
+pub record Tells (t : ℕ) (seen : Seen) (test : ℕ → Bool) : Type 0 where
   pub table : Table seen
-  pub right : (x : ℕ) → 0 < x → x < mostPages → noted seen x ≡ test x
+  pub right : (x : ℕ) → 0 < x → x < mostPages → noted seen t x ≡ test x
 
--- the entry of x was marked; `new` tells whether it wasn't before
-pub record Marks (x : ℕ) (before after : Seen) (new : Bool) : Type 0 where
-  pub answer : new ≡ not (noted before x)
-  pub stored : after ≡ set before x true
+-- the entry of x was marked for store t; `new` tells whether it wasn't before
+pub record Marks (t x : ℕ) (before after : Seen) (new : Bool) : Type 0 where
+  pub answer : new ≡ not (noted before t x)
+  pub stored : after ≡ set before x (bitOr (getD before x 0) (2 ^ t))
 
--- x was noted, 0 excepted; `new` tells whether it wasn't before
-pub record Notes (x : ℕ) (before after : Seen) (new : Bool) : Type 0 where
-  pub answer : new ≡ not (noted before x)
+-- store 0 alone has numbers noted
+pub record OneStore (seen : Seen) : Type 0 where
+  pub most : (x : ℕ) → getD seen x 0 ≤ 1
+
+-- what was done was done in store t: the table stays whole, and the numbers of every other store are as they were
+pub record WithinStore (t : ℕ) (before after : Seen) : Type 0 where
   pub table : Table before → Table after
-  pub here : Table before → x ≢ 0 → noted after x ≡ true
-  pub others : (y : ℕ) → y ≢ 0 → x ≢ y → noted after y ≡ noted before y
+  pub alone : t ≡ 0 → OneStore before → OneStore after
+  pub elsewhere : (u : ℕ) → u ≢ t → (x : ℕ) → x ≢ 0 → noted after u x ≡ noted before u x
 
--- ---- rows of numbers
+-- number x of store t was noted, 0 excepted; `new` tells whether it wasn't before
+pub record Notes (t x : ℕ) (before after : Seen) (new : Bool) : Type 0 where
+  pub answer : new ≡ not (noted before t x)
+  pub within : WithinStore t before after
+  pub here : Table before → x ≢ 0 → noted after t x ≡ true
+  pub others : (y : ℕ) → y ≢ 0 → x ≢ y → noted after t y ≡ noted before t y
+
+-- ---- rows of numbers of one store, t
 
 -- number k is 0, or it is below N, was not seen, and is none of those before it
 unfoldable pub fresh : (ℕ → Bool) → (ℕ → ℕ) → ℕ → ℕ → Bool
@@ -54,18 +65,19 @@ abbrev pub firstSlots : ℕ
 firstSlots = 4
 
 -- after the first m numbers: whether all were fresh, and if so, the table tells of them too
-pub record Marked (m : ℕ) (w : ℕ → ℕ) (N : ℕ) (before after : Seen) (r : Bool) : Type 0 where
-  pub answer : r ≡ every m (fresh (noted before) w N)
-  pub tells : r ≡ true → Tells after (λ x. noted before x or among w m x)
+pub record Marked (t m : ℕ) (w : ℕ → ℕ) (N : ℕ) (before after : Seen) (r : Bool) : Type 0 where
+  pub answer : r ≡ every m (fresh (noted before t) w N)
+  pub tells : r ≡ true → Tells t after (λ x. noted before t x or among w m x)
+  pub within : WithinStore t before after
 
 -- going on from the first m numbers, all of them fresh, to the first n, whatever the table was before them
-pub record MarksOn (m n : ℕ) (w : ℕ → ℕ) (N : ℕ) (now after : Seen) (r : Bool) : Type 0 where
-  pub onward : (before : Seen) → Marked m w N before now true → Marked n w N before after r
+pub record MarksOn (t m n : ℕ) (w : ℕ → ℕ) (N : ℕ) (now after : Seen) (r : Bool) : Type 0 where
+  pub onward : (before : Seen) → Marked t m w N before now true → Marked t n w N before after r
 
 -- going on so as far as the first k, all of them fresh; or, where k is past n, one of the first n wasn't
-pub record MarksTo (m k n : ℕ) (w : ℕ → ℕ) (N : ℕ) (now after : Seen) : Type 0 where
-  pub most : k ≤ n → MarksOn m k w N now after true
-  pub past : n < k → MarksOn m n w N now after false
+pub record MarksTo (t m k n : ℕ) (w : ℕ → ℕ) (N : ℕ) (now after : Seen) : Type 0 where
+  pub most : k ≤ n → MarksOn t m k w N now after true
+  pub past : n < k → MarksOn t m n w N now after false
 
 -- the numbers in an array as a row, and that each is a page's
 abbrev pub rowOf : List ℕ → ℕ → ℕ

@@ -1,5 +1,5 @@
 -- What noting a number makes of the table, and how a row of numbers is marked in it, one number after the other. Assumes nothing.
-use Prim.Native.Nat.{ℕ, zero, suc, _+_, _*_, _<_, _≤_}
+use Prim.Native.Nat.{ℕ, zero, suc, _+_, _*_, _^_, _<_, _≤_}
 use mathlib.Core.Path.{_≡_, refl, sym, _∙_, ap}
 use mathlib.Core.Logic.{_≢_}
 use mathlib.Core.Bool.{Bool, true, false, not}
@@ -7,11 +7,12 @@ use mathlib.Core.List.{List}
 use native.Mathlib.Numerals.{add-one}
 use native.Mathlib.Nat.{add-zero, add-suc}
 use native.Mathlib.Omega.{arith}
-use native.Mathlib.Decide.{ℕ-discrete}
+use native.Mathlib.Decide.{decLt, ℕ-discrete}
 use borrow.Author.Tests.{eq-eqb, ne-eqb, lt-ltb, ltb-true, not-true}
+use lib.Bits.{bitOr}
 use lib.Dec.{eqb, ltb}
-use lib.ListN.{length, set, length-set, length-replicate, getD-replicate}
-use lib.Seq.{getD-set-same, getD-set-other}
+use lib.ListN.{length, getD, set, length-set, length-replicate, getD-replicate, List·getD-eq-default}
+use lib.Seq.{set-out, getD-set-same, getD-set-other}
 use Rattle.page.specs.Figures.{wordSize, mostPages}
 use Rattle.page.specs.Word.{nameAt}
 use Rattle.page.specs.Page.{wordsFrom}
@@ -19,59 +20,147 @@ use Rattle.rules.specs.Tests.{_and_, _or_, every}
 use Rattle.rules.specs.TestLaws.{clash, case, on, off, same, is-off, both, and-true, and-yes, and-no, or-left, or-right, or-second, or-none, or-off, every-zero, every-true, true-every, every-false}
 use Rattle.seen.specs.Fold.{or-same}
 use Rattle.seen.specs.Among.{among, among-zero, among-hit, among-none, hasAny, not-any}
-use Rattle.seen.specs.Seen.{Seen, none, noted, Table, Tells, Marks, Notes, fresh, Marked, MarksOn}
+use Rattle.seen.specs.BitLaws.{bit-none, bit-set, one-bit, bit-other}
+use Rattle.seen.specs.Seen.{Seen, none, noted, Table, Tells, OneStore, Marks, WithinStore, Notes, fresh, Marked, MarksOn}
 
--- ---- the table's form: nothing noted, and a number noted by its mark, that of 0 taken back
+-- ---- the table's form: nothing noted, and a number noted by its bit, those of 0 taken back
 
-pub none-noted : Tells none (λ x. false)
+-- an entry of 0 has no bit; and entries that are the same have the same
+no-mark : (seen : Seen) (x : ℕ) → getD seen x 0 ≡ 0 → (t : ℕ) → noted seen t x ≡ false
 unfolding noted
-none-noted = record {
-  table = record { size = length-replicate mostPages false; zero = getD-replicate mostPages 0 false false (omega arith) };
-  right = λ x p l. getD-replicate mostPages x false false l;
+no-mark seen x e t = rw (e, bit-none t) refl
+
+same-marks : (before after : Seen) (x : ℕ) → getD after x 0 ≡ getD before x 0 → (t : ℕ) → noted after t x ≡ noted before t x
+unfolding noted
+same-marks before after x e t = rw e refl
+
+-- in no store
+pub none-noted : (t : ℕ) → Tells t none (λ x. false)
+none-noted t = record {
+  table = record { size = length-replicate {A = ℕ} mostPages 0; zero = no-mark none 0 (getD-replicate {A = ℕ} mostPages 0 0 0 (omega arith)) };
+  right = λ x p l. no-mark none x (getD-replicate {A = ℕ} mostPages x 0 0 l) t;
 }
 
-module _ (x : ℕ) (before : Seen) {marked : Seen} {new : Bool} (l : x < mostPages) (m : Marks x before marked new) where
+module _ (t x : ℕ) (before : Seen) {marked : Seen} {new : Bool} (l : x < mostPages) (m : Marks t x before marked new) where
   size-marked : length marked ≡ length before
-  size-marked = ap length (m .stored) ∙ length-set before x true
+  size-marked = ap length (m .stored) ∙ length-set before x _
 
-  marked-here : Table before → noted marked x ≡ true
-  unfolding noted
-  marked-here t = rw (m .stored) (getD-set-same before x true false (omega (arith, t .size)))
+  entry-marked : x < length before → getD marked x 0 ≡ bitOr (getD before x 0) (2 ^ t)
+  entry-marked h = rw (m .stored) (getD-set-same before x _ 0 h)
 
-  marked-other : (y : ℕ) → x ≢ y → noted marked y ≡ noted before y
+  marked-here : Table before → noted marked t x ≡ true
   unfolding noted
-  marked-other y n = rw (m .stored) (getD-set-other before x y true false (λ e. n (sym e)))
+  marked-here T = rw (entry-marked (omega (arith, T .size)), bit-set (getD before x 0) t) refl
+
+  marked-other : (y : ℕ) → x ≢ y → (u : ℕ) → noted marked u y ≡ noted before u y
+  marked-other y n = same-marks before marked y (rw (m .stored) (getD-set-other before x y _ 0 (λ e. n (sym e))))
+
+  marked-elsewhere : (u : ℕ) → u ≢ t → (y : ℕ) → noted marked u y ≡ noted before u y
+  unfolding noted
+  marked-elsewhere u n y = elim (ℕ-discrete x y) [
+    | yes e ↦ elim (decLt x (length before)) [
+      | yes h ↦ rw (← e, entry-marked h, bit-other (getD before x 0) t u n) refl
+      | no h ↦ same-marks before marked y (ap (λ (b : Seen). getD b y 0) (m .stored ∙ set-out before x _ (omega arith))) u
+    ]
+    | no e ↦ marked-other y e u
+  ]
+
+  marked-alone : t ≡ 0 → OneStore before → OneStore marked
+  marked-alone z A = record {
+    most = λ y. elim (ℕ-discrete y x) [
+      | yes e ↦ elim (decLt x (length before)) [
+        | yes h ↦ let q : getD marked x 0 ≡ 1 = entry-marked h ∙ ap (λ (u : ℕ). bitOr (getD before x 0) (2 ^ u)) z ∙ one-bit _ (A .most x) in rw e (omega arith)
+        | no h ↦ rw (m .stored, set-out before x (bitOr (getD before x 0) (2 ^ t)) (omega arith)) (A .most y)
+      ]
+      | no e ↦ rw (m .stored, getD-set-other before x y (bitOr (getD before x 0) (2 ^ t)) 0 e) (A .most y)
+    ];
+  }
 
   -- a number other than 0
-  pub mark-notes : x ≢ 0 → Notes x before marked new
+  pub mark-notes : x ≢ 0 → Notes t x before marked new
   mark-notes n = record {
     answer = m .answer;
-    table = λ t. record { size = size-marked ∙ t .size; zero = marked-other 0 n ∙ t .zero };
-    here = λ t z. marked-here t;
-    others = λ y z k. marked-other y k;
+    within = record {
+      table = λ T. record { size = size-marked ∙ T .size; zero = λ u. marked-other 0 n u ∙ T .zero u };
+      alone = marked-alone;
+      elsewhere = λ u d y z. marked-elsewhere u d y;
+    };
+    here = λ T z. marked-here T;
+    others = λ y z k. marked-other y k t;
   }
 
   -- any number, the mark of 0 taken back
-  pub unmarked-notes : Notes x before (set marked 0 false) new
-  unfolding noted
-  unmarked-notes = record {
-    answer = m .answer;
-    table = λ t. record {
-      size = length-set marked 0 false ∙ size-marked ∙ t .size;
-      zero = getD-set-same marked 0 false false (omega (arith, size-marked, t .size));
-    };
-    here = λ t n. getD-set-other marked 0 x false false n ∙ marked-here t;
-    others = λ y z k. getD-set-other marked 0 y false false z ∙ marked-other y k;
+  abbrev unmarked : Seen
+  unmarked = set marked 0 0
+
+  unmarked-other : (y : ℕ) → y ≢ 0 → (u : ℕ) → noted unmarked u y ≡ noted marked u y
+  unmarked-other y z = same-marks marked unmarked y (getD-set-other marked 0 y 0 0 z)
+
+  unmarked-alone : t ≡ 0 → OneStore before → OneStore unmarked
+  unmarked-alone z A = record {
+    most = λ y. elim (ℕ-discrete y 0) [
+      | yes e ↦ elim (decLt 0 (length marked)) [
+        | yes h ↦ rw (e, getD-set-same marked 0 0 0 h) (omega arith)
+        | no h ↦ rw (set-out marked 0 0 (omega arith)) (marked-alone z A .most y)
+      ]
+      | no e ↦ rw (getD-set-other marked 0 y 0 0 e) (marked-alone z A .most y)
+    ];
   }
 
+  pub unmarked-notes : Notes t x before unmarked new
+  unmarked-notes = record {
+    answer = m .answer;
+    within = record {
+      table = λ T. record {
+        size = length-set marked 0 0 ∙ size-marked ∙ T .size;
+        zero = no-mark unmarked 0 (getD-set-same marked 0 0 0 (omega (arith, size-marked, T .size)));
+      };
+      alone = unmarked-alone;
+      elsewhere = λ u d y z. unmarked-other y z u ∙ marked-elsewhere u d y;
+    };
+    here = λ T n. unmarked-other x n t ∙ marked-here T;
+    others = λ y z k. unmarked-other y z t ∙ marked-other y k t;
+  }
+
+-- store 0's mark, where no other store has any
+pub marks-alone : (x : ℕ) (before : Seen) → OneStore before → Marks 0 x before (set before x 1) (eqb (getD before x 0) 0)
+unfolding noted
+marks-alone x before A = record {
+  answer = elim (ℕ-discrete (getD before x 0) 0) [
+    | yes z ↦ rw z refl
+    | no z ↦ let o : getD before x 0 ≡ 1 = omega (arith, A .most x) in rw o refl
+  ];
+  stored = ap (set before x) (sym (one-bit (getD before x 0) (A .most x)));
+}
+
+pub none-alone : OneStore none
+none-alone = record {
+  most = λ x. elim (decLt x mostPages) [
+    | yes l ↦ rw (getD-replicate {A = ℕ} mostPages x 0 0 l) (omega arith)
+    | no l ↦ rw (List·getD-eq-default none 0 {n = x} (let e : length none ≡ mostPages = length-replicate {A = ℕ} mostPages 0 in omega arith)) (omega arith)
+  ];
+}
+
+-- ---- what stays within a store
+
+pub within-same : (t : ℕ) (seen : Seen) → WithinStore t seen seen
+within-same t seen = record { table = λ T. T; alone = λ z A. A; elsewhere = λ u d x z. refl }
+
+pub within-then : (t : ℕ) (before now after : Seen) → WithinStore t before now → WithinStore t now after → WithinStore t before after
+within-then t before now after A B = record { table = λ T. B .table (A .table T); alone = λ z o. B .alone z (A .alone z o); elsewhere = λ u d x z. B .elsewhere u d x z ∙ A .elsewhere u d x z }
+
 -- 0 is passed over
-pub notes-zero : (seen : Seen) → Table seen → Notes 0 seen seen true
-notes-zero seen t = record { answer = sym (ap not (t .zero)); table = λ t. t; here = λ t n. absurd (n refl); others = λ y z n. refl }
+pub notes-zero : (t : ℕ) (seen : Seen) → Table seen → Notes t 0 seen seen true
+notes-zero t seen T = record { answer = sym (ap not (T .zero t)); within = within-same t seen; here = λ T n. absurd (n refl); others = λ y z n. refl }
 
 -- ---- what a table tells
 
-pub tells-ext : (seen : Seen) (s t : ℕ → Bool) → Tells seen s → ((x : ℕ) → 0 < x → x < mostPages → s x ≡ t x) → Tells seen t
-tells-ext seen s t h e = record { table = h .table; right = λ x p l. h .right x p l ∙ e x p l }
+pub tells-ext : (t : ℕ) (seen : Seen) (f g : ℕ → Bool) → Tells t seen f → ((x : ℕ) → 0 < x → x < mostPages → f x ≡ g x) → Tells t seen g
+tells-ext t seen f g h e = record { table = h .table; right = λ x p l. h .right x p l ∙ e x p l }
+
+-- what it tells of another store stays
+pub tells-elsewhere : (t u : ℕ) → u ≢ t → (before after : Seen) → WithinStore t before after → (f : ℕ → Bool) → Tells u before f → Tells u after f
+tells-elsewhere t u d before after W f h = record { table = W .table (h .table); right = λ x p l. W .elsewhere u d x (λ z. omega arith) ∙ h .right x p l }
 
 -- ---- a number that is fresh
 
@@ -118,105 +207,110 @@ every-more : (n : ℕ) (t : ℕ → Bool) → every (n + 1) t ≡ (every n t and
 unfolding every
 every-more n t = rw (add-one n) refl
 
-module _ (w : ℕ → ℕ) (N : ℕ) (before : Seen) where
+module _ (t : ℕ) (w : ℕ → ℕ) (N : ℕ) (before : Seen) where
   abbrev isFresh : ℕ → Bool
-  isFresh = fresh (noted before) w N
+  isFresh = fresh (noted before t) w N
 
-  pub marked-none : Table before → Marked 0 w N before before true
-  marked-none t = record {
+  pub marked-none : Table before → Marked t 0 w N before before true
+  marked-none T = record {
     answer = sym (every-zero isFresh);
-    tells = λ e. record { table = t; right = λ x p l. sym (or-same (noted before x) (among-zero w x)) };
+    tells = λ e. record { table = T; right = λ x p l. sym (or-same (noted before t x) (among-zero w x)) };
+    within = within-same t before;
   }
 
   -- once false, it stays so
-  marked-false : (m n : ℕ) → m ≤ n → (now after : Seen) → Marked m w N before now false → Marked n w N before after false
-  marked-false m n l now after M = record {
-    answer = sym (is-off (every n isFresh) (λ t. clash (sym (true-less t) ∙ sym (M .answer))));
+  marked-false : (m n : ℕ) → m ≤ n → (after : Seen) → Marked t m w N before after false → Marked t n w N before after false
+  marked-false m n l after M = record {
+    answer = sym (is-off (every n isFresh) (λ s. clash (sym (true-less s) ∙ sym (M .answer))));
     tells = λ e. absurd (clash (sym e));
+    within = M .within;
   }
     where
       true-less : every n isFresh ≡ true → every m isFresh ≡ true
-      true-less t = true-every m isFresh (λ i h. every-true n isFresh t i (omega arith))
+      true-less s = true-every m isFresh (λ i h. every-true n isFresh s i (omega arith))
 
   module _ (m : ℕ) where
     -- number m is v, which isn't below N
-    marked-large : (v : ℕ) → w m ≡ v → v ≢ 0 → N ≤ v → (after : Seen) → Marked (m + 1) w N before after false
-    marked-large v e n l after = record {
-      answer = sym (every-false (m + 1) isFresh m (omega arith) (not-fresh (noted before) w N m (λ z. n (sym e ∙ z)) (λ h. let b : w m < N = h .below in omega arith)));
+    marked-large : (v : ℕ) → w m ≡ v → v ≢ 0 → N ≤ v → (now : Seen) → Marked t m w N before now true → Marked t (m + 1) w N before now false
+    marked-large v e n l now M = record {
+      answer = sym (every-false (m + 1) isFresh m (omega arith) (not-fresh (noted before t) w N m (λ z. n (sym e ∙ z)) (λ h. let b : w m < N = h .below in omega arith)));
       tells = λ z. absurd (clash (sym z));
+      within = M .within;
     }
 
     -- number m is v, and v was noted
-    module _ (few : N ≤ mostPages) (now : Seen) (v : ℕ) (here : w m ≡ v) (small : v ≢ 0 → v < N) (next : Seen) (new : Bool) (S : Notes v now next new) where
-      other : (y : ℕ) → y ≢ 0 → v ≢ y → (T : Tells now (λ x. noted before x or among w m x)) → 0 < y → y < mostPages → noted next y ≡ (noted before y or among w (m + 1) y)
-      other y z n T p l = S .others y z n ∙ T .right y p l ∙ ap (λ (b : Bool). noted before y or b) (sym (among-none w m y (λ e. n (sym here ∙ e))))
+    module _ (few : N ≤ mostPages) (now : Seen) (v : ℕ) (here : w m ≡ v) (small : v ≢ 0 → v < N) (next : Seen) (new : Bool) (S : Notes t v now next new) where
+      other : (y : ℕ) → y ≢ 0 → v ≢ y → (T : Tells t now (λ x. noted before t x or among w m x)) → 0 < y → y < mostPages → noted next t y ≡ (noted before t y or among w (m + 1) y)
+      other y z n T p l = S .others y z n ∙ T .right y p l ∙ ap (λ (b : Bool). noted before t y or b) (sym (among-none w m y (λ e. n (sym here ∙ e))))
 
-      going : Tells now (λ x. noted before x or among w m x) → Tells next (λ x. noted before x or among w (m + 1) x)
+      going : Tells t now (λ x. noted before t x or among w m x) → Tells t next (λ x. noted before t x or among w (m + 1) x)
       going T = record {
-        table = S .table (T .table);
+        table = S .within .table (T .table);
         right = λ y p l. elim (ℕ-discrete v y) [
-          | yes e ↦ let n : v ≢ 0 = λ z. omega arith in rw (← e) (S .here (T .table) n ∙ sym (or-right (noted before v) (among-hit w m v here)))
+          | yes e ↦ let n : v ≢ 0 = λ z. omega arith in rw (← e) (S .here (T .table) n ∙ sym (or-right (noted before t v) (among-hit w m v here)))
           | no e ↦ other y (λ z. omega arith) e T p l
         ];
       }
 
-      fresh-here : Tells now (λ x. noted before x or among w m x) → isFresh m ≡ new
+      fresh-here : Tells t now (λ x. noted before t x or among w m x) → isFresh m ≡ new
       fresh-here T = elim (ℕ-discrete v 0) [
-        | yes z ↦ fresh-zero (noted before) w N m (here ∙ z) ∙ sym (S .answer ∙ ap not (ap (noted now) z ∙ T .table .zero))
+        | yes z ↦ fresh-zero (noted before t) w N m (here ∙ z) ∙ sym (S .answer ∙ ap not (ap (noted now t) z ∙ T .table .zero t))
         | no z ↦
             let l : v < N = small z in
-            let known : noted now v ≡ (noted before v or among w m v) = T .right v (omega arith) (omega arith) in
-            elim (case (noted now v)) [
-              | on u ↦ not-fresh (noted before) w N m (λ q. z (sym here ∙ q)) (λ h. clash (sym u ∙ known ∙ or-off {a = noted before v} (rw here at (h .unseen)) (rw here at (h .first)))) ∙ sym (S .answer ∙ ap not u)
+            let known : noted now t v ≡ (noted before t v or among w m v) = T .right v (omega arith) (omega arith) in
+            elim (case (noted now t v)) [
+              | on u ↦ not-fresh (noted before t) w N m (λ q. z (sym here ∙ q)) (λ h. clash (sym u ∙ known ∙ or-off {a = noted before t v} (rw here at (h .unseen)) (rw here at (h .first)))) ∙ sym (S .answer ∙ ap not u)
               | off u ↦
-                  let o = or-none (noted before v) (among w m v) (sym known ∙ u) in
-                  fresh-new (noted before) w N m (record { below = rw here l; unseen = rw here (o .0); first = rw here (o .1) }) ∙ sym (S .answer ∙ ap not u)
+                  let o = or-none (noted before t v) (among w m v) (sym known ∙ u) in
+                  fresh-new (noted before t) w N m (record { below = rw here l; unseen = rw here (o .0); first = rw here (o .1) }) ∙ sym (S .answer ∙ ap not u)
             ]
       ]
 
-      pub marked-more : (r next-r : Bool) → next-r ≡ (r and new) → Marked m w N before now r → Marked (m + 1) w N before next next-r
+      pub marked-more : (r next-r : Bool) → next-r ≡ (r and new) → Marked t m w N before now r → Marked t (m + 1) w N before next next-r
       marked-more true s e M = record {
         answer = e ∙ ap (λ (b : Bool). b and new) (M .answer) ∙ ap (λ (b : Bool). every m isFresh and b) (sym (fresh-here (M .tells refl))) ∙ sym (every-more m isFresh);
         tells = λ z. going (M .tells refl);
+        within = within-then t before now next (M .within) (S .within);
       }
       marked-more false s e M = record {
         answer = e ∙ sym (and-no new refl) ∙ and-no (isFresh m) (sym (M .answer)) ∙ sym (every-more m isFresh);
         tells = λ z. absurd (clash (sym z ∙ e ∙ sym (and-no new refl)));
+        within = within-then t before now next (M .within) (S .within);
       }
 
 -- ---- going on from a row marked as far as m, and the table `now`
 
-module _ (w : ℕ → ℕ) (N m : ℕ) (now : Seen) where
-  pub marks-none : MarksOn m m w N now now true
+module _ (t : ℕ) (w : ℕ → ℕ) (N m : ℕ) (now : Seen) where
+  pub marks-none : MarksOn t m m w N now now true
   marks-none = record { onward = λ before M. M }
 
   -- number k is v, which isn't below N
-  pub marks-large : (k v : ℕ) → w k ≡ v → v ≢ 0 → N ≤ v → (after : Seen) → MarksOn m (k + 1) w N now after false
-  marks-large k v e z l after = record { onward = λ before M. marked-large w N before k v e z l after }
+  pub marks-large : (k v : ℕ) → w k ≡ v → v ≢ 0 → N ≤ v → (seen : Seen) → MarksOn t m k w N now seen true → MarksOn t m (k + 1) w N now seen false
+  marks-large k v e z l seen K = record { onward = λ before M. marked-large t w N before k v e z l seen (K .onward before M) }
 
   -- once false, it stays so
-  pub marks-false : (k n : ℕ) → k ≤ n → (after : Seen) → MarksOn m k w N now after false → MarksOn m n w N now after false
-  marks-false k n l after K = record { onward = λ before M. marked-false w N before k n l after after (K .onward before M) }
+  pub marks-false : (k n : ℕ) → k ≤ n → (after : Seen) → MarksOn t m k w N now after false → MarksOn t m n w N now after false
+  marks-false k n l after K = record { onward = λ before M. marked-false t w N before k n l after (K .onward before M) }
 
   module _ (few : N ≤ mostPages) where
     -- number k is v, and v was noted
-    pub marks-more : (k : ℕ) (seen : Seen) (v : ℕ) → w k ≡ v → (v ≢ 0 → v < N) → (next : Seen) (new : Bool) → (Table seen → Notes v seen next new) → (r : Bool) → r ≡ new → MarksOn m k w N now seen true → MarksOn m (k + 1) w N now next r
+    pub marks-more : (k : ℕ) (seen : Seen) (v : ℕ) → w k ≡ v → (v ≢ 0 → v < N) → (next : Seen) (new : Bool) → (Table seen → Notes t v seen next new) → (r : Bool) → r ≡ new → MarksOn t m k w N now seen true → MarksOn t m (k + 1) w N now next r
     marks-more k seen v here small next new S r e K = record {
       onward = λ before M.
           let B = K .onward before M in
-          marked-more w N before k few seen v here small next new (S (B .tells refl .table)) true r (and-yes refl e) B;
+          marked-more t w N before k few seen v here small next new (S (B .tells refl .table)) true r (and-yes refl e) B;
     }
 
     -- numbers of 0 are passed over
-    pub marks-zeros : (n : ℕ) → ((j : ℕ) → j < n → w (m + j) ≡ 0) → MarksOn m (m + n) w N now now true
+    pub marks-zeros : (n : ℕ) → ((j : ℕ) → j < n → w (m + j) ≡ 0) → MarksOn t m (m + n) w N now now true
     marks-zeros zero z = rw (add-zero m) marks-none
-    marks-zeros (suc n) z = rw (add-suc m n, ← add-one (m + n)) (marks-more (m + n) now 0 (z n (omega arith)) (λ k. absurd (k refl)) now true (notes-zero now) true refl (marks-zeros n (λ j l. z j (omega arith))))
+    marks-zeros (suc n) z = rw (add-suc m n, ← add-one (m + n)) (marks-more (m + n) now 0 (z n (omega arith)) (λ k. absurd (k refl)) now true (notes-zero t now) true refl (marks-zeros n (λ j l. z j (omega arith))))
 
 -- and on from there
-pub marks-then : (w : ℕ → ℕ) (N m k n : ℕ) (now seen after : Seen) (r : Bool) → MarksOn m k w N now seen true → MarksOn k n w N seen after r → MarksOn m n w N now after r
-marks-then w N m k n now seen after r A B = record { onward = λ before M. B .onward before (A .onward before M) }
+pub marks-then : (t : ℕ) (w : ℕ → ℕ) (N m k n : ℕ) (now seen after : Seen) (r : Bool) → MarksOn t m k w N now seen true → MarksOn t k n w N seen after r → MarksOn t m n w N now after r
+marks-then t w N m k n now seen after r A B = record { onward = λ before M. B .onward before (A .onward before M) }
 
 -- words of 0 from slot k on are passed over
-pub marks-over : (b : List ℕ) (a m k n N : ℕ) (now seen : Seen) → N ≤ mostPages → hasAny (wordsFrom b (a + wordSize * k)) n ≡ false → MarksOn m k (wordsFrom b a) N now seen true → MarksOn m (k + n) (wordsFrom b a) N now seen true
-marks-over b a m k n N now seen few t A =
-    marks-then (wordsFrom b a) N m k (k + n) now seen seen true A (marks-zeros (wordsFrom b a) N k seen few n (λ j l. ap (nameAt b) (omega arith) ∙ not-any (wordsFrom b (a + 4 * k)) n t j l))
+pub marks-over : (t : ℕ) (b : List ℕ) (a m k n N : ℕ) (now seen : Seen) → N ≤ mostPages → hasAny (wordsFrom b (a + wordSize * k)) n ≡ false → MarksOn t m k (wordsFrom b a) N now seen true → MarksOn t m (k + n) (wordsFrom b a) N now seen true
+marks-over t b a m k n N now seen few none A =
+    marks-then t (wordsFrom b a) N m k (k + n) now seen seen true A (marks-zeros t (wordsFrom b a) N k seen few n (λ j l. ap (nameAt b) (omega arith) ∙ not-any (wordsFrom b (a + 4 * k)) n none j l))

@@ -1,4 +1,4 @@
--- Every record of a workload is drawn, lies in its ranges and is run as its call: from an open on, its calls are a list of demand 3. Assumes nothing.
+-- Every record of a workload is drawn, lies in its ranges and is run as its call: from an open on, its calls are a list of demand 3, with one store. Assumes nothing.
 use Prim.Native.Nat.{ℕ, zero, suc, _<_}
 use mathlib.Core.Path.{_≡_, refl, sym, _∙_, ap}
 use mathlib.Core.Logic.{_≢_}
@@ -11,13 +11,14 @@ use Rattle.page.specs.Figures.{slotCount}
 use Rattle.page.specs.Word.{wordAt-bytes, isMarked, nameOf, namesNothing, low-word}
 use Rattle.page.specs.Page.{slot, name, bytesFrom}
 use Rattle.page.specs.Octets.{Octets}
-use Rattle.rules.specs.Tests.{pick, _and_, _⇒_, firstBroken}
+use Rattle.page.specs.StorePlaces.{storePlace}
+use Rattle.rules.specs.Tests.{pick, _and_, _⇒_, every, firstBroken}
 use Rattle.rules.specs.TestLaws.{both, true-every, pick-either, pick-no, verdict-yes, kept-then, none-broken}
 use Rattle.machine.specs.Machine.{State}
 use Rattle.machine.specs.Answers.{refused, done, Out, out}
-use Rattle.machine.specs.Rules.{lengthsFit, directoryFits}
+use Rattle.machine.specs.Rules.{lengthsFit, ceilingFits, storesFit, directoryFits}
 use Rattle.machine.specs.Calls.{decide, poolRules, openRules, opened, openCall}
-use Rattle.machine.specs.Soundness.{wordsBelow, wordsOnce, sound}
+use Rattle.machine.specs.Soundness.{wordsBelow, wordsOnce, soundStore, sound}
 use Rattle.machine.specs.History.{Call, Point, row, start, next, run, AllBytes}
 use Rattle.machine.specs.LockedPages.{Unmarked}
 use Rattle.machine.specs.Laws.Outcomes.{answers-as}
@@ -25,8 +26,9 @@ use Rattle.machine.specs.Theorem.Invariant.{Invariant}
 use Rattle.machine.specs.Theorem.Steps.{step-keeps}
 use Rattle.machine.specs.Theorem.Demand3Holds.{holds, invariant-along}
 use Rattle.machine.specs.Theorem.NeverLockedHolds.{unmarked-locks, step-leaves}
-use Rattle.recording.specs.Listing.{callOf, recordOut, lengthIn, dataIn}
+use Rattle.recording.specs.Listing.{listingCeilings, callOf, recordOut, lengthIn, dataIn}
 use Rattle.recording.specs.ListingLaws.{listed-unmarked}
+use Rattle.recording.specs.OneStore.{same-stores, never-15-listed}
 use Rattle.generator.specs.Generator.{seedRead}
 use Rattle.drawing.specs.Drawing.{drawnOut}
 use Rattle.drawing.specs.Ranges.{in-ranges}
@@ -65,12 +67,13 @@ next-now : (c : Call) (x : Point) → row c .anew ≡ false → next c x .now �
 unfolding next
 next-now c x e = ap (λ (y : Point). y .now) (sym (pick-no _ e refl))
 
--- a point that keeps demand 3's invariant, has no mark in its map, and has this state
+-- a point that keeps demand 3's invariant, has no mark in its map, and has this state, of one store
 pub record AtPoint (s : State) : Type 0 where
   pub point : Point
   pub keeps : Invariant point
   pub unmarked : Unmarked (point .map)
   pub here : point .now ≡ s
+  pub one : s .pool .stores ≡ 1
 
 kept-there : (s : State) → AtPoint s → firstBroken (poolRules s) ≡ 0
 kept-there s a = rw (← a .here) (point-kept (a .point) (holds (a .point) (a .keeps)))
@@ -89,6 +92,7 @@ point-along (suc n) w a =
       keeps = step-keeps (a .point) (a .keeps) (callOf b) (no-octets _ (p .bytes));
       unmarked = step-leaves (a .point) (a .keeps) (a .unmarked) (callOf b) (listed-unmarked b);
       here = next-now (callOf b) (a .point) (p .goesOn) ∙ ap (λ (s : State). row (callOf b) .out s .left) (a .here) ∙ ap (λ (o : Out). o .left) (record-called (w .left) z b r);
+      one = same-stores (w .left) b ∙ a .one;
     })
 
 -- ---- the listing's pool opens
@@ -115,30 +119,32 @@ unnamed : (m p k : ℕ) (b : Bool) → (not (namesNothing (name (replicate m 0) 
 unfolding _⇒_
 unnamed m p k b = rw (zero-name m p k) refl
 
-zeros-sound : (m N : ℕ) → 0 < N → sound (replicate m 0) N ≡ true
-unfolding sound wordsBelow wordsOnce
-zeros-sound m N l = both _ _
-    (true-every N _ (λ p _. true-every slotCount _ (λ k _. rw (zero-name m p k) (lt-ltb 0 N l))))
-    (true-every N _ (λ p _. true-every slotCount _ (λ k _. unnamed m p k _)))
+zeros-sound : (m N T : ℕ) → 0 < N → sound (replicate m 0) N T ≡ true
+unfolding sound soundStore wordsBelow wordsOnce
+zeros-sound m N T l = true-every T _ (λ t _. both _ _
+    (true-every N _ (λ p _. true-every slotCount _ (λ k _. rw (zero-name m (storePlace N t p) k) (lt-ltb 0 N l))))
+    (true-every N _ (λ p _. true-every slotCount _ (λ k _. unnamed m (storePlace N t p) k _))))
 
-listing-kept : firstBroken (openRules (replicate 1024 0) (replicate 4096 0) (replicate 131 0)) ≡ 0
-unfolding lengthsFit directoryFits _and_
-listing-kept = kept-then 1 _ refl ∙ kept-then 16 [] (zeros-sound 4096 16 (omega arith)) ∙ none-broken
+listing-kept : firstBroken (openRules 1 listingCeilings (replicate 1024 0) (replicate 4096 0) (replicate 131 0)) ≡ 0
+unfolding lengthsFit ceilingFits storesFit directoryFits _and_ every pick
+listing-kept = kept-then 1 _ refl ∙ kept-then 16 [] (zeros-sound 4096 16 1 (omega arith)) ∙ none-broken
 
-listing-out : listingPool ≡ out done (opened (replicate 1024 0) (replicate 4096 0))
+listing-out : listingPool ≡ out done (opened 1 listingCeilings (replicate 1024 0) (replicate 4096 0))
 unfolding openCall decide
 listing-out = sym (verdict-yes {n = 0} _ (sym listing-kept) refl refl)
 
 pub listing-opens : listingPool .answer ≡ done
 listing-opens = answers-as listing-out
 
--- ---- the claim: the record that comes after n of any seed is drawn in its ranges, and meets no refusal but those of canMeet, nor 14, nor 26
+-- ---- the claim: the record that comes after n of any seed is drawn in its ranges, and meets no refusal but those of canMeet, nor 14, nor 15, nor 26
 
 pub record Works (w : Worked) : Type 0 where
   pub drawn : DrawnThere (w .left) (w .generator)
   pub meets : MeetsThese (recordOut (w .left) (drawnOut (w .left) (w .generator) .entry) .answer)
   -- 14 is "only after outside alteration"
   pub unaltered : recordOut (w .left) (drawnOut (w .left) (w .generator) .entry) .answer ≢ refused 14
+  -- request A.11: with one store, a load that is denied a frame meets 27
+  pub single : recordOut (w .left) (drawnOut (w .left) (w .generator) .entry) .answer ≢ refused 15
   -- request A.8: no page is locked, since the listing's links take no mark
   pub unlocked : recordOut (w .left) (drawnOut (w .left) (w .generator) .entry) .answer ≢ refused 26
 
@@ -152,6 +158,7 @@ works w a =
       drawn = drawn-there (w .left) (w .generator) z;
       meets = drawn-meets (w .left) z (w .generator);
       unaltered = λ e. holds (a .point) (a .keeps) .neverRefused (callOf b) 14 (answered ∙ e) .2 refl;
+      single = λ e. never-15-listed (a .point) (holds (a .point) (a .keeps)) (ap (λ (s : State). s .pool .stores) (a .here) ∙ a .one) b (ap (λ (s : State). recordOut s b .answer) (a .here) ∙ e);
       unlocked = λ e. unmarked-locks (a .point) (a .keeps) (a .unmarked) .never26 (callOf b) (answered ∙ e);
     }
 
@@ -159,9 +166,10 @@ listing-point : AtPoint (listingPool .left)
 unfolding AllBytes run
 listing-point = record {
   point = start (listingPool .left);
-  keeps = invariant-along (replicate 1024 0) (replicate 4096 0) (replicate 131 0) (zero-octets 1024) (zero-octets 4096) listing-opens [] tt;
+  keeps = invariant-along 1 listingCeilings (replicate 1024 0) (replicate 4096 0) (replicate 131 0) (zero-octets 1024) (zero-octets 4096) listing-opens [] tt;
   unmarked = rw (ap (λ (o : Out). o .left .store) listing-out) (zeros-unmarked 4096);
   here = refl;
+  one = ap (λ (o : Out). o .left .pool .stores) listing-out;
 }
 
 pub all-work : (seed n : ℕ) → Works (workloadOf seed n)

@@ -6,8 +6,7 @@ use Rattle.page.specs.Figures.{pageSize}
 use Rattle.machine.specs.Machine.{State}
 use Rattle.chains.specs.Chain.{directorySize}
 use Rattle.machine.specs.Answers.{Out}
-use Rattle.machine.specs.Calls.{openCall}
-use Rattle.recording.specs.Listing.{listed}
+use Rattle.recording.specs.Listing.{listingFrames, openListing, listed}
 use Rattle.printing.specs.Printing.{withListed}
 use Rattle.generator.specs.declared.Generator.{Generator}
 use Rattle.generator.specs.Generator.{seedRead}
@@ -46,7 +45,7 @@ workedFrom (suc n) w = workedFrom n (withNext w)
 
 -- "a pool just opened over 16 zero pages and 4 frames", its directory zero too before it
 abbrev pub listingPool : Out
-listingPool = openCall (replicate (4 * pageSize) 0) (replicate (16 * pageSize) 0) (replicate directorySize 0)
+listingPool = openListing (replicate (listingFrames * pageSize) 0) (replicate (16 * pageSize) 0) (replicate directorySize 0)
 
 -- n records from a seed
 unfoldable pub workloadOf : ℕ → ℕ → Worked

@@ -4,7 +4,7 @@ use mathlib.Core.Bool.{true}
 use mathlib.Core.List.{List, [], _∷_, _++_}
 use Prim.Native.Nat.{ℕ}
 use lib.ListN.{replicate}
-use Rattle.machine.specs.Tables.Rows.{Case, is, allHold}
+use Rattle.cases.specs.Rows.{Case, is, allHold}
 use Rattle.recording.specs.Listing.{callOf, recordOut}
 use Rattle.printing.specs.Printing.{places, withNumber}
 use Rattle.generator.specs.Generator.{xorLeft, xorRight, numberAfter}

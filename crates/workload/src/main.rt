@@ -16,7 +16,7 @@ ghost use Rattle.checksum.specs.Parts.{Over};
 ghost use Rattle.workload.specs.Workload.{begun, workedFrom, workloadOf, summed, summedBy};
 
 // 4 frames, a store of 16 pages, and the directory.
-const FRAMES: usize = 4 * PageNumber::SIZE;
+const FRAMES: usize = recording::FRAMES * PageNumber::SIZE;
 
 const STORE: usize = 16 * PageNumber::SIZE;
 
@@ -129,7 +129,7 @@ fn run_seed(seed: u32, count: u32, as_records: bool) -> Turn
     let mut frames = [0u8; FRAMES];
     let mut store = [0u8; STORE];
     let mut directory = [0u8; DIRECTORY];
-    let opened = pool::open(&mut frames, &store, &mut directory);
+    let opened = recording::open_listing(&mut frames, &store, &mut directory);
     let pool = opened.pool;
     let generator = generator::seeded(seed);
     run_all(

@@ -115,6 +115,6 @@ pub fn lengths(random: &mut Random, state: &mut State) {
     bytes.resize(length, 0);
     if with_figures {
         state.pool.count = (state.frames.len() / PAGE_SIZE) as u16;
-        state.pool.pages = (state.store.len() / PAGE_SIZE) as u16;
+        state.pool.pages = (state.store.len() / PAGE_SIZE / usize::from(state.pool.stores).max(1)) as u16;
     }
 }

@@ -1,7 +1,8 @@
 //! Changes of records and words together, each broken in one respect alone.
 use super::occupied;
 use crate::records::{
-    page_of_mut, put_word, unmarked, with_mark, FrameIndex, State, LOCK_BIT, PAGE_SIZE, SLOTS, SWIZZLE_BIT,
+    page_of_mut, put_word, unmarked, with_mark, FrameIndex, Page, PageNumber, State, LOCK_BIT, MOST_FRAMES,
+    PAGE_SIZE, SLOTS, SWIZZLE_BIT,
 };
 use random::Random;
 
@@ -20,9 +21,9 @@ fn hang(state: &mut State, frame: FrameIndex, parent: FrameIndex, slot: usize, l
     (record.parent, record.slot) = (parent, slot as u8);
 }
 
-/// An occupied frame that isn't the root's.
+/// An occupied frame that isn't a root's.
 fn child(random: &mut Random, state: &State) -> Option<FrameIndex> {
-    random.choose(state.occupied().map(|(frame, _)| frame).filter(|frame| *frame != FrameIndex(0)))
+    random.choose(state.occupied().map(|(frame, _)| frame).filter(|frame| !state.is_root(*frame)))
 }
 
 /// A slot of a frame with a word of 0.
@@ -54,6 +55,28 @@ pub fn moved_child(random: &mut Random, state: &mut State) {
     }
 }
 
+/// A frame moved below any other, with the store of that in its record: its children keep theirs.
+pub fn moved_store(random: &mut Random, state: &mut State) {
+    if let (Some(frame), Some(parent)) = (child(random, state), occupied(random, state)) {
+        hang_somewhere(random, state, frame, parent);
+        state.pool.record_mut(frame).store = state.pool.record(parent).store;
+    }
+}
+
+/// A word of 0 swizzled to the frame of a root, whose parent fields then name that word, or don't.
+pub fn other_roots_word(random: &mut Random, state: &mut State) {
+    let roots = usize::from(state.pool.stores).clamp(1, MOST_FRAMES);
+    let root = FrameIndex(random.below(roots) as u8);
+    let Some(frame) = occupied(random, state) else { return };
+    if let Some(slot) = free_slot(random, state, frame) {
+        put_frame_word(state, frame, slot, with_mark(SWIZZLE_BIT + u32::from(root), random.percent(30)));
+        if random.percent(50) {
+            let record = state.pool.record_mut(root);
+            (record.parent, record.slot) = (frame, slot as u8);
+        }
+    }
+}
+
 /// A frame whose parent names it beyond the last slot, in the payload.
 pub fn slot_in_payload(random: &mut Random, state: &mut State) {
     if let (Some(frame), Some(parent)) = (child(random, state), occupied(random, state)) {
@@ -81,17 +104,19 @@ pub fn first_word(random: &mut Random, state: &mut State) {
     }
 }
 
-/// A page number in a word of the occupied frames, without its mark.
-fn number(random: &mut Random, state: &State) -> Option<u32> {
-    let words = state.occupied().flat_map(|(frame, _)| state.words(frame));
-    random.choose(words.filter(|word| *word != 0 && *word < SWIZZLE_BIT).map(unmarked))
+/// A page that a word of the occupied frames gives by its number, which is of the frame's store.
+fn number(random: &mut Random, state: &State) -> Option<Page> {
+    let words =
+        state.occupied().flat_map(|(frame, record)| state.words(frame).map(|word| (record.store, word)));
+    let numbers = words.filter(|(_, word)| *word != 0 && *word < SWIZZLE_BIT);
+    random.choose(numbers.map(|(store, word)| Page { store, number: PageNumber(unmarked(word) as u16) }))
 }
 
 /// A page number that stands in two words of occupied frames.
 pub fn number_twice(random: &mut Random, state: &mut State) {
-    if let (Some(number), Some(frame)) = (number(random, state), occupied(random, state)) {
+    if let (Some(page), Some(frame)) = (number(random, state), occupied(random, state)) {
         if let Some(slot) = free_slot(random, state, frame) {
-            put_frame_word(state, frame, slot, with_mark(number, random.percent(30)));
+            put_frame_word(state, frame, slot, with_mark(page.number.into(), random.percent(30)));
         }
     }
 }
@@ -101,8 +126,8 @@ pub fn spoilt_load(random: &mut Random, state: &mut State) {
     let Some(page) = number(random, state) else {
         return;
     };
-    let words = unloadable(random, state, page);
-    if let Some(stored) = state.store.chunks_exact_mut(PAGE_SIZE).nth(page as usize) {
+    let words = unloadable(random, state, page.number.into());
+    if let Some(stored) = state.store.chunks_exact_mut(PAGE_SIZE).nth(page.place(state.pool.pages)) {
         for word in words {
             put_word(stored, random.below(SLOTS), with_mark(word, random.percent(30)));
         }

@@ -1,9 +1,9 @@
 //! What a call does to the directory's chains, request A.3: lists of frames before it and after it.
-use super::directory::{bucket_of, chain, is_right};
+use super::directory::{bucket_of, byte_after, chain, is_right};
 use super::rules;
 use crate::calls::{Answer, Call};
 use crate::ensure;
-use crate::records::{FrameIndex, PageNumber, Pool, State, BUCKETS, DIRECTORY_SIZE};
+use crate::records::{page, FrameIndex, Page, Pool, State, BUCKETS, DIRECTORY_SIZE};
 use std::collections::BTreeSet;
 
 /// What a call did to a chain, or met there.
@@ -27,7 +27,7 @@ pub enum Turn {
     SweptOther,
     /// An open of no pool yet, its records all zero.
     OpenedFirst,
-    /// An open of a pool whose directory didn't agree with its records, that held more than the root, or just the root.
+    /// An open of a pool whose directory didn't agree with its records, that held more than the roots, or just these.
     OpenedWrong,
     OpenedRight,
     OpenedAgain,
@@ -63,7 +63,7 @@ fn chains(state: &State) -> Result<Chains, String> {
 }
 
 /// After an accepted call the chains are those before it, but that on loading the newcomer's frame is at the head of its chain, and
-/// on eviction the frame that is free is out of its own, first; open leaves the root alone. Every other byte is 0, which the
+/// on eviction the frame that is free is out of its own, first; open leaves the roots alone. Every other byte is 0, which the
 /// directory's agreement says; a refused call leaves all. Gives what was met.
 pub fn compare(
     (before, after): (&State, &State),
@@ -75,9 +75,9 @@ pub fn compare(
         ensure!(after.directory == before.directory, "{answer:?}, and the directory changes");
         return Ok(turns);
     }
-    if *call == Call::Open {
-        let alone = (0..DIRECTORY_SIZE).map(|at| u8::from(at == 0));
-        ensure!(after.directory.iter().copied().eq(alone), "open leaves {:?}", after.directory);
+    if let Call::Open(stores) = call {
+        let alone = roots_alone(stores.count);
+        ensure!(after.directory == alone, "open leaves {:?}", after.directory);
         turns.insert(opened(before, after));
         return Ok(turns);
     }
@@ -85,11 +85,11 @@ pub fn compare(
     let arrived = arrived(before, answer);
     let left = departed(before, call, arrived.map(|(_, frame)| frame));
     if let Some((page, frame)) = left {
-        turns.insert(take_out(&mut expected[bucket_of(page)], frame)?);
+        turns.insert(take_out(&mut expected[bucket_of(page.number)], frame)?);
     }
     if let Some((page, frame)) = arrived {
         turns.extend(left.map(|(victim, _)| swept(&expected, victim, page)));
-        turns.insert(enter(&mut expected[bucket_of(page)], frame));
+        turns.insert(enter(&mut expected[bucket_of(page.number)], frame));
     }
     let now = chains(after)?;
     ensure!(now == expected, "chains {:?}, and not {:?}", filled(&now), filled(&expected));
@@ -105,6 +105,14 @@ fn filled(chains: &Chains) -> Vec<(usize, &Vec<FrameIndex>)> {
     chains.iter().enumerate().filter(|(_, chain)| !chain.is_empty()).collect()
 }
 
+/// Request A.11: the roots "entered in the directory in that order", each at the head of chain 0.
+fn roots_alone(stores: u8) -> Vec<u8> {
+    let mut bytes = vec![0; DIRECTORY_SIZE];
+    bytes[0] = stores;
+    (0..stores).for_each(|frame| bytes[byte_after(FrameIndex(frame))] = frame);
+    bytes
+}
+
 fn opened(before: &State, after: &State) -> Turn {
     if before.pool == Pool::ZERO {
         Turn::OpenedFirst
@@ -118,20 +126,19 @@ fn opened(before: &State, after: &State) -> Turn {
 }
 
 /// The page that an accepted call took out of its frame: that of an evict, or what was in the frame that a page came into.
-fn departed(before: &State, call: &Call, arrived: Option<FrameIndex>) -> Option<(PageNumber, FrameIndex)> {
-    let held = |(frame, page): &(FrameIndex, PageNumber)| match call {
-        Call::Evict(evicted) => page.0 == *evicted,
+fn departed(before: &State, call: &Call, arrived: Option<FrameIndex>) -> Option<(Page, FrameIndex)> {
+    let held = |(held, frame): &(Page, FrameIndex)| match call {
+        Call::Evict(store, number) => *held == page(*store, *number),
         _ => Some(*frame) == arrived,
     };
-    let mut pages = before.occupied().map(|(frame, record)| (frame, record.page));
-    pages.find(held).map(|(frame, page)| (page, frame))
+    before.occupied().map(|(frame, record)| (Page::from(record), frame)).find(held)
 }
 
 /// The page that an accepted fix brought into a frame.
-fn arrived(before: &State, answer: &Answer) -> Option<(PageNumber, FrameIndex)> {
+fn arrived(before: &State, answer: &Answer) -> Option<(Page, FrameIndex)> {
     let Answer::Fixed(fixed) = answer else { return None };
-    let page = fixed.handle.page;
-    let there = before.occupied().any(|(_, record)| record.page == page);
+    let page = Page::from(fixed.handle);
+    let there = before.occupied().any(|(_, record)| Page::from(record) == page);
     (!there).then_some((page, fixed.handle.frame))
 }
 
@@ -159,10 +166,10 @@ fn enter(chain: &mut Vec<FrameIndex>, frame: FrameIndex) -> Turn {
 }
 
 /// What a sweep's load met, once the victim's entry is out of its chain.
-fn swept(chains: &Chains, victim: PageNumber, page: PageNumber) -> Turn {
-    if bucket_of(victim) != bucket_of(page) {
+fn swept(chains: &Chains, victim: Page, page: Page) -> Turn {
+    if bucket_of(victim.number) != bucket_of(page.number) {
         Turn::SweptOther
-    } else if chains[bucket_of(page)].is_empty() {
+    } else if chains[bucket_of(page.number)].is_empty() {
         Turn::SweptSameAlone
     } else {
         Turn::SweptSame

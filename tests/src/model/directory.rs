@@ -1,7 +1,7 @@
 //! Request A.3, "A directory of resident pages", sentence by sentence. A chain is read off the bytes as a list of frames, and a
 //! changed list is put back as bytes.
-use super::occupied;
-use crate::records::{FrameIndex, PageNumber, Pool, State, BUCKETS, DIRECTORY_SIZE, MOST_FRAMES};
+use super::{occupied, page_in};
+use crate::records::{FrameIndex, Page, PageNumber, Pool, State, BUCKETS, DIRECTORY_SIZE, MOST_FRAMES};
 
 /// "bucket p mod 67"
 pub fn bucket_of(page: PageNumber) -> usize {
@@ -78,13 +78,7 @@ fn standing(directory: &[u8], bucket: usize) -> Vec<FrameIndex> {
     chain(directory, bucket).expect("a directory that agrees with the records")
 }
 
-/// "Open leaves page 0 alone in it."
-pub fn begin(directory: &mut [u8]) {
-    directory.fill(0);
-    put_chain(directory, bucket_of(PageNumber(0)), &[FrameIndex(0)]);
-}
-
-/// "an entry added at its chain's head on loading"
+/// "an entry added at its chain's head on loading"; request A.11: so are the roots, by open, from store 0 on.
 pub fn enter(directory: &mut [u8], page: PageNumber, frame: FrameIndex) {
     let mut frames = standing(directory, bucket_of(page));
     frames.insert(0, frame);
@@ -100,10 +94,10 @@ pub fn take_out(directory: &mut [u8], page: PageNumber, frame: FrameIndex) {
 }
 
 /// The frame of a page by its chain, and "the entries compared: the place of the page's entry in its chain, from 1, or the chain's
-/// length if absent".
-pub fn seek(pool: &Pool, directory: &[u8], page: PageNumber) -> (Option<FrameIndex>, u16) {
-    let frames = standing(directory, bucket_of(page));
-    match frames.iter().position(|frame| pool.record(*frame).page == page) {
+/// length if absent". Entries of all stores share the chains.
+pub fn seek(pool: &Pool, directory: &[u8], page: Page) -> (Option<FrameIndex>, u16) {
+    let frames = standing(directory, bucket_of(page.number));
+    match frames.iter().position(|frame| page_in(pool, *frame) == page) {
         Some(before) => (Some(frames[before]), before as u16 + 1),
         None => (None, frames.len() as u16),
     }

@@ -1,6 +1,6 @@
 //! Records that are drawn, request A.10: their ranges, and what they show.
-use super::occupied;
 use super::workload::{undone, LINK};
+use super::{is_root, occupied};
 use crate::ensure;
 use crate::pool::Refusal;
 use crate::records::{Entry, FrameIndex, Generator, State, LEAST_FRAMES};
@@ -18,7 +18,7 @@ pub enum Drawing {
     LastPage,
     LastSlot,
     LastOffset,
-    /// A link with the frame of the root, of another page, or of none.
+    /// A link with the frame of a root, of another page, or of none.
     LinkToRoot,
     LinkToOther,
     LinkToNone,
@@ -122,7 +122,7 @@ fn shown(state: &State, before: Generator, entry: &Entry) -> BTreeSet<Drawing> {
 
 /// Whose frame a link's is.
 fn linked(state: &State, frame: FrameIndex) -> Drawing {
-    if frame == FrameIndex(0) {
+    if is_root(&state.pool, frame) {
         Drawing::LinkToRoot
     } else if occupied(&state.pool).any(|other| other == frame) {
         Drawing::LinkToOther

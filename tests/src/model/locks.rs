@@ -2,17 +2,17 @@
 use super::agreement::agree;
 use super::rules::{self, rule};
 use super::taken::{reached, words_of};
-use super::{frame_of, frame_word, occupied, read, unswizzled, Reading};
+use super::{frame_of, frame_word, held, is_root, occupied, page_in, read, unswizzled, Reading};
 use crate::calls::{Answer, Call};
 use crate::ensure;
 use crate::pool::Refusal;
 use crate::records::{
-    is_marked, page_of, page_of_mut, put_word, unmarked, word_in, FrameIndex, Handle, PageNumber, Pool,
-    State, PAGE_SIZE, PAYLOAD_START, SLOTS,
+    is_marked, page_of, page_of_mut, put_word, unmarked, word_in, FrameIndex, Handle, Page, PageNumber, Pool,
+    State, Stores, PAGE_SIZE, PAYLOAD_START, SLOTS,
 };
 use std::collections::BTreeSet;
 
-/// Up to this N, a refused open's store is asked word by word for what refused it.
+/// Up to so many pages, refused stores are asked word by word for what refused them.
 const SMALL_STORE: usize = 64;
 
 /// What a call met of marks and of locked pages.
@@ -27,7 +27,7 @@ pub enum Lock {
     SameBytes,
     PageZero,
     PageBeyond,
-    /// An accepted edit of the root, whose parent fields are those of a word that is marked.
+    /// An accepted edit of a root, whose parent fields are those of a word that is marked.
     RootsFirstWord,
     /// An accepted edit of a page below a locked one, or above one.
     BelowLocked,
@@ -150,12 +150,12 @@ pub fn compare(
         met.extend(edited(before, *handle, call, answer.number())?);
     }
     match (call, answer) {
-        (Call::Open, Answer::Refused(16)) => met.extend(unsound(before)),
-        (Call::Open, Answer::Done) => met.extend(opened(after)),
-        (Call::Root, Answer::Refused(2)) => met.extend(disagreeing(before)),
+        (Call::Open(stores), Answer::Refused(16)) => met.extend(unsound(before, *stores)),
+        (Call::Open(_), Answer::Done) => met.extend(opened(after)),
+        (Call::Root(_), Answer::Refused(2)) => met.extend(disagreeing(before)),
         (Call::Fix(handle, slot), Answer::Refused(14)) => met.extend(unloadable(before, *handle, *slot)),
-        (Call::Link(_, _, page, locked), Answer::Refused(9)) => {
-            met.extend(namers(before, u32::from(*page), *locked));
+        (Call::Link(handle, _, page, locked), Answer::Refused(9)) => {
+            met.extend(namers(before, Page::from(*handle).beside(PageNumber(*page)), *locked));
         }
         (Call::Word(handle, slot), Answer::Named(named)) if named.locked => {
             let word = frame_word(&before.frames, handle.frame, *slot);
@@ -164,7 +164,7 @@ pub fn compare(
         }
         _ => (),
     }
-    if answer.accepted() && *call != Call::Open {
+    if answer.accepted() && !matches!(call, Call::Open(_)) {
         carried(before, after, call)?;
         met.extend(moved(before, after, call));
         met.extend(standing(before));
@@ -175,11 +175,12 @@ pub fn compare(
     Ok(met)
 }
 
-/// Whether the page in a frame is locked, by the records: the word that it was loaded for has the mark. There is none for the root,
-/// though its parent fields are those of its own first word.
+/// Whether the page in a frame is locked, by the records: the word that it was loaded for has the mark. There is none for a root,
+/// though its parent fields are those of the first word of store 0's.
 fn is_locked(state: &State, frame: FrameIndex) -> bool {
     let record = state.pool.record(frame);
-    frame != FrameIndex(0) && is_marked(frame_word(&state.frames, record.parent, record.slot.into()))
+    let marked = || is_marked(frame_word(&state.frames, record.parent, record.slot.into()));
+    !is_root(&state.pool, frame) && marked()
 }
 
 /// What the rules of an edit say, all but 26.
@@ -194,7 +195,7 @@ fn without_26(state: &State, call: &Call) -> Result<(), Refusal> {
             rules::handle(&state.pool, *handle)?;
             rules::slot(*slot)?;
             rules::linked_page(&state.pool, PageNumber(*page))?;
-            rules::unnamed(state, PageNumber(*page))?;
+            rules::unnamed(state, Page::from(*handle).beside(PageNumber(*page)))?;
             rule(8, frame_word(&state.frames, handle.frame, *slot) == 0)
         }
         Call::Unlink(handle, slot) => {
@@ -210,13 +211,13 @@ fn without_26(state: &State, call: &Call) -> Result<(), Refusal> {
 
 /// Whether a handle's frame holds its page, pinned or not.
 fn is_held(pool: &Pool, handle: Handle) -> bool {
-    frame_of(pool, handle.page) == Some(handle.frame)
+    frame_of(pool, Page::from(handle)) == Some(handle.frame)
 }
 
 /// What an edit of a handle's page met.
 fn edited(state: &State, handle: Handle, call: &Call, answer: Refusal) -> Result<Vec<Lock>, String> {
     let besides = without_26(state, call).err().unwrap_or(0);
-    let tested = !(1..=2).contains(&besides) && is_held(&state.pool, handle);
+    let tested = ![1, 2, 28].contains(&besides) && is_held(&state.pool, handle);
     let locked = tested && is_locked(state, handle.frame);
     let wanted = if locked && !(1..=5).contains(&besides) { 26 } else { besides };
     ensure!(answer == wanted, "{answer} and not {wanted}, locked: {locked}, and {besides} besides");
@@ -250,7 +251,7 @@ fn of_locked(state: &State, handle: Handle, call: &Call, besides: Refusal) -> Ve
 
 /// What an accepted edit met.
 fn of_unlocked(state: &State, handle: Handle, call: &Call) -> Vec<Lock> {
-    let root = FrameIndex(0);
+    let (first, root) = (FrameIndex(0), is_root(&state.pool, handle.frame));
     let (record, word) =
         (state.pool.record(handle.frame), |slot| frame_word(&state.frames, handle.frame, slot));
     let kind = match call {
@@ -259,16 +260,18 @@ fn of_unlocked(state: &State, handle: Handle, call: &Call) -> Vec<Lock> {
         _ => None,
     };
     let mut met: Vec<Lock> = kind.into_iter().collect();
-    met.extend((handle.frame == root && is_marked(word(0))).then_some(Lock::RootsFirstWord));
-    met.extend((handle.frame != root && is_locked(state, record.parent)).then_some(Lock::BelowLocked));
+    let marked = is_marked(frame_word(&state.frames, first, 0));
+    met.extend((root && marked).then_some(Lock::RootsFirstWord));
+    met.extend((!root && is_locked(state, record.parent)).then_some(Lock::BelowLocked));
     met.extend((0..SLOTS).any(|slot| is_marked(word(slot))).then_some(Lock::AboveLocked));
     met
 }
 
 /// The marked words that name the page of a link, which has the mark or not.
-fn namers(state: &State, number: u32, locked: bool) -> Vec<Lock> {
+fn namers(state: &State, page: Page, locked: bool) -> Vec<Lock> {
+    let number = u32::from(page.number);
     let names_it = |word: u32| is_marked(word) && unmarked(unswizzled(&state.pool, word)) == number;
-    let resident = occupied(&state.pool)
+    let resident = held(&state.pool, page.store)
         .flat_map(|frame| (0..SLOTS).map(move |slot| frame_word(&state.frames, frame, slot)))
         .filter(|word| names_it(*word));
     let mut met: Vec<Lock> = resident
@@ -277,10 +280,10 @@ fn namers(state: &State, number: u32, locked: bool) -> Vec<Lock> {
             _ => Lock::NamedByNumber(locked),
         })
         .collect();
-    let mut stored =
-        (0..state.pool.pages).map(PageNumber).filter(|page| frame_of(&state.pool, *page).is_none());
+    let others = (0..state.pool.pages).map(|other| page.beside(PageNumber(other)));
+    let mut stored = others.filter(|other| frame_of(&state.pool, *other).is_none());
     let in_store =
-        stored.any(|page| words_of(state, page).any(|word| is_marked(word) && unmarked(word) == number));
+        stored.any(|other| words_of(state, other).any(|word| is_marked(word) && unmarked(word) == number));
     met.extend(in_store.then_some(Lock::NamedInStore(locked)));
     met
 }
@@ -289,10 +292,10 @@ fn namers(state: &State, number: u32, locked: bool) -> Vec<Lock> {
 /// unless it is edited. A page that comes in has its stored words, and one that leaves dirty leaves those of its image.
 fn carried(before: &State, after: &State, call: &Call) -> Result<(), String> {
     let edited = match call {
-        Call::Link(handle, ..) | Call::Unlink(handle, _) => Some(handle.page),
+        Call::Link(handle, ..) | Call::Unlink(handle, _) => Some(Page::from(*handle)),
         _ => None,
     };
-    for page in (0..before.pool.pages).map(PageNumber) {
+    for page in all_pages(before) {
         let (was, is) = (frame_of(&before.pool, page), frame_of(&after.pool, page));
         let dirty = was.is_some_and(|frame| before.pool.record(frame).is_dirty());
         let written = was.is_none() || is.is_some() || dirty;
@@ -301,6 +304,13 @@ fn carried(before: &State, after: &State, call: &Call) -> Result<(), String> {
         }
     }
     Ok(())
+}
+
+/// The pages of all stores.
+fn all_pages(state: &State) -> impl Iterator<Item = Page> + '_ {
+    let numbers =
+        move |store| (0..state.pool.pages).map(move |number| Page { store, number: PageNumber(number) });
+    state.store_numbers().flat_map(numbers)
 }
 
 /// Whether a page has a marked word of a kind.
@@ -320,7 +330,7 @@ fn is_frame(word: Reading) -> bool {
 /// What pages that came in and left met.
 fn moved(before: &State, after: &State, call: &Call) -> BTreeSet<Lock> {
     let gone = |from: &State, to: &State| -> Vec<FrameIndex> {
-        let stays = |frame: &FrameIndex| frame_of(&to.pool, from.pool.record(*frame).page).is_some();
+        let stays = |frame: &FrameIndex| frame_of(&to.pool, page_in(&from.pool, *frame)).is_some();
         occupied(&from.pool).filter(|frame| !stays(frame)).collect()
     };
     let mut met = BTreeSet::new();
@@ -329,7 +339,7 @@ fn moved(before: &State, after: &State, call: &Call) -> BTreeSet<Lock> {
         met.extend(is_locked(after, after.pool.record(frame).parent).then_some(Lock::CameBelowLocked));
     }
     let (locked, below) = match call {
-        Call::Evict(_) => (Lock::LockedEvicted, Lock::EvictedBelowLocked),
+        Call::Evict(..) => (Lock::LockedEvicted, Lock::EvictedBelowLocked),
         _ => (Lock::LockedSwept, Lock::SweptBelowLocked),
     };
     for frame in gone(before, after) {
@@ -367,15 +377,17 @@ fn standing(state: &State) -> BTreeSet<Lock> {
     met
 }
 
-/// What the store of a pool just opened has.
+/// What the stores of a pool just opened have.
 fn opened(state: &State) -> BTreeSet<Lock> {
-    let (mut met, reached) = (BTreeSet::new(), reached(state));
-    for page in 0..state.pool.pages {
-        let words = (0..).zip(words_of(state, PageNumber(page)));
+    let mut met = BTreeSet::new();
+    let below: BTreeSet<Page> =
+        state.store_numbers().flat_map(|store| reached(state, Page::root(store))).collect();
+    for page in all_pages(state) {
+        let words = (0..).zip(words_of(state, page));
         for (slot, word) in words.filter(|(_, word)| is_marked(*word)) {
-            met.extend(((page, slot) == (0, 0)).then_some(Lock::OpenedFirstWord));
-            met.extend((!reached.contains(&page)).then_some(Lock::OpenedOutOfReach));
-            met.extend((unmarked(word) == u32::from(page)).then_some(Lock::OpenedSelf));
+            met.extend((page.is_root() && slot == 0).then_some(Lock::OpenedFirstWord));
+            met.extend((!below.contains(&page)).then_some(Lock::OpenedOutOfReach));
+            met.extend((unmarked(word) == u32::from(page.number)).then_some(Lock::OpenedSelf));
         }
     }
     met
@@ -422,18 +434,19 @@ fn disagreeing(state: &State) -> BTreeSet<Lock> {
 }
 
 fn unloadable(state: &State, handle: Handle, slot: usize) -> BTreeSet<Lock> {
-    let page = unmarked(frame_word(&state.frames, handle.frame, slot)) as u16;
+    let number = unmarked(frame_word(&state.frames, handle.frame, slot)) as u16;
+    let page = Page::from(handle).beside(PageNumber(number));
     let holds = |store: &[u8]| {
         let state = State { store: store.to_vec(), ..state.clone() };
-        rules::loadable(&state, PageNumber(page)).is_ok()
+        rules::loadable(&state, page).is_ok()
     };
-    reasons(&state.store, [usize::from(page)].into_iter(), 14, holds)
+    reasons(&state.store, [page.place(state.pool.pages)].into_iter(), 14, holds)
 }
 
-fn unsound(state: &State) -> BTreeSet<Lock> {
+fn unsound(state: &State, stores: Stores) -> BTreeSet<Lock> {
     let pages = state.store.len() / PAGE_SIZE;
     if pages > SMALL_STORE {
         return BTreeSet::new();
     }
-    reasons(&state.store, 0..pages, 16, |store| rules::sound(store).is_ok())
+    reasons(&state.store, 0..pages, 16, |store| rules::sound(store, stores.count).is_ok())
 }

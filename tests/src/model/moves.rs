@@ -1,14 +1,14 @@
 //! Images, pages that leave a frame or come into one, and the sweep.
-use super::{directory, has_swizzled, occupied, swizzled_to, unswizzled};
+use super::{at_ceiling, directory, has_swizzled, is_root, occupied, swizzled_to, unswizzled};
 use crate::pool::Refusal;
 use crate::records::{
-    mark_of, page_of, page_of_mut, put_word, word_in, FrameIndex, FrameRecord, PageNumber, State, MAX_USAGE,
-    SLOTS,
+    mark_of, page_of, page_of_mut, put_word, word_in, FrameIndex, FrameRecord, Page, State, StoreNumber,
+    MAX_USAGE, SLOTS,
 };
 
 /// "The image of a resident page is its bytes with each swizzled word replaced by the number of the page
 /// in that frame."
-fn image(state: &State, frame: FrameIndex) -> Vec<u8> {
+pub fn image(state: &State, frame: FrameIndex) -> Vec<u8> {
     let mut page = page_of(&state.frames, frame.into()).to_vec();
     for slot in 0..SLOTS {
         let word = word_in(&page, slot);
@@ -17,18 +17,18 @@ fn image(state: &State, frame: FrameIndex) -> Vec<u8> {
     page
 }
 
-/// Writes the image of the page in a frame to the store, if it is dirty.
+/// Writes the image of the page in a frame to its store, if it is dirty.
 pub fn write_out(state: &mut State, frame: FrameIndex) {
     let record = *state.pool.record(frame);
     if record.is_dirty() {
-        let image = image(state, frame);
-        page_of_mut(&mut state.store, record.page.into()).copy_from_slice(&image);
+        let (image, place) = (image(state, frame), Page::from(&record).place(state.pool.pages));
+        page_of_mut(&mut state.store, place).copy_from_slice(&image);
     }
 }
 
-/// The page in an occupied frame isn't the root, isn't pinned, and has no swizzled word.
+/// The page in an occupied frame isn't a root, isn't pinned, and has no swizzled word.
 pub fn evictable(state: &State, frame: FrameIndex) -> bool {
-    frame != FrameIndex(0) && state.pool.record(frame).pins == 0 && !has_swizzled(state, frame)
+    !is_root(&state.pool, frame) && state.pool.record(frame).pins == 0 && !has_swizzled(state, frame)
 }
 
 /// Puts another name into a word. Request A.8: "Loading, eviction, settling, splitting .. carry" its mark.
@@ -47,19 +47,30 @@ pub fn evict(state: &mut State, frame: FrameIndex) {
 }
 
 /// Loads a page into an empty frame, for a slot of its parent's frame.
-pub fn load(state: &mut State, page: PageNumber, frame: FrameIndex, parent: FrameIndex, slot: usize) {
-    page_of_mut(&mut state.frames, frame.into()).copy_from_slice(page_of(&state.store, page.into()));
+pub fn load(state: &mut State, page: Page, frame: FrameIndex, parent: FrameIndex, slot: usize) {
+    let place = page.place(state.pool.pages);
+    page_of_mut(&mut state.frames, frame.into()).copy_from_slice(page_of(&state.store, place));
     rename(page_of_mut(&mut state.frames, parent.into()), slot, swizzled_to(frame));
-    directory::enter(&mut state.directory, page, frame);
-    *state.pool.record_mut(frame) =
-        FrameRecord { used: 1, dirty: 0, usage: 1, slot: slot as u8, parent, pins: 1, page };
+    directory::enter(&mut state.directory, page.number, frame);
+    *state.pool.record_mut(frame) = loaded(page, parent, slot);
 }
 
-/// An empty frame for a load, and the looks that it took; 15 where there is none.
-pub fn make_room(state: &mut State) -> Result<(FrameIndex, u16), Refusal> {
+/// The record of a page that was loaded for a slot of its parent's frame.
+pub fn loaded(page: Page, parent: FrameIndex, slot: usize) -> FrameRecord {
+    let Page { store, number } = page;
+    FrameRecord { used: 1, dirty: 0, usage: 1, slot: slot as u8, parent, store, pins: 1, page: number }
+}
+
+/// An empty frame for a load of a store's page, and the looks that it took; 15 or 27 where there is none. Request A.11: "A store at
+/// its ceiling sweeps its own pages only, even where frames are empty; any other frame costs a look and is left unchanged. Below it,
+/// loading goes as in 01".
+pub fn make_room(state: &mut State, store: StoreNumber) -> Result<(FrameIndex, u16), Refusal> {
+    if at_ceiling(&state.pool, store) {
+        return sweep(state, |record| record.is_used() && record.store == store).ok_or(27);
+    }
     match first_empty(state) {
         Some(frame) => Ok((frame, 0)),
-        None => sweep(state),
+        None => sweep(state, |_| true).ok_or(15),
     }
 }
 
@@ -72,23 +83,28 @@ fn first_empty(state: &State) -> Option<FrameIndex> {
 
 /// "The root, a pinned page and a page with a swizzled word are passed over. Any other with heat above 0 loses 1. One with heat
 /// 0 is evicted and its frame used." Request A.5: "Each look of a sweep that passes over a pinned page other than the root raises
-/// its heat by one, to 3 at most. Pages passed over for children alone keep their heat."
-fn sweep(state: &mut State) -> Result<(FrameIndex, u16), Refusal> {
+/// its heat by one, to 3 at most. Pages passed over for children alone keep their heat." Request A.11: a frame whose record takes no
+/// part "costs a look and is left unchanged".
+fn sweep(state: &mut State, takes_part: impl Fn(&FrameRecord) -> bool) -> Option<(FrameIndex, u16)> {
     let mut pool = state.pool;
     for looks in 1..=4 * pool.count {
         let frame = pool.hand;
         pool.hand = FrameIndex(((u16::from(frame.0) + 1) % pool.count) as u8);
+        let root = is_root(&pool, frame);
         let record = pool.record_mut(frame);
+        if !takes_part(record) {
+            continue;
+        }
         if evictable(state, frame) {
             if record.usage == 0 {
                 state.pool = pool;
                 evict(state, frame);
-                return Ok((frame, looks));
+                return Some((frame, looks));
             }
             record.usage -= 1;
-        } else if frame != FrameIndex(0) && record.pins > 0 {
+        } else if !root && record.pins > 0 {
             record.usage = MAX_USAGE.min(record.usage + 1);
         }
     }
-    Err(15)
+    None
 }

@@ -1,11 +1,11 @@
 //! Document 01, "Numbered denials", with document 02's: what each rule tests. A rule broken is its number.
 use super::agreement::{agree, all_distinct};
 use super::directory;
-use super::{frame_of, is_locked, occupied, read, unswizzled, Reading};
+use super::{frame_of, held, is_locked, page_in, read, unswizzled, Reading};
 use crate::pool::Refusal;
 use crate::records::{
-    page_of, unmarked, word_in, FrameIndex, Handle, PageNumber, Pool, State, LEAST_FRAMES, MOST_FRAMES,
-    MOST_PAGES, PAGE_SIZE, PAYLOAD_SIZE, SLOTS,
+    page_of, stores_of, unmarked, word_in, FrameIndex, Handle, Page, PageNumber, Pool, State, StoreNumber,
+    Stores, LEAST_FRAMES, MOST_FRAMES, MOST_PAGES, MOST_STORES, PAGE_SIZE, PAYLOAD_SIZE, SLOTS,
 };
 
 pub fn rule(number: Refusal, kept: bool) -> Result<(), Refusal> {
@@ -16,11 +16,20 @@ pub fn rule(number: Refusal, kept: bool) -> Result<(), Refusal> {
     }
 }
 
-/// 1, for open: "Frames or store have a length other than those above."
-pub fn lengths_in_range(frames: &[u8], store: &[u8]) -> Result<(), Refusal> {
-    let is = |bytes: &[u8], count: usize| bytes.len() == PAGE_SIZE * count;
-    rule(1, (LEAST_FRAMES..=MOST_FRAMES).any(|count| is(frames, count)))?;
-    rule(1, (1..=MOST_PAGES).any(|pages| is(store, pages)))
+/// 1, for open: "Frames or store have a length other than those above." Request A.11: "T is 1 to 4 and F at least T + 1. Every store
+/// has a ceiling of 1 to F resident pages, its root included"; "0 for no store"; "Figures outside these fall under refusal 1". Gives F
+/// and N.
+pub fn figures(frames: &[u8], store: &[u8], stores: Stores) -> Result<(u16, u16), Refusal> {
+    let is = |bytes: &[u8], pages: usize| bytes.len() == PAGE_SIZE * pages;
+    let stored = usize::from(stores.count);
+    rule(1, (1..=MOST_STORES).contains(&stored))?;
+    let count = (LEAST_FRAMES..=MOST_FRAMES).find(|count| is(frames, *count)).ok_or(1)?;
+    let pages = (1..=MOST_PAGES).find(|pages| is(store, stored * pages)).ok_or(1)?;
+    rule(1, count > stored)?;
+    let (own, none) = stores.ceilings.split_at(stored);
+    rule(1, own.iter().all(|ceiling| (1..=count).contains(&usize::from(*ceiling))))?;
+    rule(1, none.iter().all(|ceiling| *ceiling == 0))?;
+    Ok((count as u16, pages as u16))
 }
 
 /// 1, by request A.3: "A directory of wrong length falls under refusal 1".
@@ -28,12 +37,11 @@ pub fn directory_length(directory: &[u8]) -> Result<(), Refusal> {
     rule(1, directory::has_its_length(directory))
 }
 
-/// 1: "or other than at opening."
+/// 1: "or other than at opening.", with the figures that "stand beside F and N".
 fn lengths(state: &State) -> Result<(), Refusal> {
-    lengths_in_range(&state.frames, &state.store)?;
+    let opened = figures(&state.frames, &state.store, stores_of(&state.pool))?;
     directory_length(&state.directory)?;
-    rule(1, state.frames.len() == PAGE_SIZE * usize::from(state.pool.count))?;
-    rule(1, state.store.len() == PAGE_SIZE * usize::from(state.pool.pages))
+    rule(1, opened == (state.pool.count, state.pool.pages))
 }
 
 /// 1, and 2: "Records and frames don't agree (every call but open)." Request A.3: nor may the directory.
@@ -43,11 +51,17 @@ pub fn state(state: &State) -> Result<(), Refusal> {
     rule(2, directory::agrees(&state.pool, &state.directory))
 }
 
-/// 3: "The handle's frame index isn't below F, that frame doesn't hold its page, or its pins are 0."
+/// 28: "the store number isn't below T, after 2".
+pub fn store(pool: &Pool, store: StoreNumber) -> Result<(), Refusal> {
+    rule(28, store.0 < pool.stores)
+}
+
+/// 28, and 3: "The handle's frame index isn't below F, that frame doesn't hold its page, or its pins are 0."
 pub fn handle(pool: &Pool, handle: Handle) -> Result<(), Refusal> {
+    store(pool, handle.store)?;
     rule(3, u16::from(handle.frame.0) < pool.count)?;
     let record = pool.record(handle.frame);
-    rule(3, record.is_used() && record.page == handle.page && record.pins != 0)
+    rule(3, record.is_used() && page_in(pool, handle.frame) == Page::from(handle) && record.pins != 0)
 }
 
 /// 4: "The slot is above 15."
@@ -77,11 +91,13 @@ pub fn linked_page(pool: &Pool, page: PageNumber) -> Result<(), Refusal> {
 }
 
 /// 9: "Link's page is already named by a word of any page, resident pages taken by their images and the
-/// others from the store."
-pub fn unnamed(state: &State, page: PageNumber) -> Result<(), Refusal> {
-    let named = (0..state.pool.pages).map(PageNumber).any(|other| match frame_of(&state.pool, other) {
-        Some(frame) => image_names(state, frame, page.into()),
-        None => names(page_of(&state.store, other.into()), page.into()),
+/// others from the store.", of the pages of its store.
+pub fn unnamed(state: &State, page: Page) -> Result<(), Refusal> {
+    let number = u32::from(page.number);
+    let others = (0..state.pool.pages).map(|other| page.beside(PageNumber(other)));
+    let named = others.into_iter().any(|other| match frame_of(&state.pool, other) {
+        Some(frame) => image_names(state, frame, number),
+        None => names(page_of(&state.store, other.place(state.pool.pages)), number),
     });
     rule(9, !named)
 }
@@ -98,9 +114,9 @@ pub fn image_names(state: &State, frame: FrameIndex, number: u32) -> bool {
 }
 
 /// 14: "The stored page to be loaded has a word with bit 31 set, not below N, repeated within it, or
-/// naming a page that a resident page already names." Request A.8: bit 30 "on a word of otherwise 0".
-pub fn loadable(state: &State, page: PageNumber) -> Result<(), Refusal> {
-    let stored = page_of(&state.store, page.into());
+/// naming a page that a resident page already names.", one of its store. Request A.8: bit 30 "on a word of otherwise 0".
+pub fn loadable(state: &State, page: Page) -> Result<(), Refusal> {
+    let stored = page_of(&state.store, page.place(state.pool.pages));
     let mut numbers = Vec::new();
     for slot in 0..SLOTS {
         match read(word_in(stored, slot)) {
@@ -111,13 +127,18 @@ pub fn loadable(state: &State, page: PageNumber) -> Result<(), Refusal> {
     }
     rule(14, numbers.iter().all(|number| *number < state.pool.pages.into()))?;
     rule(14, all_distinct(&numbers))?;
-    let named = |number: &u32| occupied(&state.pool).any(|frame| image_names(state, frame, *number));
+    let named = |number: &u32| held(&state.pool, page.store).any(|frame| image_names(state, frame, *number));
     rule(14, !numbers.iter().any(named))
 }
 
 /// 16: "every word is 0 or a page number from 1 to N − 1 and no number stands in two words." Request A.8: "Opening accepts bit 30
-/// on a word naming a page and denies it on a word of otherwise 0".
-pub fn sound(store: &[u8]) -> Result<(), Refusal> {
+/// on a word naming a page and denies it on a word of otherwise 0". Request A.11: "16 is for any of them".
+pub fn sound(store: &[u8], stores: u8) -> Result<(), Refusal> {
+    store.chunks(store.len() / usize::from(stores)).try_for_each(sound_by_itself)
+}
+
+/// One store is.
+fn sound_by_itself(store: &[u8]) -> Result<(), Refusal> {
     let pages = store.len() / PAGE_SIZE;
     let mut numbers = Vec::new();
     for (page, slot) in (0..pages).flat_map(|page| (0..SLOTS).map(move |slot| (page, slot))) {

@@ -5,7 +5,7 @@ use super::rules;
 use crate::calls::Answer;
 use crate::ensure;
 use crate::pool::{Buffer, Found};
-use crate::records::{FrameIndex, PageNumber, State, PAGE_SIZE, PAYLOAD_SIZE, PAYLOAD_START};
+use crate::records::{FrameIndex, Page, State, PAGE_SIZE, PAYLOAD_SIZE, PAYLOAD_START};
 
 /// What a find met in the page's chain.
 #[derive(Clone, Copy, Debug, PartialEq, Eq, PartialOrd, Ord)]
@@ -40,20 +40,22 @@ impl Met {
 }
 
 /// The frames that hold a page by the records, and by no directory.
-fn holders(state: &State, page: PageNumber) -> Vec<FrameIndex> {
-    state.occupied().filter(|(_, record)| record.page == page).map(|(frame, _)| frame).collect()
+fn holders(state: &State, page: Page) -> Vec<FrameIndex> {
+    state.occupied().filter(|(_, record)| Page::from(*record) == page).map(|(frame, _)| frame).collect()
 }
 
 /// The one frame that holds a page.
-fn holder(state: &State, page: PageNumber) -> Result<Option<FrameIndex>, String> {
+pub fn holder(state: &State, page: Page) -> Result<Option<FrameIndex>, String> {
     let holders = holders(state, page);
     ensure!(holders.len() <= 1, "\"A page sits in one frame at most\", and {page} in {holders:?}");
     Ok(holders.first().copied())
 }
 
 /// Whether a find or a peek breaks a rule, by whose number it is then refused.
-fn refused(state: &State, page: PageNumber, answer: &Answer) -> Result<bool, String> {
-    let kept = rules::state(state).and_then(|()| rules::page(&state.pool, page));
+fn refused(state: &State, page: Page, answer: &Answer) -> Result<bool, String> {
+    let kept = rules::state(state)
+        .and_then(|()| rules::store(&state.pool, page.store))
+        .and_then(|()| rules::page(&state.pool, page.number));
     let Err(number) = kept else { return Ok(false) };
     ensure!(*answer == Answer::Refused(number), "{answer:?}, and by the frames refused by {number}");
     Ok(true)
@@ -61,7 +63,7 @@ fn refused(state: &State, page: PageNumber, answer: &Answer) -> Result<bool, Str
 
 /// Find "agrees with the frames", and its count is the place of the entry, or the number of resident pages with that remainder,
 /// which it is "never above". Gives what it met unless it is refused. That it leaves all as it was, `lockstep` compares.
-pub fn compare_find(state: &State, page: PageNumber, answer: &Answer) -> Result<Option<Met>, String> {
+pub fn compare_find(state: &State, page: Page, answer: &Answer) -> Result<Option<Met>, String> {
     if refused(state, page, answer)? {
         return Ok(None);
     }
@@ -72,10 +74,10 @@ pub fn compare_find(state: &State, page: PageNumber, answer: &Answer) -> Result<
 }
 
 /// The same for an accepted find.
-pub fn check(state: &State, page: PageNumber, found: Found) -> Result<Met, String> {
+pub fn check(state: &State, page: Page, found: Found) -> Result<Met, String> {
     let holder = holder(state, page)?;
     ensure!(found.frame == holder, "page {page} found at {:?}, and in frame {holder:?}", found.frame);
-    let sharing = residents(&state.pool, bucket_of(page)).len() as u16;
+    let sharing = residents(&state.pool, bucket_of(page.number)).len() as u16;
     let compared = found.compared;
     ensure!(compared <= sharing, "{compared} compared for {page}, of {sharing} with its remainder");
     match holder {
@@ -91,8 +93,8 @@ pub fn check(state: &State, page: PageNumber, found: Found) -> Result<Met, Strin
 }
 
 /// The frame of the so-manyth entry in a page's chain: byte by byte.
-fn nth(state: &State, page: PageNumber, place: u16) -> Option<FrameIndex> {
-    let first = state.directory.get(bucket_of(page))?.checked_sub(1).map(FrameIndex)?;
+fn nth(state: &State, page: Page, place: u16) -> Option<FrameIndex> {
+    let first = state.directory.get(bucket_of(page.number))?.checked_sub(1).map(FrameIndex)?;
     (1..place)
         .try_fold(first, |frame, _| state.directory.get(byte_after(frame))?.checked_sub(1).map(FrameIndex))
 }
@@ -112,7 +114,7 @@ fn met(found: Found, sharing: u16) -> Met {
 }
 
 /// Peek's payload is the frame's where a record has the page, and otherwise the store's.
-pub fn compare_peek(state: &State, page: PageNumber, answer: &Answer) -> Result<(), String> {
+pub fn compare_peek(state: &State, page: Page, answer: &Answer) -> Result<(), String> {
     if refused(state, page, answer)? {
         return Ok(());
     }
@@ -121,7 +123,7 @@ pub fn compare_peek(state: &State, page: PageNumber, answer: &Answer) -> Result<
     };
     let (buffer, index) = match holder(state, page)? {
         Some(frame) => (Buffer::Frames, usize::from(frame)),
-        None => (Buffer::Store, usize::from(page)),
+        None => (Buffer::Store, page.place(state.pool.pages)),
     };
     let wanted = (buffer, PAGE_SIZE * index + PAYLOAD_START, PAYLOAD_SIZE);
     ensure!((place.buffer, place.start, place.size) == wanted, "{place:?}, and by the frames {wanted:?}");

@@ -1,8 +1,8 @@
 //! Resident pages that evict refuses, request A.4.
-use super::{frame_of, moves, occupied, rules};
+use super::{frame_of, is_root, moves, occupied, rules};
 use crate::ensure;
 use crate::pool::Refusal;
-use crate::records::{FrameIndex, PageNumber, State};
+use crate::records::{FrameIndex, Page, State};
 
 /// Why a resident page stays in its frame. A parent is a page with a resident child, a leaf has none.
 #[derive(Clone, Copy, Debug, PartialEq, Eq, PartialOrd, Ord)]
@@ -39,7 +39,7 @@ impl Stay {
 
 /// Where no rule before them is broken, evict answers 20, 21 or 22 exactly where a look of the sweep passes the frame over, and
 /// otherwise is accepted. Gives why the page stays.
-pub fn compare(state: &State, page: PageNumber, answer: Refusal) -> Result<Option<Stay>, String> {
+pub fn compare(state: &State, page: Page, answer: Refusal) -> Result<Option<Stay>, String> {
     let frame = match resident(state, page) {
         Ok(frame) => frame,
         Err(number) => {
@@ -55,18 +55,18 @@ pub fn compare(state: &State, page: PageNumber, answer: Refusal) -> Result<Optio
 }
 
 /// The page's frame, by the rules before 20.
-fn resident(state: &State, page: PageNumber) -> Result<FrameIndex, Refusal> {
+fn resident(state: &State, page: Page) -> Result<FrameIndex, Refusal> {
     rules::state(state)?;
-    rules::page(&state.pool, page)?;
+    rules::store(&state.pool, page.store)?;
+    rules::page(&state.pool, page.number)?;
     frame_of(&state.pool, page).ok_or(11)
 }
 
 /// Why the page in a frame stays, by the records alone: it is a parent where another's record says so.
 pub fn stay(state: &State, frame: FrameIndex) -> Option<Stay> {
-    let root = FrameIndex(0);
-    let mut children = occupied(&state.pool).filter(|child| *child != root);
+    let mut children = occupied(&state.pool).filter(|child| !is_root(&state.pool, *child));
     let parent = children.any(|child| state.pool.record(child).parent == frame);
-    match (frame == root, state.pool.record(frame).pins > 0, parent) {
+    match (is_root(&state.pool, frame), state.pool.record(frame).pins > 0, parent) {
         (true, false, false) => Some(Stay::LeafRoot),
         (true, true, false) => Some(Stay::PinnedLeafRoot),
         (true, false, true) => Some(Stay::ParentRoot),

@@ -1,9 +1,9 @@
 //! Links into a taken slot, request A.9. Document 01's order, 8 before 9, is kept here for the comparison alone.
 use super::rules::{self, image_names, rule};
-use super::{frame_of, frame_word, occupied, unswizzled};
+use super::{frame_of, frame_word, held, unswizzled};
 use crate::ensure;
 use crate::pool::Refusal;
-use crate::records::{page_of, unmarked, word_in, Handle, PageNumber, State, SLOTS, SWIZZLE_BIT};
+use crate::records::{page_of, unmarked, word_in, Handle, Page, PageNumber, State, SLOTS, SWIZZLE_BIT};
 use std::collections::BTreeSet;
 
 /// What names the page of a link into a taken slot.
@@ -59,11 +59,12 @@ fn in_former_order(state: &State, handle: Handle, slot: usize, page: PageNumber)
     rules::unlocked(state, handle)?;
     rules::linked_page(&state.pool, page)?;
     rule(8, frame_word(&state.frames, handle.frame, slot) == 0)?;
-    rules::unnamed(state, page)
+    rules::unnamed(state, Page::from(handle).beside(page))
 }
 
 fn namer(state: &State, handle: Handle, slot: usize, page: PageNumber) -> Namer {
     let (word, number) = (frame_word(&state.frames, handle.frame, slot), u32::from(page));
+    let page = Page::from(handle).beside(page);
     if unmarked(unswizzled(&state.pool, word)) == number {
         if word >= SWIZZLE_BIT {
             Namer::SwizzledThere
@@ -72,37 +73,38 @@ fn namer(state: &State, handle: Handle, slot: usize, page: PageNumber) -> Namer 
         }
     } else if rules::unnamed(state, page).is_ok() {
         Namer::Nothing
-    } else if occupied(&state.pool).any(|frame| image_names(state, frame, number)) {
+    } else if held(&state.pool, page.store).any(|frame| image_names(state, frame, number)) {
         Namer::Resident
-    } else if named_in_reach(state, number) {
+    } else if named_in_reach(state, page) {
         Namer::Stored
     } else {
         Namer::OutOfReach
     }
 }
 
-/// The root or a page below it names a page.
-fn named_in_reach(state: &State, number: u32) -> bool {
-    let names_it = |page| words_of(state, PageNumber(page)).any(|word| unmarked(word) == number);
-    reached(state).into_iter().any(names_it)
+/// The root of its store, or a page below that, names a page.
+fn named_in_reach(state: &State, page: Page) -> bool {
+    let names_it = |other| words_of(state, other).any(|word| unmarked(word) == u32::from(page.number));
+    reached(state, Page::root(page.store)).into_iter().any(names_it)
 }
 
-/// The root and the pages below it.
-pub fn reached(state: &State) -> BTreeSet<u16> {
-    let (mut reached, mut next) = (BTreeSet::from([0]), vec![0]);
+/// A root and the pages below it.
+pub fn reached(state: &State, root: Page) -> BTreeSet<Page> {
+    let (mut reached, mut next) = (BTreeSet::from([root]), vec![root]);
     while let Some(page) = next.pop() {
-        let named = words_of(state, PageNumber(page)).map(unmarked);
-        let pages = named.filter(|page| *page < state.pool.pages.into());
-        next.extend(pages.map(|page| page as u16).filter(|page| reached.insert(*page)));
+        let named = words_of(state, page).map(unmarked);
+        let pages = named.filter(|number| *number < state.pool.pages.into());
+        let pages = pages.map(|number| root.beside(PageNumber(number as u16)));
+        next.extend(pages.filter(|page| reached.insert(*page)));
     }
     reached
 }
 
-/// The words of a page: those of its image if it is resident, otherwise those in the store.
-pub fn words_of(state: &State, page: PageNumber) -> impl Iterator<Item = u32> + '_ {
-    let frame = frame_of(&state.pool, page);
+/// The words of a page: those of its image if it is resident, otherwise those in its store.
+pub fn words_of(state: &State, page: Page) -> impl Iterator<Item = u32> + '_ {
+    let (frame, place) = (frame_of(&state.pool, page), page.place(state.pool.pages));
     (0..SLOTS).map(move |slot| match frame {
         Some(frame) => unswizzled(&state.pool, frame_word(&state.frames, frame, slot)),
-        None => word_in(page_of(&state.store, page.into()), slot),
+        None => word_in(page_of(&state.store, place), slot),
     })
 }

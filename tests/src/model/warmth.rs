@@ -1,11 +1,12 @@
-//! Usages that a fix leaves, request A.5. Document 01's sweep is kept here for the comparison alone.
-use super::moves::evictable;
-use super::occupied;
+//! Usages that a fix leaves, request A.5. Document 01's sweep is kept here for the comparison alone, with the frames that take part
+//! in it by request A.11.
+use super::moves::{evictable, loaded};
 use super::stays::{stay, Stay};
+use super::{at_ceiling, held, occupied};
 use crate::calls::Answer;
 use crate::ensure;
 use crate::pool::Fixed;
-use crate::records::{FrameIndex, FrameRecord, Handle, Pool, State, MAX_USAGE};
+use crate::records::{FrameIndex, Handle, Page, Pool, State, StoreNumber, MAX_USAGE};
 use std::collections::BTreeSet;
 
 /// What a fix did to the usage of a page that was there. One that it left as it was had less than 3, so that a raise would show.
@@ -25,7 +26,7 @@ pub enum Warmth {
     PartialRound,
     /// A sweep ended before its first look at a pinned page.
     NotReached,
-    /// A look left the pinned root.
+    /// A look left a pinned root.
     PinnedRoot,
     /// A look left a page with a resident child and no pins.
     Parent,
@@ -74,21 +75,31 @@ pub fn compare(
             let kind = if hit { Warmth::Hit } else { Warmth::EmptyFrame };
             Ok(left(before, fixed.handle.frame, kind))
         }
-        Answer::Refused(15) => {
-            ensure!(former_sweep(before).is_none(), "denied, and document 01's sweep takes a frame");
+        Answer::Refused(15 | 27) => {
+            let taken = former_sweep(before, handle.store);
+            ensure!(taken.is_none(), "denied, and document 01's sweep takes a frame");
             Ok(left(before, FrameIndex(0), Warmth::Denied))
         }
         _ => Ok(BTreeSet::new()),
     }
 }
 
+/// The frames that take part in a sweep for a store: those of its own pages where it is at its ceiling, and otherwise of all.
+pub fn taking_part(state: &State, store: StoreNumber) -> Vec<FrameIndex> {
+    if at_ceiling(&state.pool, store) {
+        held(&state.pool, store).collect()
+    } else {
+        occupied(&state.pool).collect()
+    }
+}
+
 /// Document 01's sweep, which leaves every page that it passes over: the frame that it takes, its looks, and what it leaves.
-fn former_sweep(state: &State) -> Option<(FrameIndex, u16, Pool)> {
-    let mut pool = state.pool;
+fn former_sweep(state: &State, store: StoreNumber) -> Option<(FrameIndex, u16, Pool)> {
+    let (mut pool, taking_part) = (state.pool, taking_part(state, store));
     for looks in 1..=4 * pool.count {
         let frame = pool.hand;
         pool.hand = FrameIndex(((u16::from(frame.0) + 1) % pool.count) as u8);
-        if !evictable(state, frame) {
+        if !taking_part.contains(&frame) || !evictable(state, frame) {
             continue;
         }
         if pool.record(frame).usage == 0 {
@@ -101,11 +112,12 @@ fn former_sweep(state: &State) -> Option<(FrameIndex, u16, Pool)> {
 
 /// Frame, looks and hand are those of document 01's sweep, and so is every record but a pinned page's and the loaded one's.
 fn as_formerly(before: &State, after: &State, fixed: &Fixed) -> Result<(), String> {
-    let former = former_sweep(before).ok_or("document 01's sweep takes no frame")?;
+    let store = fixed.handle.store;
+    let former = former_sweep(before, store).ok_or("document 01's sweep takes no frame")?;
     let (frame, looks, pool) = former;
     let ends = (fixed.handle.frame, fixed.looks, after.pool.hand);
     ensure!(ends == (frame, looks, pool.hand), "frame, looks and hand {ends:?}, formerly {former:?}");
-    for other in occupied(&before.pool).filter(|other| *other != frame && !is_warmed(before, *other)) {
+    for other in occupied(&before.pool).filter(|other| *other != frame && !is_warmed(before, store, *other)) {
         let (record, formerly) = (after.pool.record(other), pool.record(other));
         ensure!(record == formerly, "frame {other}: {record:?}, formerly {formerly:?}");
     }
@@ -113,13 +125,13 @@ fn as_formerly(before: &State, after: &State, fixed: &Fixed) -> Result<(), Strin
 }
 
 /// "Each look of a sweep that passes over a pinned page other than the root"
-fn is_warmed(state: &State, frame: FrameIndex) -> bool {
+fn is_pinned(state: &State, frame: FrameIndex) -> bool {
     matches!(stay(state, frame), Some(Stay::PinnedLeaf | Stay::PinnedParent))
 }
 
-/// A page that a look raises: one that is warmed, of a usage below 3.
-fn is_raised(state: &State, frame: FrameIndex) -> bool {
-    is_warmed(state, frame) && state.pool.record(frame).usage < MAX_USAGE
+/// The same where the page takes part in the sweep for a store.
+fn is_warmed(state: &State, store: StoreNumber, frame: FrameIndex) -> bool {
+    is_pinned(state, frame) && taking_part(state, store).contains(&frame)
 }
 
 /// How far a frame lies from the hand, going round.
@@ -128,7 +140,7 @@ fn distance(pool: &Pool, frame: FrameIndex) -> u16 {
 }
 
 /// How many of a sweep's looks are at a frame.
-fn looks_at(pool: &Pool, frame: FrameIndex, looks: u16) -> u8 {
+pub fn looks_at(pool: &Pool, frame: FrameIndex, looks: u16) -> u8 {
     let distance = distance(pool, frame);
     if looks <= distance {
         return 0;
@@ -149,22 +161,21 @@ fn by_looks(
     fixed: &Fixed,
 ) -> Result<(), String> {
     let (pool, looks, taken) = (&before.pool, fixed.looks, fixed.handle.frame);
-    let open = occupied(pool).filter(|frame| stay(before, *frame).is_none());
+    let taking_part = taking_part(before, fixed.handle.store);
+    let open = taking_part.iter().copied().filter(|frame| stay(before, *frame).is_none());
     let first = open.map(|frame| (due(pool, frame), frame)).min();
     ensure!(first == Some((looks, taken)), "frame {taken} by {looks} looks, and not {first:?}");
     let mut expected = *pool;
     expected.hand = FrameIndex(((u16::from(pool.hand.0) + looks) % pool.count) as u8);
-    for frame in occupied(pool) {
+    for frame in taking_part {
         let (usage, times) = (pool.record(frame).usage, looks_at(pool, frame, looks));
         expected.record_mut(frame).usage = match stay(before, frame) {
             None => usage.saturating_sub(times),
-            Some(_) if is_warmed(before, frame) => MAX_USAGE.min(usage + times),
+            Some(_) if is_pinned(before, frame) => MAX_USAGE.min(usage + times),
             Some(_) => usage,
         };
     }
-    let (parent, page) = (handle.frame, fixed.handle.page);
-    *expected.record_mut(taken) =
-        FrameRecord { used: 1, dirty: 0, usage: 1, slot: slot as u8, parent, pins: 1, page };
+    *expected.record_mut(taken) = loaded(Page::from(fixed.handle), handle.frame, slot);
     ensure!(after.pool == expected, "{looks} looks leave\n{:?}\nand not\n{expected:?}", after.pool);
     Ok(())
 }
@@ -177,19 +188,20 @@ fn unswept(before: &State, after: &State, fixed: &Fixed) -> Result<(), String> {
     Ok(())
 }
 
-/// The kind, where a pinned page other than the root and that in one frame has less than 3.
+/// The kind, where a pinned page other than a root and that in one frame has less than 3.
 fn left(state: &State, but: FrameIndex, kind: Warmth) -> BTreeSet<Warmth> {
+    let cool = |frame| is_pinned(state, frame) && state.pool.record(frame).usage < MAX_USAGE;
     let mut others = occupied(&state.pool).filter(|frame| *frame != but);
-    others.any(|frame| is_raised(state, frame)).then_some(kind).into_iter().collect()
+    others.any(cool).then_some(kind).into_iter().collect()
 }
 
 /// What a sweep of so many looks met.
 fn swept(state: &State, handle: Handle, looks: u16) -> BTreeSet<Warmth> {
     let (mut met, mut raises) = (BTreeSet::new(), BTreeSet::new());
-    for frame in occupied(&state.pool) {
+    for frame in taking_part(state, handle.store) {
         let (usage, times) = (state.pool.record(frame).usage, looks_at(&state.pool, frame, looks));
         met.extend(stay(state, frame).and_then(|stay| passed_over(stay, usage, times)));
-        if is_raised(state, frame) {
+        if is_pinned(state, frame) && usage < MAX_USAGE {
             let raise = times.min(MAX_USAGE - usage);
             let stopped = times > raise;
             met.extend((raise > 0 && frame == handle.frame).then_some(Warmth::HandlesPage));

@@ -4,7 +4,7 @@ use super::{Check, Plain};
 use crate::calls::Answer;
 use crate::model::search;
 use crate::pool::Machine;
-use crate::records::{PageNumber, State, BUCKETS};
+use crate::records::{page, Page, State, BUCKETS};
 
 impl Plain {
     /// After an accepted call find and peek agree with the frames: for one page and another that shares its bucket, and where the
@@ -19,19 +19,20 @@ impl Plain {
         if !accepted {
             return Ok(());
         }
-        let fixes: u64 = self.balance.iter().map(|balance| balance.fixes).sum();
-        let page = fixes as usize % self.pages();
-        for page in [page, (page + BUCKETS) % self.pages()] {
-            self.check_found(machine, state, PageNumber(page as u16))?;
+        let balances = self.maps.iter().flat_map(|map| &map.balance);
+        let fixes = balances.map(|balance| balance.fixes).sum::<u64>() as usize;
+        let (store, number) = (fixes % self.maps.len(), fixes % self.pages());
+        for number in [number, (number + BUCKETS) % self.pages()] {
+            self.check_found(machine, state, page(store as u8, number as u16))?;
         }
         if state.directory == before {
             return Ok(());
         }
-        let mut resident = state.occupied().map(|(_, record)| record.page);
+        let mut resident = state.occupied().map(|(_, record)| Page::from(record));
         resident.try_for_each(|page| self.check_found(machine, state, page))
     }
 
-    pub(super) fn check_found(&self, machine: &impl Machine, state: &State, page: PageNumber) -> Check {
+    pub(super) fn check_found(&self, machine: &impl Machine, state: &State, page: Page) -> Check {
         let found = machine.find(state, page).map_err(|number| format!("find of {page} gives {number}"))?;
         search::check(state, page, found)?;
         let place = machine.peek(state, page).map_err(|number| format!("peek of {page} gives {number}"))?;

@@ -5,32 +5,44 @@ use crate::calls::{Answer, Call};
 use crate::ensure;
 use crate::model::locks::Lock;
 use crate::pool::{Machine, Named};
-use crate::records::{is_marked, page_of, unmarked, word_in, PageNumber, State, PAYLOAD_SIZE, SLOTS};
+use crate::records::{
+    is_marked, page_of, unmarked, word_in, Page, PageNumber, State, StoreNumber, PAYLOAD_SIZE, SLOTS,
+};
 use std::collections::{BTreeMap, BTreeSet};
 
 /// The pages that marked words of the map name, wherever these stand, each with the bytes that it has had in the map since. Beside
 /// them those whose mark is gone.
 #[derive(Clone, Default)]
 pub struct Locks {
-    kept: BTreeMap<PageNumber, Vec<u8>>,
-    left: BTreeMap<PageNumber, Vec<u8>>,
+    kept: BTreeMap<Page, Vec<u8>>,
+    left: BTreeMap<Page, Vec<u8>>,
+}
+
+impl Locks {
+    /// Those of the first store's first so many pages.
+    pub(super) fn of_first(mut self, pages: usize) -> Locks {
+        let is_there = |page: &Page| page.store == StoreNumber(0) && usize::from(page.number) < pages;
+        self.kept.retain(|page, _| is_there(page));
+        self.left.retain(|page, _| is_there(page));
+        self
+    }
 }
 
 impl Plain {
     /// The word in a slot of a page, apart.
-    pub(super) fn word(&self, page: PageNumber, slot: usize) -> Named {
+    pub(super) fn word(&self, page: Page, slot: usize) -> Named {
         let word = word_in(self.page(page), slot);
         Named { page: PageNumber(unmarked(word) as u16), locked: is_marked(word) }
     }
 
     /// The pages that marked words name.
-    fn marked(&self) -> BTreeSet<PageNumber> {
-        let pages = (0..self.pages() as u16).map(PageNumber);
-        let words = pages.flat_map(|page| (0..SLOTS).map(move |slot| self.word(page, slot)));
-        words.filter(|word| word.locked).map(|word| word.page).collect()
+    fn marked(&self) -> BTreeSet<Page> {
+        let words = |page| (0..SLOTS).map(move |slot| (page, self.word(page, slot)));
+        let marked = self.all_pages().flat_map(words).filter(|(_, word)| word.locked);
+        marked.map(|(page, word)| page.beside(word.page)).collect()
     }
 
-    fn is_locked(&self, page: PageNumber) -> bool {
+    fn is_locked(&self, page: Page) -> bool {
         self.locks.kept.contains_key(&page)
     }
 
@@ -43,14 +55,14 @@ impl Plain {
             Call::Link(handle, slot, ..) | Call::Unlink(handle, slot) => (handle, *slot < SLOTS),
             _ => return None,
         };
-        (fits && self.is_held(machine, state, *handle)).then(|| self.is_locked(handle.page))
+        (fits && self.is_held(machine, state, *handle)).then(|| self.is_locked(Page::from(*handle)))
     }
 
     /// What was foretold, and whatever the handle: no edit of a page that a marked word names is accepted.
     pub fn check_edit(&self, call: &Call, locked: Option<bool>, answer: &Answer) -> Check {
         ensure!((*answer == Answer::Refused(26)) == (locked == Some(true)), "locked {locked:?}: {answer:?}");
         if let Call::Write(handle, ..) | Call::Link(handle, ..) | Call::Unlink(handle, _) = call {
-            let page = handle.page;
+            let page = Page::from(*handle);
             ensure!(!answer.accepted() || !self.is_locked(page), "accepted in page {page}, which is locked");
         }
         Ok(())
@@ -85,15 +97,17 @@ impl Plain {
         met
     }
 
-    /// Inside a list the root is never locked, a locked page is never dirty, and the store has its bytes.
+    /// Inside a list a root is never locked, a locked page is never dirty, and its store has its bytes.
     pub fn check_locked(&self, state: &State) -> Check {
-        ensure!(!self.is_locked(PageNumber(0)), "page 0, the root, is locked");
+        for root in state.store_numbers().map(Page::root) {
+            ensure!(!self.is_locked(root), "page {root} is locked");
+        }
         for (frame, record) in state.occupied().filter(|(_, record)| record.is_dirty()) {
-            let page = record.page;
+            let page = Page::from(record);
             ensure!(!self.is_locked(page), "page {page}, which is locked, is dirty in frame {frame}");
         }
         for (page, bytes) in &self.locks.kept {
-            let stored = page_of(&state.store, (*page).into());
+            let stored = page_of(&state.store, page.place(state.pool.pages));
             ensure!(stored == bytes, "page {page}, which is locked, has other bytes in the store");
         }
         Ok(())

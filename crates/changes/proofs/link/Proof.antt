@@ -34,7 +34,7 @@ link-refusal-requires : tie.Need-link-refusal-requires
 link-refusal-requires c κs =
     let at-record-place = c .before .before .before .before in
     let at-entry = at-record-place .before .before .before .before in
-    (ap (recordAt (at-entry .args .pool .records)) (at-record-place .record-place .ensures), record { noPage = refl; noneSeen = refl })
+    (ap (recordAt (at-entry .args .pool .records)) (at-record-place .record-place .ensures), refl, refl, record { noPage = refl; noneSeen = refl })
 
 same-length : tie.Need-same-length
 same-length c = search needs
@@ -48,7 +48,9 @@ word-requires : tie.Need-word-requires
 word-requires c κs = search needs
 
 marked-requires : tie.Need-marked-requires
-marked-requires c κs = search needs
+marked-requires c κs =
+    let page-in-bits = start (c .before) .good .1 .1 .1 .1 .1 .1 .0 in
+    omega (arith, c .word .ensures, page-in-bits)
 
 put-in-slot-requires : tie.Need-put-in-slot-requires
 put-in-slot-requires c κs = let k = kept (c .before .before .before) in (omega arith, omega arith)
@@ -56,8 +58,8 @@ put-in-slot-requires c κs = let k = kept (c .before .before .before) in (omega 
 dirtied-requires : tie.Need-dirtied-requires
 dirtied-requires c κs = search needs
 
-mul-t18 : tie.Need-mul-t18
-mul-t18 c = search needs
+mul-t20 : tie.Need-mul-t20
+mul-t20 c = search needs
 
 element-set-from-next : tie.Need-element-set-from-next
 element-set-from-next c = search needs
@@ -92,7 +94,7 @@ link-spec =
     marked-requires
     put-in-slot-requires
     dirtied-requires
-    mul-t18
+    mul-t20
     element-set-from-next
     same-length-2
     returns-2)

@@ -33,7 +33,7 @@ unlink-refusal-requires : tie.Need-unlink-refusal-requires
 unlink-refusal-requires c κs =
     let at-record-place = c .before .before .before .before in
     let at-entry = at-record-place .before .before .before .before in
-    (ap (recordAt (at-entry .args .pool .records)) (at-record-place .record-place .ensures), record { noPage = refl; noneSeen = refl })
+    (ap (recordAt (at-entry .args .pool .records)) (at-record-place .record-place .ensures), refl, record { noPage = refl; noneSeen = refl })
 
 same-length : tie.Need-same-length
 same-length c = search needs
@@ -49,8 +49,8 @@ put-in-slot-requires c κs = let k = kept (c .before) in (omega arith, omega ari
 dirtied-requires : tie.Need-dirtied-requires
 dirtied-requires c κs = search needs
 
-mul-t15 : tie.Need-mul-t15
-mul-t15 c = search needs
+mul-t16 : tie.Need-mul-t16
+mul-t16 c = search needs
 
 element-set-from-next : tie.Need-element-set-from-next
 element-set-from-next c = search needs
@@ -81,7 +81,7 @@ unlink-spec =
     returns
     put-in-slot-requires
     dirtied-requires
-    mul-t15
+    mul-t16
     element-set-from-next
     same-length-2
     returns-2)

@@ -34,7 +34,7 @@ write-refusal-requires : tie.Need-write-refusal-requires
 write-refusal-requires c κs =
     let at-record-place = c .before .before .before .before in
     let at-entry = at-record-place .before .before .before .before .before in
-    (ap (recordAt (at-entry .args .pool .records)) (at-record-place .record-place .ensures), record { noPage = refl; noneSeen = refl })
+    (ap (recordAt (at-entry .args .pool .records)) (at-record-place .record-place .ensures), refl, record { noPage = refl; noneSeen = refl })
 
 same-length : tie.Need-same-length
 same-length c = search needs
@@ -83,8 +83,8 @@ copy-into-requires c κs = search needs
 dirtied-requires : tie.Need-dirtied-requires
 dirtied-requires c κs = search needs
 
-mul-t27 : tie.Need-mul-t27
-mul-t27 c = search needs
+mul-t28 : tie.Need-mul-t28
+mul-t28 c = search needs
 
 element-set-from-next : tie.Need-element-set-from-next
 element-set-from-next c = search needs
@@ -127,7 +127,7 @@ write-spec =
     part-copy-into-end
     copy-into-requires
     dirtied-requires
-    mul-t27
+    mul-t28
     element-set-from-next
     same-length-3
     returns-3)

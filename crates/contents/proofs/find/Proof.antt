@@ -17,22 +17,22 @@ unfolding findCall
 returns c = answer-no _ _ _ (c .before .page-refusal .ensures .0) (c .if1 .taken)
 
 seek-requires : tie.Need-seek-requires
-seek-requires c κs = seekable _ _ (c .before .before .page-refusal .ensures) (c .before .if1 .left) refl
+seek-requires c κs = seekable _ _ _ (c .before .before .page-refusal .ensures) (c .before .if1 .left) refl
 
 cast-compared : tie.Need-cast-compared
 cast-compared c =
     let at-seek = c .before in
     let past-refusal = at-seek .before .before in
     let at-page-refusal = past-refusal .before in
-    let h = compared-few _ _ (at-page-refusal .page-refusal .ensures) (past-refusal .if1 .left) refl (at-seek .seek .ensures) in omega (arith, h)
+    let h = compared-few _ _ _ (at-page-refusal .page-refusal .ensures) (past-refusal .if1 .left) refl (at-seek .seek .ensures) in omega (arith, h)
 
-cast-t19 : tie.Need-cast-t19
-cast-t19 c =
+cast-t20 : tie.Need-cast-t20
+cast-t20 c =
     let past-found = c .before in
     let at-seek = past-found .before .before .before in
     let past-refusal = at-seek .before .before in
     let at-page-refusal = past-refusal .before in
-    let h = frame-few _ _ (at-page-refusal .page-refusal .ensures) (past-refusal .if1 .left) refl (at-seek .seek .ensures) (past-found .if2 .taken) in omega (arith, h)
+    let h = frame-few _ _ _ (at-page-refusal .page-refusal .ensures) (past-refusal .if1 .left) refl (at-seek .seek .ensures) (past-found .if2 .taken) in omega (arith, h)
 
 -- the frame that holds it
 returns-2 : tie.Need-returns-2
@@ -41,7 +41,7 @@ returns-2 c =
     let at-seek = past-found .before .before .before in
     let past-refusal = at-seek .before .before in
     let at-page-refusal = past-refusal .before in
-    find-at _ _ (at-page-refusal .page-refusal .ensures) (past-refusal .if1 .left) refl (at-seek .seek .ensures) (past-found .if2 .taken)
+    find-at _ _ _ (at-page-refusal .page-refusal .ensures) (past-refusal .if1 .left) refl (at-seek .seek .ensures) (past-found .if2 .taken)
 
 -- no frame
 returns-3 : tie.Need-returns-3
@@ -49,9 +49,9 @@ returns-3 c =
     let at-seek = c .before .before .before in
     let past-refusal = at-seek .before .before in
     let at-page-refusal = past-refusal .before in
-    find-absent _ _ (at-page-refusal .page-refusal .ensures) (past-refusal .if1 .left) refl (at-seek .seek .ensures) (c .if2 .left)
+    find-absent _ _ _ (at-page-refusal .page-refusal .ensures) (past-refusal .if1 .left) refl (at-seek .seek .ensures) (c .if2 .left)
 
 pub find-spec : {M : Type 1} → statement M
 find-spec =
     tie.close
-    (tie.spec page-refusal-requires returns seek-requires cast-compared cast-t19 returns-2 returns-3)
+    (tie.spec page-refusal-requires returns seek-requires cast-compared cast-t20 returns-2 returns-3)

@@ -17,7 +17,7 @@ part-at-requires : tie.Need-part-at-requires
 part-at-requires c κs =
     let at-peek-place = c .before in
     let at-entry = at-peek-place .before .before .before .before in
-    peek-within (given at-entry) (at-entry .args .page) (at-peek-place .peek-place .ensures)
+    peek-within (given at-entry) (at-entry .args .of-store .0) (at-entry .args .page) (at-peek-place .peek-place .ensures)
 
 returns : tie.Need-returns
 returns c =

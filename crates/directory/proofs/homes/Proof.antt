@@ -2,7 +2,6 @@
 use borrow.Author.Needs.{needs}
 use Prim.Native.Nat.{_-_}
 use native.Mathlib.Omega.{arith}
-use mathlib.Core.Path.{refl}
 use Rattle.page.specs.Figures.{mostFrames}
 use Rattle.directory.specs.HomeFilling.{HomesTo, homes-none, homes-more, homes-all}
 use Rattle.directory.proofs.homes.Statement.{statement}
@@ -41,14 +40,17 @@ loop-less c = search needs
 loop-again : tie.Need-loop-again Inv-loop μ-loop
 loop-again c = let at-test = c .before .before in homes-more _ _ _ _ (at-test .loop-test .taken) (c .home .ensures) (at-test .before .loop .inv)
 
-element-copy-out-homes : tie.Need-element-copy-out-homes Inv-loop μ-loop
-element-copy-out-homes c = search needs
+element-copy-out-remainder : tie.Need-element-copy-out-remainder Inv-loop μ-loop
+element-copy-out-remainder c = search needs
+
+remainder-requires : tie.Need-remainder-requires Inv-loop μ-loop
+remainder-requires c κs = search needs
 
 array-write-homes-2 : tie.Need-array-write-homes-2 Inv-loop μ-loop
 array-write-homes-2 c = search needs
 
 returns : tie.Need-returns Inv-loop μ-loop
-returns c = homes-all _ _ _ _ (omega (arith, c .before .loop-test .left)) refl (c .before .before .loop .inv)
+returns c = let past-loop = c .before .before in homes-all _ _ _ _ (omega (arith, past-loop .loop-test .left)) (c .remainder .ensures) (past-loop .before .loop .inv)
 
 pub homes-spec : {M : Type 1} → statement M
 homes-spec =
@@ -65,6 +67,7 @@ homes-spec =
     add-f
     loop-less
     loop-again
-    element-copy-out-homes
+    element-copy-out-remainder
+    remainder-requires
     array-write-homes-2
     returns)

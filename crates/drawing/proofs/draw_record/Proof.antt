@@ -1,6 +1,5 @@
 -- `drawing::draw_record` meets its contract: refused by rules 1 and 2, or drawn. Assumes nothing.
-use mathlib.Core.Path.{refl, _∙_}
-use native.Mathlib.Omega.{arith}
+use mathlib.Core.Path.{_∙_}
 use Rattle.machine.specs.Machine.{State, state}
 use Rattle.drawing.specs.DrawingLaws.{draw-refused, counts-fit, frame-fits, draw-made}
 use borrow.Author.Needs.{needs}
@@ -12,7 +11,13 @@ given c = let a = c .args in state (a .pool) (a .frames .now) (a .store .now) (a
 
 -- the start, from where rules 1 and 2 were tested
 abbrev start : tie.After-table-refusal → tie.Start
-start c = c .before .before .before .before .before .before
+start c = c .before .before .before .before .before .before .before .before
+
+cast-count : tie.Need-cast-count
+cast-count c = search needs
+
+cast-pages : tie.Need-cast-pages
+cast-pages c = search needs
 
 table-refusal-requires : tie.Need-table-refusal-requires
 table-refusal-requires c κs = search needs
@@ -27,27 +32,17 @@ returns c =
     let at-refusal = past-refusal .before in
     c .refused .ensures ∙ draw-refused (given (start at-refusal)) _ (at-refusal .table-refusal .ensures .0) (past-refusal .if1 .taken)
 
-cast-draw-fields : tie.Need-cast-draw-fields
-cast-draw-fields c =
-    let at-refusal = c .before in
-    let h = counts-fit (given (start at-refusal)) (at-refusal .table-refusal .ensures) (c .if1 .left) refl refl .1 in omega (arith, h)
-
-cast-draw-fields-2 : tie.Need-cast-draw-fields-2
-cast-draw-fields-2 c =
-    let at-refusal = c .before in
-    let h = counts-fit (given (start at-refusal)) (at-refusal .table-refusal .ensures) (c .if1 .left) refl refl .3 in omega (arith, h)
-
 draw-fields-requires : tie.Need-draw-fields-requires
 draw-fields-requires c κs =
     let at-refusal = c .before in
-    counts-fit (given (start at-refusal)) (at-refusal .table-refusal .ensures) (c .if1 .left) refl refl
+    counts-fit (given (start at-refusal)) (at-refusal .table-refusal .ensures) (c .if1 .left)
 
 parent-page-requires : tie.Need-parent-page-requires
 parent-page-requires c κs =
     let at-fields = c .before in
     let past-refusal = at-fields .before in
     let at-refusal = past-refusal .before in
-    frame-fits (given (start at-refusal)) (at-refusal .table-refusal .ensures) (past-refusal .if1 .left) refl refl _ _ (at-fields .draw-fields .ensures)
+    frame-fits (given (start at-refusal)) (at-refusal .table-refusal .ensures) (past-refusal .if1 .left) _ _ (at-fields .draw-fields .ensures)
 
 of-fields-requires : tie.Need-of-fields-requires
 of-fields-requires c κs = search needs
@@ -60,17 +55,17 @@ returns-2 c =
     let at-fields = at-parent .before .before in
     let past-refusal = at-fields .before in
     let at-refusal = past-refusal .before in
-    draw-made (given (start at-refusal)) (at-refusal .table-refusal .ensures) (past-refusal .if1 .left) refl refl _ _ (at-fields .draw-fields .ensures) _ (at-parent .parent-page .ensures) (at-entry .of-fields .ensures)
+    draw-made (given (start at-refusal)) (at-refusal .table-refusal .ensures) (past-refusal .if1 .left) _ _ (at-fields .draw-fields .ensures) _ (at-parent .parent-page .ensures) (at-entry .of-fields .ensures)
 
 pub draw-record-spec : {M : Type 1} → statement M
 draw-record-spec =
     tie.close
     (tie.spec
+    cast-count
+    cast-pages
     table-refusal-requires
     refused-requires
     returns
-    cast-draw-fields
-    cast-draw-fields-2
     draw-fields-requires
     parent-page-requires
     of-fields-requires

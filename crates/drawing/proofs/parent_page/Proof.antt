@@ -1,5 +1,5 @@
 -- `drawing::parent_page` meets its contract. Assumes nothing.
-use mathlib.Core.Path.{ap}
+use mathlib.Core.Path.{_∙_, ap}
 use borrow.Author.Needs.{needs}
 use Rattle.machine.specs.Machine.{pageNumber}
 use Rattle.drawing.specs.DrawingLaws.{no-parent, parent-there}
@@ -10,18 +10,12 @@ use Rattle.drawing.proofs.parent_page.Tie as tie
 returns : tie.Need-returns
 returns c = ap pageNumber (no-parent _ _ _ (c .if1 .taken))
 
-cast-t5 : tie.Need-cast-t5
-cast-t5 c = search needs
-
-mul-t6 : tie.Need-mul-t6
-mul-t6 c = search needs
-
-element-copy-out-t9 : tie.Need-element-copy-out-t9
-element-copy-out-t9 c = search needs
+page-in-requires : tie.Need-page-in-requires
+page-in-requires c κs = search needs
 
 -- link
 returns-2 : tie.Need-returns-2
-returns-2 c = ap pageNumber (parent-there _ _ _ (c .before .before .if1 .left))
+returns-2 c = ap pageNumber (c .page-in .ensures ∙ parent-there _ _ _ (c .before .if1 .left))
 
 pub parent-page-spec : {M : Type 1} → statement M
-parent-page-spec = tie.close (tie.spec returns cast-t5 mul-t6 element-copy-out-t9 returns-2)
+parent-page-spec = tie.close (tie.spec returns page-in-requires returns-2)

@@ -64,7 +64,7 @@ same-length-2 c = search needs
 same-length-3 : tie.Need-same-length-3
 same-length-3 c = search needs
 
--- rules 1 to 4 refuse
+-- rules 1, 2, 28, 3 and 4 refuse
 returns : tie.Need-returns
 returns c = fix-denied _ _ _ (c .before .before .slot-refusal .ensures .0) (c .before .if1 .taken) (c .refused .ensures)
 
@@ -95,19 +95,20 @@ returns-2 c =
 is-number-requires : tie.Need-is-number-requires
 is-number-requires c κs = search needs
 
-cast-t37 : tie.Need-cast-t37
-cast-t37 c =
-    let at-name = c .before .before .before in
+cast-t39 : tie.Need-cast-t39
+cast-t39 c =
+    let past-reading = c .before in
+    let at-name = past-reading .before .before .before in
     let past-refusal = at-name .before .before .before in
-    let l = number c in let h = ok past-refusal in omega arith
+    let l = number past-reading in let h = ok past-refusal in omega arith
 
 bring-in-requires : tie.Need-bring-in-requires
 bring-in-requires c κs =
-    let past-reading = c .before .before .before .before .before in
+    let past-reading = c .before .before .before .before .before .before in
     let at-name = past-reading .before .before .before in
     let past-refusal = at-name .before .before .before in
     let at-refusal = past-refusal .before in
-    let h = ok past-refusal in (h .kept, at-refusal .slot-refusal .ensures .1 (past-refusal .if1 .left), h .held .below, h .slot, number past-reading)
+    let h = ok past-refusal in (h .kept, at-refusal .slot-refusal .ensures .1 (past-refusal .if1 .left), h .held .below, h .slot, h .store, number past-reading)
 
 same-length-7 : tie.Need-same-length-7
 same-length-7 c = search needs
@@ -122,7 +123,7 @@ same-length-9 c = search needs
 returns-3 : tie.Need-returns-3
 returns-3 c =
     let at-load = c .before .before .before .before .before .before in
-    let past-reading = at-load .before .before .before .before .before .before in
+    let past-reading = at-load .before .before .before .before .before .before .before in
     let at-reading = past-reading .before in
     let past-name = at-reading .before in
     let at-name = past-name .before in
@@ -167,17 +168,17 @@ returns-4 c =
 pinned-requires : tie.Need-pinned-requires
 pinned-requires c κs = search needs
 
-mul-t21 : tie.Need-mul-t21
-mul-t21 c = search needs
+mul-t23 : tie.Need-mul-t23
+mul-t23 c = search needs
 
 element-set-from-next : tie.Need-element-set-from-next
 element-set-from-next c =
-    let at-frame = c .before .before .before .before .before in
+    let at-frame = c .before .before .before .before .before .before in
     frame at-frame
 
-cast-t51 : tie.Need-cast-t51
-cast-t51 c =
-    let at-frame = c .before .before .before .before .before in
+cast-t53 : tie.Need-cast-t53
+cast-t53 c =
+    let at-frame = c .before .before .before .before .before .before in
     let l = frame at-frame in omega arith
 
 given-requires : tie.Need-given-requires
@@ -196,7 +197,7 @@ same-length-15 c = search needs
 returns-5 : tie.Need-returns-5
 returns-5 c =
     let at-pinned = c .before in
-    let past-pins = at-pinned .before .before in
+    let past-pins = at-pinned .before .before .before in
     let at-frame = past-pins .before .before .before in
     let past-reading = at-frame .before in
     let at-reading = past-reading .before in
@@ -226,7 +227,7 @@ fix-spec =
     same-length-6
     returns-2
     is-number-requires
-    cast-t37
+    cast-t39
     bring-in-requires
     same-length-7
     same-length-8
@@ -241,9 +242,9 @@ fix-spec =
     same-length-12
     returns-4
     pinned-requires
-    mul-t21
+    mul-t23
     element-set-from-next
-    cast-t51
+    cast-t53
     given-requires
     same-length-13
     same-length-14

@@ -27,14 +27,14 @@ asked : (c : tie.After-is-locked) → let at-start = start (c .before) in c .is-
 asked c =
     let at-start = start (c .before) in
     let k = kept (c .before) in
-    is-locked (given at-start) (at-start .args .handle) (k .kept) (k .held) (at-start .pre .0) (c .is-locked .ensures)
+    is-locked (given at-start) (at-start .args .handle) (k .kept) (k .held) (at-start .pre .0) (at-start .pre .1) (c .is-locked .ensures)
 
 slot-refusal-requires : tie.Need-slot-refusal-requires
 slot-refusal-requires c κs =
     let at-entry = c .before .before .before .before .before in
-    at-entry .pre
+    (at-entry .pre .0, at-entry .pre .2)
 
--- rules 1 to 4
+-- rules 1, 2, 28, 3 and 4
 returns : tie.Need-returns
 returns c =
     let at-slot-refusal = c .before in

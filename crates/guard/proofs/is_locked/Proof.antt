@@ -1,7 +1,7 @@
--- `guard::is_locked` meets its contract: the root, and then the mark of the parent's word. Assumes nothing.
+-- `guard::is_locked` meets its contract: a root, and then the mark of the parent's word. Assumes nothing.
 use mathlib.Core.Path.{ap, _∙_}
 use mathlib.Core.Bool.{not}
-use borrow.Author.Tests.{eq-eqb, ne-eqb}
+use borrow.Author.Tests.{lt-ltb, le-ltb}
 use Rattle.page.specs.Word.{isMarked}
 use Rattle.page.specs.Page.{slot}
 use Rattle.rules.specs.TestLaws.{and-yes, and-no}
@@ -10,10 +10,10 @@ use borrow.Author.Needs.{needs}
 use Rattle.guard.proofs.is_locked.Statement.{statement}
 use Rattle.guard.proofs.is_locked.Tie as tie
 
--- the root
+-- a root
 returns : tie.Need-returns
 unfolding heldLocked
-returns c = and-no _ (ap not (eq-eqb _ 0 (c .if1 .taken)))
+returns c = and-no _ (ap not (lt-ltb _ _ (c .if1 .taken)))
 
 from-u8-requires : tie.Need-from-u8-requires
 from-u8-requires c κs = search needs
@@ -31,7 +31,7 @@ returns-2 c =
     let at-word = c .before in
     let at-slot = at-word .before in
     let past-root = at-slot .before .before in
-    and-yes (ap not (ne-eqb _ 0 (past-root .if1 .left))) (c .is-marked .ensures ∙ ap isMarked (at-word .slot-word .ensures ∙ ap (slot _ _) (at-slot .from-u8 .ensures)))
+    and-yes (ap not (le-ltb _ _ (past-root .if1 .left))) (c .is-marked .ensures ∙ ap isMarked (at-word .slot-word .ensures ∙ ap (slot _ _) (at-slot .from-u8 .ensures)))
 
 pub is-locked-spec : {M : Type 1} → statement M
 is-locked-spec =

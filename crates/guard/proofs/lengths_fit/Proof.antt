@@ -1,8 +1,10 @@
 -- `guard::lengths_fit` meets its contract: the tests of rule 1, one after the other. Assumes nothing.
 use mathlib.Core.Path.{refl}
+use native.Mathlib.Omega.{arith}
 use borrow.Author.Tests.{le-leb, lt-leb, eq-eqb, ne-eqb}
 use Rattle.rules.specs.TestLaws.{and-yes, and-no}
 use Rattle.machine.specs.Rules.{lengthsFit}
+use Rattle.guard.specs.Held.{few-in-all}
 use borrow.Author.Needs.{needs}
 use Rattle.guard.proofs.lengths_fit.Statement.{statement}
 use Rattle.guard.proofs.lengths_fit.Tie as tie
@@ -31,7 +33,10 @@ unfolding lengthsFit
 returns-5 c = and-yes (le-leb _ _ (c .before .before .before .before .if1 .left)) (and-yes (le-leb _ _ (c .before .before .before .if2 .left)) (and-yes (le-leb _ _ (c .before .before .if3 .left)) (and-yes (le-leb _ _ (c .before .if4 .left)) (and-no _ (ne-eqb _ _ (c .if5 .taken))))))
 
 mul-result : tie.Need-mul-result
-mul-result c = search needs
+mul-result c = let at-entry = c .before .before .before .before .before in let h = few-in-all _ (at-entry .args .stores) (c .before .if4 .left) (omega (arith, at-entry .fits)) in record { fits = omega arith }
+
+mul-result-2 : tie.Need-mul-result-2
+mul-result-2 c = let at-entry = c .before .before .before .before .before in let h = few-in-all _ (at-entry .args .stores) (c .before .if4 .left) (omega (arith, at-entry .fits)) in record { fits = omega arith }
 
 returns-6 : tie.Need-returns-6
 unfolding lengthsFit
@@ -40,4 +45,4 @@ returns-6 c = and-yes (le-leb _ _ (c .before .before .before .before .if1 .left)
 pub lengths-fit-spec : {M : Type 1} → statement M
 lengths-fit-spec =
     tie.close
-    (tie.spec returns returns-2 returns-3 returns-4 mul-if5 returns-5 mul-result returns-6)
+    (tie.spec returns returns-2 returns-3 returns-4 mul-if5 returns-5 mul-result mul-result-2 returns-6)

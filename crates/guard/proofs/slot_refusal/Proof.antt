@@ -18,7 +18,7 @@ handle-refusal-requires c κs =
     let at-entry = c .before .before .before .before .before in
     at-entry .pre
 
--- rules 1 to 3
+-- rules 1, 2, 28 and 3
 returns : tie.Need-returns
 returns c =
     let at-handle-refusal = c .before in

@@ -10,17 +10,17 @@ Inv-loop frames₀ store₀ directory₀ block₀ turn₀ turns₀ frames store 
 abbrev μ-loop : tie.MeasureT-loop
 μ-loop frames₀ store₀ directory₀ block₀ turn₀ turns₀ frames store directory block turn turns = turns
 
-slice-aggregate-open : tie.Need-slice-aggregate-open Inv-loop μ-loop
-slice-aggregate-open c = search needs
+slice-aggregate-open-listing : tie.Need-slice-aggregate-open-listing Inv-loop μ-loop
+slice-aggregate-open-listing c = search needs
 
-slice-aggregate-open-2 : tie.Need-slice-aggregate-open-2 Inv-loop μ-loop
-slice-aggregate-open-2 c = search needs
+slice-aggregate-open-listing-2 : tie.Need-slice-aggregate-open-listing-2 Inv-loop μ-loop
+slice-aggregate-open-listing-2 c = search needs
 
-slice-aggregate-open-3 : tie.Need-slice-aggregate-open-3 Inv-loop μ-loop
-slice-aggregate-open-3 c = search needs
+slice-aggregate-open-listing-3 : tie.Need-slice-aggregate-open-listing-3 Inv-loop μ-loop
+slice-aggregate-open-listing-3 c = search needs
 
-open-requires : tie.Need-open-requires Inv-loop μ-loop
-open-requires c κs = search needs
+open-listing-requires : tie.Need-open-listing-requires Inv-loop μ-loop
+open-listing-requires c κs = search needs
 
 loop-holds : tie.Need-loop-holds Inv-loop μ-loop
 loop-holds c = search needs
@@ -49,10 +49,10 @@ main-spec =
     (tie.spec
     Inv-loop
     μ-loop
-    slice-aggregate-open
-    slice-aggregate-open-2
-    slice-aggregate-open-3
-    open-requires
+    slice-aggregate-open-listing
+    slice-aggregate-open-listing-2
+    slice-aggregate-open-listing-3
+    open-listing-requires
     loop-holds
     list-next-requires
     returns

@@ -1,5 +1,5 @@
 -- What rule 2 says of the directory: its test against where each chain leads, and what find and peek get by it. Assumes nothing.
-use Prim.Native.Nat.{ℕ, suc, _+_, _-_, _≤_, _<_}
+use Prim.Native.Nat.{ℕ, suc, _+_, _≤_, _<_}
 use mathlib.Core.Path.{_≡_, refl, sym, _∙_, ap}
 use mathlib.Core.Bool.{true, false, not}
 use mathlib.Core.List.{List, _∷_, _++_}
@@ -8,14 +8,15 @@ use native.Mathlib.Decide.{decLt}
 use borrow.Author.Tests.{eq-eqb, eqb-true, not-true}
 use lib.ListN.{length}
 use Rattle.page.specs.Figures.{mostFrames, recordCount}
+use Rattle.page.specs.StorePlaces.{storePlace}
 use Rattle.machine.specs.declared.Pool.{Pool}
 use Rattle.rules.specs.Tests.{pick, _⇒_}
 use Rattle.rules.specs.TestLaws.{case, on, off, both, and-true, use⇒, make⇒, every-true, true-every, pick-yes, pick-no}
-use Rattle.machine.specs.Machine.{isUsed, recordAt, pageIn, occupied, found}
+use Rattle.machine.specs.Machine.{isUsed, recordAt, pageIn, placeIn, occupied, foundIn}
 use Rattle.machine.specs.Laws.AgreementFacts.{occupied-lt}
-use Rattle.machine.specs.Laws.FoundLaws.{found-le, found-holds, found-none}
+use Rattle.machine.specs.Laws.FoundLaws.{found-le, found-holds, found-none, found-records}
 use Rattle.chains.specs.Chain.{buckets, bucketOf, chainOf, eachOf, once, seekIn, soughtIn}
-use Rattle.machine.specs.Directory.{belongs, chainsRight, chainsWhole, othersZero, chainsAgree, residentsOf}
+use Rattle.machine.specs.Directory.{belongs, chainRight, chainsRight, chainsWhole, othersZero, chainsAgree, residentsOf}
 use Rattle.chains.specs.ChainLaws.{In, Single, has-in, in-has, each-in, in-each, once-single, single-once, single-few, single-most, list-chain, seek-found, seek-none, seek-compared, seek-place, seek-whole}
 use Rattle.chains.specs.ChainFacts.{Bucket, Chained, Framed, bucket-chain}
 
@@ -68,7 +69,7 @@ module _ (p : Pool) (few : p .count ≤ mostFrames) where
   module _ (d : List ℕ) where
     -- the test says it
     pub chains-facts : chainsAgree p d ≡ true → Chained (homeOf p) d
-    unfolding chainsAgree chainsRight chainsWhole othersZero
+    unfolding chainsAgree chainsRight chainRight chainsWhole othersZero
     chains-facts t =
         let a = and-true (chainsRight p d) _ t in
         let w = and-true (chainsWhole p d) (othersZero p d) (a .1) in
@@ -92,7 +93,7 @@ module _ (p : Pool) (few : p .count ≤ mostFrames) where
         }
 
     pub chains-tests : Chained (homeOf p) d → chainsAgree p d ≡ true
-    unfolding chainsAgree chainsRight chainsWhole othersZero
+    unfolding chainsAgree chainsRight chainRight chainsWhole othersZero
     chains-tests C = both _ _
         (true-every buckets _ (λ b h.
         let B = C .at b h in
@@ -106,11 +107,14 @@ module _ (p : Pool) (few : p .count ≤ mostFrames) where
         rw (bucket-chain (homeOf p) home-framed d b h B) (in-has f (B .chain) (B .all f (home-on p f o))))))
         (true-every recordCount _ (λ f l. make⇒ _ _ (λ o. eq-eqb _ 0 (C .rest f l (rw (home-off p f (not-true _ o)) (omega arith)))))))
 
-    -- ---- "Find and peek use it and agree with the frames"
+    -- ---- "Find and peek use it and agree with the frames": page q of store t is compared by its place, in the chain of its number's remainder
 
-    module _ (C : Chained (homeOf p) d) (apart : (f g : ℕ) → occupied p f ≡ true → occupied p g ≡ true → pageIn (p .records) f ≡ pageIn (p .records) g → f ≡ g) (q : ℕ) where
+    module _ (C : Chained (homeOf p) d) (apart : (f g : ℕ) → occupied p f ≡ true → occupied p g ≡ true → placeIn (p .pages) (p .records) f ≡ placeIn (p .pages) (p .records) g → f ≡ g) (t q : ℕ) where
       abbrev rs : ℕ → ℕ
-      rs = pageIn (p .records)
+      rs = placeIn (p .pages) (p .records)
+
+      abbrev place : ℕ
+      place = storePlace (p .pages) t q
 
       Q : Bucket (homeOf p) d (bucketOf q)
       Q = C .at (bucketOf q) (bucket-lt q)
@@ -121,30 +125,34 @@ module _ (p : Pool) (few : p .count ≤ mostFrames) where
       in-chain : (g : ℕ) → In g (Q .chain) → occupied p g ≡ true
       in-chain g i = home-occupied p g (let e : homeOf p g ≡ bucketOf q = Q .only g i in let l : bucketOf q < buckets = bucket-lt q in omega arith)
 
-      pub sought-found : soughtIn rs (p .count) d q .frame ≡ found p q
-      sought-found = rw same-chain (elim (decLt (found p q) (p .count)) [
-        | yes l ↦
-            let h = found-holds p q l in
-            seek-found rs (p .count) q 0 (found p q) (Q .chain) (Q .all (found p q) (home-on p (found p q) (h .0) ∙ ap bucketOf (h .1))) (h .1)
-            (λ g i e. apart g (found p q) (in-chain g i) (h .0) (e ∙ sym (h .1)))
-        | no l ↦
-            let e : found p q ≡ p .count = (let h : found p q ≤ p .count = found-le p q in omega arith) in
-            seek-none rs (p .count) q 0 (Q .chain) (λ g i. found-none p q (omega arith) g (in-chain g i)) ∙ sym e
-      ])
-
       -- "never above the number of resident pages with that remainder"
-      pub sought-few : soughtIn rs (p .count) d q .compared ≤ residentsOf p (bucketOf q)
+      pub sought-few : soughtIn rs (p .count) d (bucketOf q) place .compared ≤ residentsOf p (bucketOf q)
       sought-few =
-          let a : seekIn rs (p .count) q 0 (Q .chain) .compared ≤ 0 + length (Q .chain) = seek-compared rs (p .count) q 0 (Q .chain) in
+          let a : seekIn rs (p .count) place 0 (Q .chain) .compared ≤ 0 + length (Q .chain) = seek-compared rs (p .count) place 0 (Q .chain) in
           let b : length (Q .chain) ≤ residentsOf p (bucketOf q) = single-few (p .count) (belongs p (bucketOf q)) (Q .chain) (Q .single)
           (λ f i. (occupied-lt p f (in-chain f i), home-belongs p (bucketOf q) f (bucket-lt q) (Q .only f i))) in
           rw same-chain (omega arith)
 
-      -- "the place of the page's entry in its chain, from 1, or the chain's length if absent"
-      pub sought-place : found p q < p .count → (before after : List ℕ) × (chainOf d (bucketOf q) ≡ before ++ (found p q ∷ after)) × (soughtIn rs (p .count) d q .compared ≡ length before + 1)
-      sought-place l =
-          let a = rw sought-found at (seek-place rs (p .count) q 0 (chainOf d (bucketOf q)) (rw sought-found l)) in
-          (a .0, a .1, a .2, omega (arith, a .3))
+      pub sought-whole : p .count ≤ foundIn p t q → soughtIn rs (p .count) d (bucketOf q) place .compared ≡ length (chainOf d (bucketOf q))
+      sought-whole l = omega (arith, seek-whole rs (p .count) place 0 (chainOf d (bucketOf q)) (λ g i. found-none p place l g (in-chain g (rw same-chain at i))))
 
-      pub sought-whole : p .count ≤ found p q → soughtIn rs (p .count) d q .compared ≡ length (chainOf d (bucketOf q))
-      sought-whole l = omega (arith, seek-whole rs (p .count) q 0 (chainOf d (bucketOf q)) (λ g i. found-none p q l g (in-chain g (rw same-chain at i))))
+      -- pages are below N, so that a place tells the number
+      module _ (ranged : (f : ℕ) → occupied p f ≡ true → pageIn (p .records) f < p .pages) (below : q < p .pages) where
+        pub sought-found : soughtIn rs (p .count) d (bucketOf q) place .frame ≡ foundIn p t q
+        sought-found = rw same-chain (elim (decLt (foundIn p t q) (p .count)) [
+          | yes l ↦
+              let f : ℕ = foundIn p t q in
+              let h = found-holds p place l in
+              let e : pageIn (p .records) f ≡ q = found-records p t q ranged below l .2 in
+              seek-found rs (p .count) place 0 f (Q .chain) (Q .all f (home-on p f (h .0) ∙ ap bucketOf e)) (h .1)
+              (λ g i e. apart g f (in-chain g i) (h .0) (e ∙ sym (h .1)))
+          | no l ↦
+              let e : foundIn p t q ≡ p .count = (let h : foundIn p t q ≤ p .count = found-le p place in omega arith) in
+              seek-none rs (p .count) place 0 (Q .chain) (λ g i. found-none p place (omega arith) g (in-chain g i)) ∙ sym e
+        ])
+
+        -- "the place of the page's entry in its chain, from 1, or the chain's length if absent"
+        pub sought-place : foundIn p t q < p .count → (before after : List ℕ) × (chainOf d (bucketOf q) ≡ before ++ (foundIn p t q ∷ after)) × (soughtIn rs (p .count) d (bucketOf q) place .compared ≡ length before + 1)
+        sought-place l =
+            let a = rw sought-found at (seek-place rs (p .count) place 0 (chainOf d (bucketOf q)) (rw sought-found l)) in
+            (a .0, a .1, a .2, omega (arith, a .3))

@@ -13,7 +13,7 @@ use Rattle.page.specs.Word.{Swizzled, marked, numberWord, namesNothing, high, l
 use Rattle.page.specs.Page.{name}
 use Rattle.machine.specs.declared.Handle.{Handle}
 use Rattle.rules.specs.Tests.{pick, _and_, Rule, firstBroken}
-use Rattle.machine.specs.Machine.{State, pageIn, occupied, found}
+use Rattle.machine.specs.Machine.{State, pageIn, storeIn, placeIn, occupied, found}
 use Rattle.machine.specs.Moves.{plain}
 use Rattle.machine.specs.Naming.{currentWord, named}
 use Rattle.machine.specs.Answers.{refused, done, number, Out, out}
@@ -30,7 +30,7 @@ use Rattle.machine.specs.Laws.Outcomes.{kept, broken, outcome, lacks, on
 -- ---- document 01's order, 8 before 9, with 26 where it is tested since request A.8: a definition for these laws alone, which no call cites
 
 abbrev pub linkRulesBefore : State → Handle → ℕ → PageNumber → List Rule
-linkRulesBefore s h k q = editRules s h k ++ (rule6-link s (q .0) ∷ rule8 (wordOf s h k) ∷ rule9 s (q .0) ∷ [])
+linkRulesBefore s h k q = editRules s h k ++ (rule6-link s (q .0) ∷ rule8 (wordOf s h k) ∷ rule9 s (h .store .0) (q .0) ∷ [])
 
 -- the rules that both orders test first
 abbrev pub sharedRules : State → Handle → ℕ → PageNumber → List Rule
@@ -43,12 +43,12 @@ linkCallBefore s h k q l = decide s (linkRulesBefore s h k q) (out done (relinke
 
 -- the answer was 8, for a page already named
 abbrev pub EightForNamed : State → Handle → ℕ → PageNumber → Bool → Type 0
-EightForNamed s h k q l = (linkCallBefore s h k q l .answer ≡ refused 8) × (named s (q .0) ≡ true)
+EightForNamed s h k q l = (linkCallBefore s h k q l .answer ≡ refused 8) × (named s (h .store .0) (q .0) ≡ true)
 
 -- what is claimed, of every input
 pub record NineFirst (s : State) (h : Handle) (k : ℕ) (q : PageNumber) (l : Bool) : Type 0 where
   -- "A link of a named page into a filled slot breaks rules 8 and 9, and 01 gives 8.": where no rule before them is broken
-  pub gave : firstBroken (sharedRules s h k q) ≡ 0 → wordOf s h k ≢ 0 → named s (q .0) ≡ true → EightForNamed s h k q l
+  pub gave : firstBroken (sharedRules s h k q) ≡ 0 → wordOf s h k ≢ 0 → named s (h .store .0) (q .0) ≡ true → EightForNamed s h k q l
   -- "The answers that change are exactly those that were 8 for a page already named"
   pub exactly : (linkCall s h k q l .answer ≢ linkCallBefore s h k q l .answer) ↔ EightForNamed s h k q l
   -- "the page in that very slot included": the page that word gives there, swizzled or not, marked or not, and not 0, for none; in a page that isn't locked
@@ -104,13 +104,12 @@ module _ (s : State) (K : Kept s) (f k : ℕ) (o : occupied (s .pool) f ≡ true
   below-pages : (g : ℕ) → occupied (s .pool) g ≡ true → pageIn (s .pool .records) g < s .pool .pages
   below-pages g u = K .agreed .inRange g (omega (arith, occupied-lt (s .pool) g u, K .sized .most)) .page
 
-  named-there : named s standsFor ≡ true
+  named-there : named s (storeIn (s .pool .records) f) standsFor ≡ true
   unfolding named currentWord
   named-there =
-      let p : ℕ = pageIn (s .pool .records) f in
-      let at : found (s .pool) p ≡ f = found-is (s .pool) (s .frames) (K .agreed) f o in
-      true-some (s .pool .pages) _ p (below-pages f o) (true-some slotCount _ k l (eq-eqb _ _
-      (sym (pick-yes _ (lt-ltb _ _ (holds-found (s .pool) p f o refl)) refl) ∙ ap (λ (g : ℕ). plain (pageIn (s .pool .records)) (name (s .frames) g k)) at)))
+      let at : found (s .pool) (placeIn (s .pool .pages) (s .pool .records) f) ≡ f = found-is (s .pool) (s .frames) (K .agreed) f o in
+      true-some (s .pool .pages) _ (pageIn (s .pool .records) f) (below-pages f o) (true-some slotCount _ k l (eq-eqb _ _
+      (sym (pick-yes _ (lt-ltb _ _ (holds-found (s .pool) _ f o refl)) refl) ∙ ap (λ (g : ℕ). plain (pageIn (s .pool .records)) (name (s .frames) g k)) at)))
 
   stands-below : name (s .frames) f k ≢ 0 → standsFor < s .pool .pages
   stands-below n = elim (reading (name (s .frames) f k)) [
@@ -147,7 +146,7 @@ module _ (s : State) (h : Handle) (k : ℕ) (q : PageNumber) (l : Bool) where
   vacant = namesNothing (wordOf s h k)
 
   abbrev known : Bool
-  known = named s (q .0)
+  known = named s (h .store .0) (q .0)
 
   -- what is answered and left, by the number of the first broken rule; and the number, by the answer
   before-is : (n : ℕ) → n ≢ 0 → numberBefore shared vacant known ≡ n → linkCallBefore s h k q l ≡ out (refused n) s
@@ -206,7 +205,7 @@ module _ (s : State) (h : Handle) (k : ℕ) (q : PageNumber) (l : Bool) where
       let numbered : (ltb 0 (q .0) and ltb (q .0) (s .pool .pages)) ≡ true = both _ _ (lt-ltb 0 (q .0) (omega arith)) (lt-ltb _ _ below) in
       let free = kept-then 26 (rule6-link s (q .0) ∷ []) (ap not u) in
       let passes = slot-passes s h k _ (sym (w .0)) refl (sym (free ∙ kept-then 6 _ numbered ∙ none-broken)) in
-      gave-eight (sym passes) filled (sym (ap (named s) (w .1)) ∙ named-there s (K .kept) (h .frame .0) k o (K .slot))
+      gave-eight (sym passes) filled (sym (ap (named s (h .store .0)) (w .1)) ∙ ap (λ (t : ℕ). named s t (plain page (wordOf s h k))) (sym (K .held .store)) ∙ named-there s (K .kept) (h .frame .0) k o (K .slot))
 
   pub nine-first : NineFirst s h k q l
   nine-first = record {

@@ -11,14 +11,15 @@ use lib.Seq.{getD-set-other}
 use Rattle.page.specs.Figures.{pageSize, slotCount, payloadStart, mostFrames, wordRadix}
 use Rattle.page.specs.Word.{isNumber, frameIn, frameWord, putWord-before, putWord-after, Number, number-yes}
 use Rattle.page.specs.Page.{slot, name, byte, pageOf, putSlot, putPage, putSlot-length, slot-putSlot-same, slot-putSlot-slot, byte-putSlot, pageOf-length, putPage-length, slot-pageOf, pageOf-putPage, pageOf-ext}
+use Rattle.page.specs.StorePlaces.{storePlace, place-lt}
 use Rattle.page.specs.Octets.{Octets, octets-putSlot, octets-pageOf, slot-lt, buffer-ext}
 use Rattle.machine.specs.declared.FrameRecord.{FrameRecord}
 use Rattle.rules.specs.Tests.{pick}
 use Rattle.rules.specs.TestLaws.{every-true, pick-yes, pick-either}
-use Rattle.machine.specs.Machine.{State, blank, cleaned, isDirty, recordAt, pageIn}
+use Rattle.machine.specs.Machine.{State, blank, cleaned, isDirty, recordAt, pageIn, storeIn, placeIn}
 use Rattle.machine.specs.Moves.{plain, imaged, imageTo, imageOf, writtenOutBy, writtenOut, writtenOutTo, cleanedTo, evicted, loaded}
 use Rattle.machine.specs.Sweep.{childless}
-use Rattle.machine.specs.Laws.Ready.{Sized, Ready}
+use Rattle.machine.specs.Laws.Ready.{Sized, Ready, place-below}
 use Rattle.machine.specs.Laws.PlainLaws.{imaged-low}
 
 -- ---- the image of the bytes g
@@ -80,38 +81,38 @@ image-ext a b g (suc n) l h e = rw (image-ext a b g n (omega arith) h e, plain-e
 -- ---- writing out
 
 -- where a and b give the same pages to 64 frames, and a dirty page's swizzled words name one of those
-pub writtenOutBy-ext : (a b : ℕ → ℕ) (r : FrameRecord) (fs st : List ℕ) (f : ℕ) → (isDirty r ≡ true → (k : ℕ) → k < slotCount → name fs f k < frameWord mostFrames)
-    → ((j : ℕ) → j < mostFrames → a j ≡ b j) → writtenOutBy a r fs st f ≡ writtenOutBy b r fs st f
+pub writtenOutBy-ext : (N : ℕ) (a b : ℕ → ℕ) (r : FrameRecord) (fs st : List ℕ) (f : ℕ) → (isDirty r ≡ true → (k : ℕ) → k < slotCount → name fs f k < frameWord mostFrames)
+    → ((j : ℕ) → j < mostFrames → a j ≡ b j) → writtenOutBy N a r fs st f ≡ writtenOutBy N b r fs st f
 unfolding writtenOutBy pick
-writtenOutBy-ext a b r fs st f h e = by-dirty (isDirty r) h
+writtenOutBy-ext N a b r fs st f h e = by-dirty (isDirty r) h
   where
     by-dirty : (d : Bool) → (d ≡ true → (k : ℕ) → k < slotCount → name fs f k < frameWord mostFrames)
-        → pick d (putPage st (r .page .0) (imageTo a (pageOf fs f) slotCount)) st ≡ pick d (putPage st (r .page .0) (imageTo b (pageOf fs f) slotCount)) st
-    by-dirty true k = ap (λ (g : List ℕ). pick true (putPage st (r .page .0) g) st) (image-ext a b (pageOf fs f) slotCount (omega arith) (λ j l. rw (slot-pageOf fs f j l) (k refl j l)) e)
+        → pick d (putPage st (storePlace N (r .store .0) (r .page .0)) (imageTo a (pageOf fs f) slotCount)) st ≡ pick d (putPage st (storePlace N (r .store .0) (r .page .0)) (imageTo b (pageOf fs f) slotCount)) st
+    by-dirty true k = ap (λ (g : List ℕ). pick true (putPage st (storePlace N (r .store .0) (r .page .0)) g) st) (image-ext a b (pageOf fs f) slotCount (omega arith) (λ j l. rw (slot-pageOf fs f j l) (k refl j l)) e)
     by-dirty false k = refl
 
-pub writtenOutBy-length : (page : ℕ → ℕ) (r : FrameRecord) (fs st : List ℕ) (f F N : ℕ) → length fs ≡ pageSize * F → length st ≡ pageSize * N → f < F → r .page .0 < N
-    → length (writtenOutBy page r fs st f) ≡ length st
+pub writtenOutBy-length : (N : ℕ) (page : ℕ → ℕ) (r : FrameRecord) (fs st : List ℕ) (f F M : ℕ) → length fs ≡ pageSize * F → length st ≡ pageSize * M → f < F → storePlace N (r .store .0) (r .page .0) < M
+    → length (writtenOutBy N page r fs st f) ≡ length st
 unfolding writtenOutBy
-writtenOutBy-length page r fs st f F N lf ls hf hp =
+writtenOutBy-length N page r fs st f F M lf ls hf hp =
     pick-either (λ (x : List ℕ). length x ≡ length st) (isDirty r) _ _
-    (putPage-length st (r .page .0) _ N ls (image-length page (pageOf fs f) slotCount ∙ pageOf-length fs f F lf hf) hp) refl
+    (putPage-length st (storePlace N (r .store .0) (r .page .0)) _ M ls (image-length page (pageOf fs f) slotCount ∙ pageOf-length fs f F lf hf) hp) refl
 
-pub writtenOutTo-zero : (rs : List FrameRecord) (fs st : List ℕ) → writtenOutTo rs fs st 0 ≡ st
+pub writtenOutTo-zero : (N : ℕ) (rs : List FrameRecord) (fs st : List ℕ) → writtenOutTo N rs fs st 0 ≡ st
 unfolding writtenOutTo
-writtenOutTo-zero rs fs st = refl
+writtenOutTo-zero N rs fs st = refl
 
-pub writtenOutTo-suc : (rs : List FrameRecord) (fs st : List ℕ) (n : ℕ) → writtenOutTo rs fs st (suc n) ≡ writtenOut rs fs (writtenOutTo rs fs st n) n
+pub writtenOutTo-suc : (N : ℕ) (rs : List FrameRecord) (fs st : List ℕ) (n : ℕ) → writtenOutTo N rs fs st (suc n) ≡ writtenOut N rs fs (writtenOutTo N rs fs st n) n
 unfolding writtenOutTo
-writtenOutTo-suc rs fs st n = refl
+writtenOutTo-suc N rs fs st n = refl
 
-pub writtenOutTo-length : (rs : List FrameRecord) (fs st : List ℕ) (F N : ℕ) → length fs ≡ pageSize * F → length st ≡ pageSize * N → ((f : ℕ) → f < F → pageIn rs f < N)
-    → (n : ℕ) → n ≤ F → length (writtenOutTo rs fs st n) ≡ length st
+pub writtenOutTo-length : (N : ℕ) (rs : List FrameRecord) (fs st : List ℕ) (F M : ℕ) → length fs ≡ pageSize * F → length st ≡ pageSize * M → ((f : ℕ) → f < F → placeIn N rs f < M)
+    → (n : ℕ) → n ≤ F → length (writtenOutTo N rs fs st n) ≡ length st
 unfolding writtenOutTo
-writtenOutTo-length rs fs st F N lf ls hp zero h = refl
-writtenOutTo-length rs fs st F N lf ls hp (suc n) h =
-    let e = writtenOutTo-length rs fs st F N lf ls hp n (omega arith) in
-    writtenOutBy-length (pageIn rs) (recordAt rs n) fs (writtenOutTo rs fs st n) n F N lf (e ∙ ls) (omega arith) (hp n (omega arith)) ∙ e
+writtenOutTo-length N rs fs st F M lf ls hp zero h = refl
+writtenOutTo-length N rs fs st F M lf ls hp (suc n) h =
+    let e = writtenOutTo-length N rs fs st F M lf ls hp n (omega arith) in
+    writtenOutBy-length N (pageIn rs) (recordAt rs n) fs (writtenOutTo N rs fs st n) n F M lf (e ∙ ls) (omega arith) (hp n (omega arith)) ∙ e
 
 pub cleanedTo-zero : (rs : List FrameRecord) → cleanedTo rs 0 ≡ rs
 unfolding cleanedTo
@@ -127,11 +128,11 @@ unfolding cleanedTo
 cleanedTo-above rs zero m h = refl
 cleanedTo-above rs (suc n) m h = getD-set-other (cleanedTo rs n) n m _ blank (omega arith) ∙ cleanedTo-above rs n m (omega arith)
 
--- ---- the moves keep F, N and the lengths
+-- ---- the moves keep F, N, T and the lengths
 
-pub evicted-counts : (s : State) (f : ℕ) → (evicted s f .pool .count ≡ s .pool .count) × (evicted s f .pool .pages ≡ s .pool .pages)
+pub evicted-counts : (s : State) (f : ℕ) → (evicted s f .pool .count ≡ s .pool .count) × (evicted s f .pool .pages ≡ s .pool .pages) × (evicted s f .pool .stores ≡ s .pool .stores)
 unfolding evicted
-evicted-counts s f = (refl, refl)
+evicted-counts s f = (refl, refl, refl)
 
 pub evicted-sized : (s : State) (f : ℕ) → Ready s → f < s .pool .count → Sized (evicted s f)
 unfolding evicted
@@ -143,7 +144,7 @@ evicted-sized s f R l =
       some = z .some;
       pages = z .pages;
       frames = putSlot-length (s .frames) _ _ _ ∙ z .frames;
-      store = writtenOutBy-length _ (recordAt (s .pool .records) f) (s .frames) (s .store) f _ _ (z .frames) (z .store) l (R .inRange f l .page) ∙ z .store;
+      store = writtenOutBy-length (s .pool .pages) _ (recordAt (s .pool .records) f) (s .frames) (s .store) f _ _ (z .frames) (z .store) l (place-below s R f l) ∙ z .store;
     }
 
 -- ---- "A page written out and loaded again is that page."
@@ -161,20 +162,22 @@ pageOf-putSlot-other b p k w q n l hq hk ne = pageOf-ext (putSlot b p k w) b q q
 
 -- an eviction writes a dirty page's image to the store
 pub evicted-stored : (s : State) (f : ℕ) → Ready s → f < s .pool .count → isDirty (recordAt (s .pool .records) f) ≡ true
-    → pageOf (evicted s f .store) (pageIn (s .pool .records) f) ≡ imageOf (s .pool .records) (s .frames) f
+    → pageOf (evicted s f .store) (placeIn (s .pool .pages) (s .pool .records) f) ≡ imageOf (s .pool .records) (s .frames) f
 unfolding evicted writtenOutBy
 evicted-stored s f R l d =
     let z = R .sized in
     let lg : length (imageOf (s .pool .records) (s .frames) f) ≡ pageSize = image-length _ (pageOf (s .frames) f) slotCount ∙ pageOf-length (s .frames) f _ (z .frames) l in
-    ap (λ (st : List ℕ). pageOf st (pageIn (s .pool .records) f)) (sym (pick-yes (s .store) d refl)) ∙ pageOf-putPage (s .store) _ _ _ (z .store) lg (R .inRange f l .page)
+    ap (λ (st : List ℕ). pageOf st (placeIn (s .pool .pages) (s .pool .records) f)) (sym (pick-yes (s .store) d refl)) ∙ pageOf-putPage (s .store) _ _ _ (z .store) lg (place-below s R f l)
 
 -- a load brings the bytes of the stored page into its frame
-pub loaded-bytes : (s : State) (f k e q : ℕ) → Sized s → k < slotCount → e < s .pool .count → q < s .pool .pages → e ≢ f → pageOf (loaded s f k e q .frames) e ≡ pageOf (s .store) q
+pub loaded-bytes : (s : State) (f k e t q : ℕ) → Sized s → k < slotCount → e < s .pool .count → t < s .pool .stores → q < s .pool .pages → e ≢ f
+    → pageOf (loaded s f k e t q .frames) e ≡ pageOf (s .store) (storePlace (s .pool .pages) t q)
 unfolding loaded
-loaded-bytes s f k e q z hk he hq ne =
-    let lg : length (pageOf (s .store) q) ≡ pageSize = pageOf-length (s .store) q _ (z .store) hq in
-    let l : length (putPage (s .frames) e (pageOf (s .store) q)) ≡ pageSize * s .pool .count = putPage-length (s .frames) e (pageOf (s .store) q) _ (z .frames) lg he ∙ z .frames in
-    pageOf-putSlot-other (putPage (s .frames) e (pageOf (s .store) q)) f k _ e _ l he hk ne ∙ pageOf-putPage (s .frames) e (pageOf (s .store) q) _ (z .frames) lg he
+loaded-bytes s f k e t q z hk he ht hq ne =
+    let page : List ℕ = pageOf (s .store) (storePlace (s .pool .pages) t q) in
+    let lg : length page ≡ pageSize = pageOf-length (s .store) _ _ (z .store) (place-lt (s .pool .pages) t _ q ht hq) in
+    let l : length (putPage (s .frames) e page) ≡ pageSize * s .pool .count = putPage-length (s .frames) e page _ (z .frames) lg he ∙ z .frames in
+    pageOf-putSlot-other (putPage (s .frames) e page) f k _ e _ l he hk ne ∙ pageOf-putPage (s .frames) e page _ (z .frames) lg he
 
 -- the image of a frame without a swizzled word is its bytes
 pub childless-image : (s : State) (f : ℕ) → Sized s → Octets (s .frames) → f < s .pool .count → childless (s .frames) f ≡ true → imageOf (s .pool .records) (s .frames) f ≡ pageOf (s .frames) f
@@ -185,11 +188,11 @@ childless-image s f z o l c =
 
 -- the page in frame f leaves it, and comes into frame e for slot k of frame up
 abbrev pub outAndIn : State → ℕ → ℕ → ℕ → ℕ → State
-outAndIn s f up k e = loaded (evicted s f) up k e (pageIn (s .pool .records) f)
+outAndIn s f up k e = loaded (evicted s f) up k e (storeIn (s .pool .records) f) (pageIn (s .pool .records) f)
 
 pub record CameBack (s : State) (f up k e : ℕ) : Type 0 where
   -- what went to the store is the image
-  pub stored : pageOf (evicted s f .store) (pageIn (s .pool .records) f) ≡ imageOf (s .pool .records) (s .frames) f
+  pub stored : pageOf (evicted s f .store) (placeIn (s .pool .pages) (s .pool .records) f) ≡ imageOf (s .pool .records) (s .frames) f
   -- what came into frame e is the image
   pub image : pageOf (outAndIn s f up k e .frames) e ≡ imageOf (s .pool .records) (s .frames) f
   -- and that is, byte for byte, the page that was in frame f
@@ -201,5 +204,6 @@ pub written-out-and-loaded : (s : State) (f up k e : ℕ) → Ready s → Octets
 written-out-and-loaded s f up k e R o l d c hk he ne =
     let stored = evicted-stored s f R l d in
     let n = evicted-counts s f in
-    let image = loaded-bytes (evicted s f) up k e _ (evicted-sized s f R l) hk (rw (n .0) he) (rw (n .1) (R .inRange f l .page)) ne ∙ stored in
+    let image = loaded-bytes (evicted s f) up k e _ _ (evicted-sized s f R l) hk (rw (n .0) he) (rw (n .2) (R .inRange f l .store)) (rw (n .1) (R .inRange f l .page)) ne
+    ∙ ap (λ (N : ℕ). pageOf (evicted s f .store) (placeIn N (s .pool .records) f)) (n .1) ∙ stored in
     record { stored = stored; image = image; same = image ∙ childless-image s f (R .sized) o l c }

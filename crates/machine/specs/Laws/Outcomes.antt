@@ -14,7 +14,7 @@ use Rattle.rules.specs.Tests.{_and_, pick, Rule, firstBroken, verdict}
 use Rattle.rules.specs.TestLaws.{clash, is-off, and-true, pick-either, verdict-yes, verdict-no, numbered, broken-then, kept-then, broken-here}
 use Rattle.machine.specs.Machine.{State}
 use Rattle.machine.specs.Answers.{Answer, refused, frame, nowhere, Out, out}
-use Rattle.machine.specs.Rules.{wordOf, rule13, rule14, rule15}
+use Rattle.machine.specs.Rules.{wordOf, rule13, rule14, rule15, rule27}
 use Rattle.machine.specs.Calls.{decide, missOut, pinnedOut, fixEntryRules, fixRules, fixCall, payloadPlace, foundAnswer}
 use Rattle.machine.specs.History.{accepted}
 use Rattle.machine.specs.Laws.RuleLaws.{decide-no}
@@ -174,27 +174,31 @@ one-absence e = cc
 
 -- ---- what peek, find and fix answer where no rule is broken is no refusal
 
+-- fix's rules of page q of store t that isn't resident
+abbrev pub loadRules : State → ℕ → ℕ → List Rule
+loadRules s t q = rule14 s t q ∷ rule15 s t ∷ rule27 s t ∷ []
+
 module _ (s : State) where
-  pub place-accepted : (q : ℕ) → accepted (payloadPlace s q) ≡ true
+  pub place-accepted : (t q : ℕ) → accepted (payloadPlace s t q) ≡ true
   unfolding payloadPlace
-  place-accepted q = pick-either (λ (a : Answer). accepted a ≡ true) _ _ _ refl refl
+  place-accepted t q = pick-either (λ (a : Answer). accepted a ≡ true) _ _ _ refl refl
 
-  pub found-accepted : (q : ℕ) → accepted (foundAnswer s q) ≡ true
+  pub found-accepted : (t q : ℕ) → accepted (foundAnswer s t q) ≡ true
   unfolding foundAnswer
-  found-accepted q = pick-either (λ (a : Answer). accepted a ≡ true) _ _ _ refl refl
+  found-accepted t q = pick-either (λ (a : Answer). accepted a ≡ true) _ _ _ refl refl
 
-  pub miss-accepted : (f k q : ℕ) → accepted (missOut s f k q .answer) ≡ true
+  pub miss-accepted : (f k t q : ℕ) → accepted (missOut s f k t q .answer) ≡ true
   unfolding missOut
-  miss-accepted f k q = pick-either (λ (o : Out). accepted (o .answer) ≡ true) _ _ _ refl refl
+  miss-accepted f k t q = pick-either (λ (o : Out). accepted (o .answer) ≡ true) _ _ _ refl refl
 
-  pub fix-accepted : (h : Handle) (k : ℕ) → let w = wordOf s h k in accepted (pick (isNumber w) (missOut s (h .frame .0) k w) (pinnedOut s (frameIn w)) .answer) ≡ true
-  fix-accepted h k = let w = wordOf s h k in pick-either (λ (o : Out). accepted (o .answer) ≡ true) (isNumber w) _ _ (miss-accepted (h .frame .0) k w) refl
+  pub fix-accepted : (h : Handle) (k : ℕ) → let w = wordOf s h k in accepted (pick (isNumber w) (missOut s (h .frame .0) k (h .store .0) w) (pinnedOut s (frameIn w)) .answer) ≡ true
+  fix-accepted h k = let w = wordOf s h k in pick-either (λ (o : Out). accepted (o .answer) ≡ true) (isNumber w) _ _ (miss-accepted (h .frame .0) k (h .store .0) w) refl
 
   -- fix doesn't answer a number that its rules lack, whether the page is resident or not
-  pub fix-lacks : (h : Handle) (k n : ℕ) → n ≢ 0 → lacks n (fixEntryRules s h k ++ (rule14 s (wordOf s h k) ∷ rule15 s ∷ [])) ≡ true → lacks n (fixEntryRules s h k ++ (rule13 s (frameIn (wordOf s h k)) ∷ [])) ≡ true
+  pub fix-lacks : (h : Handle) (k n : ℕ) → n ≢ 0 → lacks n (fixEntryRules s h k ++ loadRules s (h .store .0) (wordOf s h k)) ≡ true → lacks n (fixEntryRules s h k ++ (rule13 s (frameIn (wordOf s h k)) ∷ [])) ≡ true
       → fixCall s h k .answer ≢ refused n
   unfolding fixCall
   fix-lacks h k n z a b =
       let w = wordOf s h k in
       never-by s (fixRules s h k) _ (fix-accepted h k) n z
-      (pick-either (λ (rs : List Rule). lacks n (fixEntryRules s h k ++ rs) ≡ true) (isNumber w) (rule14 s w ∷ rule15 s ∷ []) (rule13 s (frameIn w) ∷ []) a b)
+      (pick-either (λ (rs : List Rule). lacks n (fixEntryRules s h k ++ rs) ≡ true) (isNumber w) (loadRules s (h .store .0) w) (rule13 s (frameIn w) ∷ []) a b)

@@ -1,4 +1,4 @@
--- Following parents: frame 0 is reached in F steps or never. Assumes nothing.
+-- Following parents: a root, a frame below T, is reached in F steps or never. Assumes nothing.
 use Prim.Native.Nat.{ℕ, zero, suc, _+_, _-_, _<_, _≤_}
 use mathlib.Core.Path.{_≡_, refl, sym, _∙_, ap}
 use mathlib.Core.Logic.{_≢_}
@@ -6,10 +6,11 @@ use mathlib.Core.Bool.{true, cond}
 use native.Mathlib.Omega.{arith}
 use native.Mathlib.Nat.{zero-add, suc-add}
 use native.Mathlib.Decide.{ℕ-discrete, decLt}
-use borrow.Author.Tests.{eqb-true, eq-eqb, ne-eqb}
+use borrow.Author.Tests.{eq-eqb, ne-eqb, lt-ltb, ltb-true}
 use lib.Dec.{eqb}
 use Rattle.machine.specs.declared.Pool.{Pool}
 use Rattle.rules.specs.TestLaws.{case, on, off, or-left, or-right, or-second}
+use Rattle.machine.specs.Machine.{isRoot}
 use Rattle.machine.specs.Agreement.{parentOf, reachesRoot}
 
 -- ---- steps to the parent, which `up` gives
@@ -38,15 +39,15 @@ module _ (up : ℕ → ℕ) where
   climb-below F b zero f h = h
   climb-below F b (suc n) f h = climb-below F b n (up f) (b f h)
 
-  -- frame 0 has no parent: steps from there stay there
-  module _ (z : up 0 ≡ 0) where
-    pub climb-root : (n : ℕ) → climb up n 0 ≡ 0
+  -- a root's parent fields lead to a root: steps from there stay among them
+  module _ (T : ℕ) (stays : (f : ℕ) → f < T → up f < T) where
+    pub climb-root : (n f : ℕ) → f < T → climb up n f < T
     unfolding climb
-    climb-root zero = refl
-    climb-root (suc n) = ap (climb up n) z ∙ climb-root n
+    climb-root zero f l = l
+    climb-root (suc n) f l = climb-root n (up f) (stays f l)
 
-    pub climb-more : (m n f : ℕ) → climb up m f ≡ 0 → climb up (m + n) f ≡ 0
-    climb-more m n f e = climb-add m n f ∙ ap (climb up n) e ∙ climb-root n
+    pub climb-more : (m n f : ℕ) → climb up m f < T → climb up (m + n) f < T
+    climb-more m n f e = rw (climb-add m n f) (climb-root n (climb up m f) e)
 
 -- ---- fewer than n values cannot serve n places
 
@@ -85,97 +86,99 @@ pigeonhole (suc F) (suc n) t lt inj = suc-le (pigeonhole F n (shift t F n)
     suc-le : n ≤ F → suc n ≤ suc F
     suc-le h = omega arith
 
--- ---- n steps lead to frame 0, and no fewer do
-record First (up : ℕ → ℕ) (f n : ℕ) : Type 0 where
-  ends : climb up n f ≡ 0
-  before : (i : ℕ) → i < n → climb up i f ≢ 0
+-- ---- n steps lead to a root, and no fewer do
+record First (T : ℕ) (up : ℕ → ℕ) (f n : ℕ) : Type 0 where
+  ends : climb up n f < T
+  before : (i : ℕ) → i < n → T ≤ climb up i f
 
-first-zero : (up : ℕ → ℕ) (f : ℕ) → f ≡ 0 → First up f 0
+first-zero : (T : ℕ) (up : ℕ → ℕ) (f : ℕ) → f < T → First T up f 0
 unfolding climb
-first-zero up f e = record { ends = e; before = λ i h. absurd (omega arith) }
+first-zero T up f e = record { ends = e; before = λ i h. absurd (omega arith) }
 
-first-suc : (up : ℕ → ℕ) (f n : ℕ) → f ≢ 0 → First up (up f) n → First up f (suc n)
+first-suc : (T : ℕ) (up : ℕ → ℕ) (f n : ℕ) → T ≤ f → First T up (up f) n → First T up f (suc n)
 unfolding climb
-first-suc up f n z r = record { ends = r .ends; before = λ i h. go i h }
+first-suc T up f n z r = record { ends = r .ends; before = λ i h. go i h }
   where
-    go : (i : ℕ) → i < suc n → climb up i f ≢ 0
+    go : (i : ℕ) → i < suc n → T ≤ climb up i f
     go zero h = z
     go (suc i) h = r .before i (omega arith)
 
-first : (up : ℕ → ℕ) (m f : ℕ) → climb up m f ≡ 0 → (n : ℕ) × First up f n
+first : (T : ℕ) (up : ℕ → ℕ) (m f : ℕ) → climb up m f < T → (n : ℕ) × First T up f n
 unfolding climb
-first up zero f e = (0, first-zero up f e)
-first up (suc m) f e = elim (ℕ-discrete f 0) [
-  | yes z ↦ (0, first-zero up f z)
-  | no z ↦ let a = first up m (up f) e in (suc (a .0), first-suc up f (a .0) z (a .1))
+first T up zero f e = (0, first-zero T up f e)
+first T up (suc m) f e = elim (decLt f T) [
+  | yes z ↦ (0, first-zero T up f z)
+  | no z ↦ let a = first T up m (up f) e in (suc (a .0), first-suc T up f (a .0) (omega arith) (a .1))
 ]
 
 -- the frames on the way are all different, so there are at most F of them
-steps-few : (up : ℕ → ℕ) (F : ℕ) → ((f : ℕ) → f < F → up f < F) → (f n : ℕ) → f < F → First up f n → n ≤ F
-steps-few up F b f n l r = pigeonhole F n (λ i. climb up i f) (λ i h. climb-below up F b i f l)
+steps-few : (T : ℕ) (up : ℕ → ℕ) (F : ℕ) → ((f : ℕ) → f < F → up f < F) → (f n : ℕ) → f < F → First T up f n → n ≤ F
+steps-few T up F b f n l r = pigeonhole F n (λ i. climb up i f) (λ i h. climb-below up F b i f l)
     (λ i j hi hj e. elim (decLt i j) [
       | yes l ↦ absurd (twice i j hj l e)
       | no l ↦ elim (decLt j i) [ yes m ↦ absurd (twice j i hi m (sym e)) | no m ↦ omega arith ]
     ])
   where
     twice : (i j : ℕ) → j < n → i < j → climb up i f ≡ climb up j f → ⊥
-    twice i j hj l e = r .before (i + (n - j)) (omega arith)
-        (climb-add up i (n - j) f ∙ ap (climb up (n - j)) e ∙ sym (climb-add up j (n - j) f) ∙ ap (λ (k : ℕ). climb up k f) (omega arith) ∙ r .ends)
+    twice i j hj l e =
+        let same : climb up (i + (n - j)) f ≡ climb up n f =
+        climb-add up i (n - j) f ∙ ap (climb up (n - j)) e ∙ sym (climb-add up j (n - j) f) ∙ ap (λ (k : ℕ). climb up k f) (omega arith) in
+        omega (arith, r .before (i + (n - j)) (omega arith), r .ends, same)
 
 -- ---- the test that walks at most n steps
 
--- as many steps as lead to frame 0, or more
-reach-in : (p : Pool) (n m f : ℕ) → n ≤ m → climb (parentOf p) n f ≡ 0 → reachesRoot p m f ≡ true
+-- as many steps as lead to a root, or more
+reach-in : (p : Pool) (n m f : ℕ) → n ≤ m → climb (parentOf p) n f < p .stores → reachesRoot p m f ≡ true
 unfolding reachesRoot climb
-reach-in p zero zero f l e = eq-eqb f 0 e
-reach-in p zero (suc m) f l e = or-left _ (eq-eqb f 0 e)
+reach-in p zero zero f l e = lt-ltb f (p .stores) e
+reach-in p zero (suc m) f l e = or-left _ (lt-ltb f (p .stores) e)
 reach-in p (suc n) zero f l e = absurd (omega arith)
-reach-in p (suc n) (suc m) f l e = or-right (eqb f 0) (reach-in p n m (parentOf p f) (omega arith) e)
+reach-in p (suc n) (suc m) f l e = or-right (isRoot (p .stores) f) (reach-in p n m (parentOf p f) (omega arith) e)
 
--- where any number of steps leads to frame 0, at most F do
-pub climb-few : (up : ℕ → ℕ) (F : ℕ) → ((f : ℕ) → f < F → up f < F) → (f : ℕ) → f < F → (n : ℕ) × (climb up n f ≡ 0) → (n : ℕ) × (n ≤ F) × (climb up n f ≡ 0)
-climb-few up F b f l s =
-    let a = first up (s .0) f (s .1) in
-    (a .0, steps-few up F b f (a .0) l (a .1), a .1 .ends)
+-- where any number of steps leads to a root, at most F do
+pub climb-few : (T : ℕ) (up : ℕ → ℕ) (F : ℕ) → ((f : ℕ) → f < F → up f < F) → (f : ℕ) → f < F → (n : ℕ) × (climb up n f < T) → (n : ℕ) × (n ≤ F) × (climb up n f < T)
+climb-few T up F b f l s =
+    let a = first T up (s .0) f (s .1) in
+    (a .0, steps-few T up F b f (a .0) l (a .1), a .1 .ends)
 
-pub climb-reach : (p : Pool) (F : ℕ) → ((f : ℕ) → f < F → parentOf p f < F) → (f : ℕ) → f < F → (n : ℕ) × (climb (parentOf p) n f ≡ 0) → reachesRoot p F f ≡ true
-climb-reach p F b f l s = let a = climb-few (parentOf p) F b f l s in reach-in p (a .0) F f (a .1) (a .2)
+pub climb-reach : (p : Pool) (F : ℕ) → ((f : ℕ) → f < F → parentOf p f < F) → (f : ℕ) → f < F → (n : ℕ) × (climb (parentOf p) n f < p .stores) → reachesRoot p F f ≡ true
+climb-reach p F b f l s = let a = climb-few (p .stores) (parentOf p) F b f l s in reach-in p (a .0) F f (a .1) (a .2)
 
--- where at most n steps lead to frame 0, so do m of them and more, since frame 0 has no parent
-pub reach-climb : (p : Pool) → parentOf p 0 ≡ 0 → (n m f : ℕ) → n ≤ m → reachesRoot p n f ≡ true → climb (parentOf p) m f ≡ 0
+-- where at most n steps lead to a root, so do m of them and more, since roots lead to roots
+pub reach-climb : (p : Pool) → ((f : ℕ) → f < p .stores → parentOf p f < p .stores) → (n m f : ℕ) → n ≤ m → reachesRoot p n f ≡ true → climb (parentOf p) m f < p .stores
 unfolding reachesRoot climb
-reach-climb p z zero m f l e = ap (climb (parentOf p) m) (eqb-true f 0 e) ∙ climb-root (parentOf p) z m
+reach-climb p z zero m f l e = climb-root (parentOf p) (p .stores) z m f (ltb-true f (p .stores) e)
 reach-climb p z (suc n) zero f l e = absurd (omega arith)
-reach-climb p z (suc n) (suc m) f l e = elim (case (eqb f 0)) [
-  | on q ↦ ap (climb (parentOf p) (suc m)) (eqb-true f 0 q) ∙ climb-root (parentOf p) z (suc m)
-  | off q ↦ reach-climb p z n m (parentOf p f) (omega arith) (or-second (eqb f 0) _ e q)
+reach-climb p z (suc n) (suc m) f l e = elim (case (isRoot (p .stores) f)) [
+  | on q ↦ climb-root (parentOf p) (p .stores) z (suc m) f (ltb-true f (p .stores) q)
+  | off q ↦ reach-climb p z n m (parentOf p f) (omega arith) (or-second (isRoot (p .stores) f) _ e q)
 ]
 
 -- ---- the same without a number of steps
 
--- following parents reaches frame 0
-pub data ClimbsTo (up : ℕ → ℕ) : ℕ → Type 0 where
-  top : ClimbsTo up 0
-  via : {f : ℕ} → ClimbsTo up (up f) → ClimbsTo up f
+-- following parents reaches a root
+pub data ClimbsTo (T : ℕ) (up : ℕ → ℕ) : ℕ → Type 0 where
+  top : {f : ℕ} → f < T → ClimbsTo T up f
+  via : {f : ℕ} → ClimbsTo T up (up f) → ClimbsTo T up f
 
-pub reach-steps : (up : ℕ → ℕ) (f : ℕ) → ClimbsTo up f → (n : ℕ) × (climb up n f ≡ 0)
+pub reach-steps : (T : ℕ) (up : ℕ → ℕ) (f : ℕ) → ClimbsTo T up f → (n : ℕ) × (climb up n f < T)
 unfolding climb
-reach-steps up f top = (0, refl)
-reach-steps up f (via r) = let a = reach-steps up (up f) r in (suc (a .0), a .1)
+reach-steps T up f (top l) = (0, l)
+reach-steps T up f (via r) = let a = reach-steps T up (up f) r in (suc (a .0), a .1)
 
-pub steps-reach : (up : ℕ → ℕ) (n f : ℕ) → climb up n f ≡ 0 → ClimbsTo up f
+pub steps-reach : (T : ℕ) (up : ℕ → ℕ) (n f : ℕ) → climb up n f < T → ClimbsTo T up f
 unfolding climb
-steps-reach up zero f e = rw e top
-steps-reach up (suc n) f e = via {f = f} (steps-reach up n (up f) e)
+steps-reach T up zero f e = top {f = f} e
+steps-reach T up (suc n) f e = via {f = f} (steps-reach T up n (up f) e)
 
 -- F steps are enough
-pub reach-complete : (p : Pool) (F : ℕ) → ((f : ℕ) → f < F → parentOf p f < F) → (f : ℕ) → f < F → ClimbsTo (parentOf p) f → reachesRoot p F f ≡ true
-reach-complete p F b f l r = climb-reach p F b f l (reach-steps (parentOf p) f r)
+pub reach-complete : (p : Pool) (F : ℕ) → ((f : ℕ) → f < F → parentOf p f < F) → (f : ℕ) → f < F → ClimbsTo (p .stores) (parentOf p) f → reachesRoot p F f ≡ true
+reach-complete p F b f l r = climb-reach p F b f l (reach-steps (p .stores) (parentOf p) f r)
 
-pub reach-sound : (p : Pool) (n f : ℕ) → reachesRoot p n f ≡ true → ClimbsTo (parentOf p) f
+pub reach-sound : (p : Pool) (n f : ℕ) → reachesRoot p n f ≡ true → ClimbsTo (p .stores) (parentOf p) f
 unfolding reachesRoot
-reach-sound p zero f e = rw (eqb-true f 0 e) top
-reach-sound p (suc n) f e = elim (case (eqb f 0)) [
-  | on q ↦ rw (eqb-true f 0 q) top
-  | off q ↦ via {f = f} (reach-sound p n (parentOf p f) (or-second (eqb f 0) _ e q))
+reach-sound p zero f e = top {f = f} (ltb-true f (p .stores) e)
+reach-sound p (suc n) f e = elim (case (isRoot (p .stores) f)) [
+  | on q ↦ top {f = f} (ltb-true f (p .stores) q)
+  | off q ↦ via {f = f} (reach-sound p n (parentOf p f) (or-second (isRoot (p .stores) f) _ e q))
 ]

@@ -11,19 +11,20 @@ use Rattle.machine.specs.declared.Pool.{Pool}
 use Rattle.machine.specs.declared.Handle.{Handle}
 use Rattle.rules.specs.Tests.{_and_, Rule, firstBroken, verdict}
 use Rattle.rules.specs.TestLaws.{and-true, first-kept, pick-either, verdict-no, verdict-yes, numbered, broken-then, parts-kept}
-use Rattle.machine.specs.Machine.{State, isUsed, recordAt, pageIn, occupied}
+use Rattle.machine.specs.Machine.{State, isUsed, recordAt, pageIn, storeIn, occupied}
 use Rattle.machine.specs.Laws.AgreementFacts.{make-occupied}
 use Rattle.machine.specs.Answers.{Answer, refused, done, Out, out, doneAnswer}
-use Rattle.machine.specs.Rules.{handleFits, locked, rule3, rule4, rule6, rule26}
-use Rattle.machine.specs.Calls.{decide, poolRules, handleRules, wordRules, editRules, pageRules, showCall, peekCall, wordCall, findCall}
+use Rattle.machine.specs.Rules.{handleFits, locked, rule3, rule4, rule6, rule26, rule28}
+use Rattle.machine.specs.Calls.{decide, poolRules, storeRules, handleRules, wordRules, editRules, pageRules, showCall, peekCall, wordCall, findCall}
 use Rattle.machine.specs.Laws.Ready.{Kept, rules-kept}
 
 -- ---- no rule is broken
 
--- rule 3: the handle's frame is one of the F frames and holds its page, which is pinned
+-- rule 3: the handle's frame is one of the F frames and holds its page, of its store, which is pinned
 pub record HandleHeld (p : Pool) (h : Handle) : Type 0 where
   pub below : h .frame .0 < p .count
   pub used : isUsed (recordAt (p .records) (h .frame .0)) ≡ true
+  pub store : storeIn (p .records) (h .frame .0) ≡ h .store .0
   pub page : pageIn (p .records) (h .frame .0) ≡ h .page .0
   pub pins : 0 < recordAt (p .records) (h .frame .0) .pins
 
@@ -33,35 +34,49 @@ handle-held p h t =
     let r = recordAt (p .records) (h .frame .0) in
     let a = and-true (ltb (h .frame .0) (p .count)) _ t in
     let b = and-true (isUsed r) _ (a .1) in
-    let c = and-true (eqb (r .page .0) (h .page .0)) (ltb 0 (r .pins)) (b .1) in
-    record { below = ltb-true _ _ (a .0); used = b .0; page = eqb-true _ _ (c .0); pins = ltb-true 0 _ (c .1) }
+    let c = and-true (eqb (r .store .0) (h .store .0)) _ (b .1) in
+    let d = and-true (eqb (r .page .0) (h .page .0)) (ltb 0 (r .pins)) (c .1) in
+    record { below = ltb-true _ _ (a .0); used = b .0; store = eqb-true _ _ (c .0); page = eqb-true _ _ (d .0); pins = ltb-true 0 _ (d .1) }
 
 pub held-occupied : (p : Pool) (h : Handle) → HandleHeld p h → occupied p (h .frame .0) ≡ true
 held-occupied p h e = make-occupied p (h .frame .0) (e .below) (e .used)
 
+-- rule 28: the store is one of T
+pub record StoreKept (s : State) (t : ℕ) : Type 0 where
+  pub kept : Kept s
+  pub store : t < s .pool .stores
+
 pub record HandleKept (s : State) (h : Handle) : Type 0 where
   pub kept : Kept s
+  pub store : h .store .0 < s .pool .stores
   pub held : HandleHeld (s .pool) h
 
 pub record SlotKept (s : State) (h : Handle) (k : ℕ) : Type 0 where
   pub kept : Kept s
+  pub store : h .store .0 < s .pool .stores
   pub held : HandleHeld (s .pool) h
   pub slot : k < slotCount
 
 -- rule 26 too: the page isn't locked
 pub record EditKept (s : State) (h : Handle) (k : ℕ) : Type 0 where
   pub kept : Kept s
+  pub store : h .store .0 < s .pool .stores
   pub held : HandleHeld (s .pool) h
   pub slot : k < slotCount
   pub free : locked s (h .frame .0) ≡ false
 
-pub record PageKept (s : State) (q : PageNumber) : Type 0 where
+pub record PageKept (s : State) (t : ℕ) (q : PageNumber) : Type 0 where
   pub kept : Kept s
+  pub store : t < s .pool .stores
   pub below : q .0 < s .pool .pages
 
 pool-numbered : (s : State) → numbered (poolRules s) ≡ true
 unfolding numbered _and_
 pool-numbered s = refl
+
+store-numbered : (s : State) (t : ℕ) → numbered (storeRules s t) ≡ true
+unfolding numbered _and_
+store-numbered s t = refl
 
 handle-numbered : (s : State) (h : Handle) → numbered (handleRules s h) ≡ true
 unfolding numbered _and_
@@ -75,20 +90,26 @@ edit-numbered : (s : State) (h : Handle) (k : ℕ) → numbered (editRules s h k
 unfolding numbered _and_
 edit-numbered s h k = refl
 
-page-numbered : (s : State) (q : PageNumber) → numbered (pageRules s q) ≡ true
+page-numbered : (s : State) (t : ℕ) (q : PageNumber) → numbered (pageRules s t q) ≡ true
 unfolding numbered _and_
-page-numbered s q = refl
+page-numbered s t q = refl
+
+pub store-kept : (s : State) (t : ℕ) → firstBroken (storeRules s t) ≡ 0 → StoreKept s t
+store-kept s t e =
+    let a = parts-kept (poolRules s) (rule28 s t ∷ []) (pool-numbered s) e in
+    record { kept = rules-kept s (a .0); store = ltb-true t _ (first-kept 27 (ltb t (s .pool .stores)) [] (a .1) .0) }
 
 pub handle-kept : (s : State) (h : Handle) → firstBroken (handleRules s h) ≡ 0 → HandleKept s h
 handle-kept s h e =
-    let a = parts-kept (poolRules s) (rule3 s h ∷ []) (pool-numbered s) e in
-    record { kept = rules-kept s (a .0); held = handle-held (s .pool) h (first-kept 2 (handleFits (s .pool) h) [] (a .1) .0) }
+    let a = parts-kept (storeRules s (h .store .0)) (rule3 s h ∷ []) (store-numbered s (h .store .0)) e in
+    let b = store-kept s (h .store .0) (a .0) in
+    record { kept = b .kept; store = b .store; held = handle-held (s .pool) h (first-kept 2 (handleFits (s .pool) h) [] (a .1) .0) }
 
 pub slot-kept : (s : State) (h : Handle) (k : ℕ) → firstBroken (wordRules s h k) ≡ 0 → SlotKept s h k
 slot-kept s h k e =
     let a = parts-kept (handleRules s h) (rule4 k ∷ []) (handle-numbered s h) e in
     let b = handle-kept s h (a .0) in
-    record { kept = b .kept; held = b .held; slot = ltb-true k slotCount (first-kept 3 (ltb k slotCount) [] (a .1) .0) }
+    record { kept = b .kept; store = b .store; held = b .held; slot = ltb-true k slotCount (first-kept 3 (ltb k slotCount) [] (a .1) .0) }
 
 pub not-locked : (s : State) (h : Handle) (rest : List Rule) → firstBroken (rule26 s h ∷ rest) ≡ 0 → (locked s (h .frame .0) ≡ false) × (firstBroken rest ≡ 0)
 not-locked s h rest e = let a = first-kept 25 (not (locked s (h .frame .0))) rest e in (not-true _ (a .0), a .1)
@@ -97,12 +118,13 @@ pub edit-kept : (s : State) (h : Handle) (k : ℕ) → firstBroken (editRules s 
 edit-kept s h k e =
     let a = parts-kept (wordRules s h k) (rule26 s h ∷ []) (slot-numbered s h k) e in
     let b = slot-kept s h k (a .0) in
-    record { kept = b .kept; held = b .held; slot = b .slot; free = not-locked s h [] (a .1) .0 }
+    record { kept = b .kept; store = b .store; held = b .held; slot = b .slot; free = not-locked s h [] (a .1) .0 }
 
-pub page-kept : (s : State) (q : PageNumber) → firstBroken (pageRules s q) ≡ 0 → PageKept s q
-page-kept s q e =
-    let a = parts-kept (poolRules s) (rule6 s (q .0) ∷ []) (pool-numbered s) e in
-    record { kept = rules-kept s (a .0); below = ltb-true _ _ (first-kept 5 (ltb (q .0) (s .pool .pages)) [] (a .1) .0) }
+pub page-kept : (s : State) (t : ℕ) (q : PageNumber) → firstBroken (pageRules s t q) ≡ 0 → PageKept s t q
+page-kept s t q e =
+    let a = parts-kept (storeRules s t) (rule6 s (q .0) ∷ []) (store-numbered s t) e in
+    let b = store-kept s t (a .0) in
+    record { kept = b .kept; store = b .store; below = ltb-true _ _ (first-kept 5 (ltb (q .0) (s .pool .pages)) [] (a .1) .0) }
 
 -- ---- rules in two parts, xs and then ys
 
@@ -113,13 +135,23 @@ stops xs ys t e h = verdict-no (λ k. k) (firstBroken ys) e h ∙ broken-then xs
 passes : (xs ys : List Rule) {n m : ℕ} → numbered xs ≡ true → n ≡ firstBroken xs → n ≡ 0 → m ≡ firstBroken ys → m ≡ firstBroken (xs ++ ys)
 passes xs ys t e h i = verdict-yes (λ k. k) e h i ∙ broken-then xs ys t
 
--- the rules ys after those of the pool; of a handle; of a handle and a slot; of a change there; of a page number: where the first part refuses, where it passes, and where neither is broken
+-- the rules ys after those of the pool; of a store; of a handle; of a handle and a slot; of a change there; of a page number: where the first part refuses, where it passes, and where neither is broken
 module _ (s : State) (ys : List Rule) {n : ℕ} where
   pub pool-stops : n ≡ firstBroken (poolRules s) → (n ≡ 0 → ⊥) → n ≡ firstBroken (poolRules s ++ ys)
   pool-stops = stops (poolRules s) ys (pool-numbered s)
 
   pub pool-passes : {m : ℕ} → n ≡ firstBroken (poolRules s) → n ≡ 0 → m ≡ firstBroken ys → m ≡ firstBroken (poolRules s ++ ys)
   pool-passes = passes (poolRules s) ys (pool-numbered s)
+
+module _ (s : State) (t : ℕ) (ys : List Rule) {n : ℕ} where
+  pub store-stops : n ≡ firstBroken (storeRules s t) → (n ≡ 0 → ⊥) → n ≡ firstBroken (storeRules s t ++ ys)
+  store-stops = stops (storeRules s t) ys (store-numbered s t)
+
+  pub store-passes : {m : ℕ} → n ≡ firstBroken (storeRules s t) → n ≡ 0 → m ≡ firstBroken ys → m ≡ firstBroken (storeRules s t ++ ys)
+  store-passes = passes (storeRules s t) ys (store-numbered s t)
+
+pub store-parts : (s : State) (t : ℕ) (ys : List Rule) → firstBroken (storeRules s t ++ ys) ≡ 0 → StoreKept s t × (firstBroken ys ≡ 0)
+store-parts s t ys e = let a = parts-kept (storeRules s t) ys (store-numbered s t) e in (store-kept s t (a .0), a .1)
 
 module _ (s : State) (h : Handle) (ys : List Rule) {n : ℕ} where
   pub handle-stops : n ≡ firstBroken (handleRules s h) → (n ≡ 0 → ⊥) → n ≡ firstBroken (handleRules s h ++ ys)
@@ -151,12 +183,12 @@ module _ (s : State) (h : Handle) (k : ℕ) (ys : List Rule) {n : ℕ} where
 pub edit-parts : (s : State) (h : Handle) (k : ℕ) (ys : List Rule) → firstBroken (editRules s h k ++ ys) ≡ 0 → EditKept s h k × (firstBroken ys ≡ 0)
 edit-parts s h k ys e = let a = parts-kept (editRules s h k) ys (edit-numbered s h k) e in (edit-kept s h k (a .0), a .1)
 
-module _ (s : State) (q : PageNumber) (ys : List Rule) {n : ℕ} where
-  pub page-stops : n ≡ firstBroken (pageRules s q) → (n ≡ 0 → ⊥) → n ≡ firstBroken (pageRules s q ++ ys)
-  page-stops = stops (pageRules s q) ys (page-numbered s q)
+module _ (s : State) (t : ℕ) (q : PageNumber) (ys : List Rule) {n : ℕ} where
+  pub page-stops : n ≡ firstBroken (pageRules s t q) → (n ≡ 0 → ⊥) → n ≡ firstBroken (pageRules s t q ++ ys)
+  page-stops = stops (pageRules s t q) ys (page-numbered s t q)
 
-  pub page-passes : {m : ℕ} → n ≡ firstBroken (pageRules s q) → n ≡ 0 → m ≡ firstBroken ys → m ≡ firstBroken (pageRules s q ++ ys)
-  page-passes = passes (pageRules s q) ys (page-numbered s q)
+  pub page-passes : {m : ℕ} → n ≡ firstBroken (pageRules s t q) → n ≡ 0 → m ≡ firstBroken ys → m ≡ firstBroken (pageRules s t q ++ ys)
+  page-passes = passes (pageRules s t q) ys (page-numbered s t q)
 
 -- ---- what a call answers and leaves, where n is the refusal that the code computed
 
@@ -200,14 +232,14 @@ pub show-left-alone : (s : State) (h : Handle) → showCall s h .left ≡ s
 unfolding showCall
 show-left-alone s h = left-alone s _ _
 
-pub peek-left-alone : (s : State) (q : PageNumber) → peekCall s q .left ≡ s
+pub peek-left-alone : (s : State) (t : ℕ) (q : PageNumber) → peekCall s t q .left ≡ s
 unfolding peekCall
-peek-left-alone s q = left-alone s _ _
+peek-left-alone s t q = left-alone s _ _
 
 pub word-left-alone : (s : State) (h : Handle) (k : ℕ) → wordCall s h k .left ≡ s
 unfolding wordCall
 word-left-alone s h k = left-alone s _ _
 
-pub find-left-alone : (s : State) (q : PageNumber) → findCall s q .left ≡ s
+pub find-left-alone : (s : State) (t : ℕ) (q : PageNumber) → findCall s t q .left ≡ s
 unfolding findCall
-find-left-alone s q = left-alone s _ _
+find-left-alone s t q = left-alone s _ _

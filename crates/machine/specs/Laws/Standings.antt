@@ -1,11 +1,11 @@
 -- Where a page stands: its facts, and the rule of evict that it breaks there. Assumes nothing.
-use Prim.Native.Nat.{ℕ, _<_}
+use Prim.Native.Nat.{ℕ, _<_, _≤_}
 use mathlib.Core.Path.{_≡_, refl, sym, _∙_, ap}
 use mathlib.Core.Logic.{_≢_}
 use mathlib.Core.Bool.{Bool, true, false, not}
 use mathlib.Core.List.{List, [], _∷_}
 use native.Mathlib.Omega.{arith}
-use borrow.Author.Tests.{eqb-true, eqb-false}
+use borrow.Author.Tests.{eqb-true, eqb-false, ltb-true, ltb-false}
 use lib.Dec.{eqb}
 use Rattle.page.specs.Figures.{slotCount}
 use Rattle.page.specs.Word.{Number, Swizzled, number-yes, number-no}
@@ -15,7 +15,7 @@ use Rattle.machine.specs.declared.Standing.{Standing}
 use Rattle.machine.specs.declared.Standing.the-variants.{Root, Pinned, Parent, Evictable}
 use Rattle.rules.specs.Tests.{pick, firstBroken}
 use Rattle.rules.specs.TestLaws.{clash, case, on, off, every-true, false-every, pick-yes, pick-no}
-use Rattle.machine.specs.Machine.{State, recordAt, isRoot, found}
+use Rattle.machine.specs.Machine.{State, recordAt, isRoot, foundIn}
 use Rattle.machine.specs.Sweep.{childless, standing, evictable, isOpen}
 use Rattle.machine.specs.Calls.{stayRules}
 
@@ -34,36 +34,36 @@ unfolding childless
 numbers-alone fs f c k l = number-yes _ (every-true slotCount _ c k l)
 
 -- the four places where a page can stand, each with what holds there
-pub data Stands (r : FrameRecord) (fs : List ℕ) (f : ℕ) : Type 0 where
-  rootStands : standing r fs f ≡ Root → f ≡ 0 → Stands r fs f
-  pinnedStands : standing r fs f ≡ Pinned → f ≢ 0 → r .pins ≢ 0 → Stands r fs f
-  parentStands : standing r fs f ≡ Parent → f ≢ 0 → r .pins ≡ 0 → HasSwizzled fs f → Stands r fs f
-  openStands : standing r fs f ≡ Evictable → f ≢ 0 → r .pins ≡ 0 → childless fs f ≡ true → Stands r fs f
+pub data Stands (T : ℕ) (r : FrameRecord) (fs : List ℕ) (f : ℕ) : Type 0 where
+  rootStands : standing T r fs f ≡ Root → f < T → Stands T r fs f
+  pinnedStands : standing T r fs f ≡ Pinned → T ≤ f → r .pins ≢ 0 → Stands T r fs f
+  parentStands : standing T r fs f ≡ Parent → T ≤ f → r .pins ≡ 0 → HasSwizzled fs f → Stands T r fs f
+  openStands : standing T r fs f ≡ Evictable → T ≤ f → r .pins ≡ 0 → childless fs f ≡ true → Stands T r fs f
 
-pub stands : (r : FrameRecord) (fs : List ℕ) (f : ℕ) → Stands r fs f
+pub stands : (T : ℕ) (r : FrameRecord) (fs : List ℕ) (f : ℕ) → Stands T r fs f
 unfolding standing
-stands r fs f = elim (case (isRoot f)) [
-  | on a ↦ rootStands (sym (pick-yes _ a refl)) (eqb-true f 0 a)
+stands T r fs f = elim (case (isRoot T f)) [
+  | on a ↦ rootStands (sym (pick-yes _ a refl)) (ltb-true f T a)
   | off a ↦ elim (case (eqb (r .pins) 0)) [
-    | off b ↦ pinnedStands (sym (pick-no _ a (pick-no _ b refl))) (eqb-false f 0 a) (eqb-false _ 0 b)
+    | off b ↦ pinnedStands (sym (pick-no _ a (pick-no _ b refl))) (ltb-false f T a) (eqb-false _ 0 b)
     | on b ↦ elim (case (childless fs f)) [
-      | off c ↦ parentStands (sym (pick-no _ a (pick-yes _ b (pick-no _ c refl)))) (eqb-false f 0 a) (eqb-true _ 0 b) (swizzled-in fs f c)
-      | on c ↦ openStands (sym (pick-no _ a (pick-yes _ b (pick-yes _ c refl)))) (eqb-false f 0 a) (eqb-true _ 0 b) c
+      | off c ↦ parentStands (sym (pick-no _ a (pick-yes _ b (pick-no _ c refl)))) (ltb-false f T a) (eqb-true _ 0 b) (swizzled-in fs f c)
+      | on c ↦ openStands (sym (pick-no _ a (pick-yes _ b (pick-yes _ c refl)))) (ltb-false f T a) (eqb-true _ 0 b) c
     ]
   ]
 ]
 
 -- a frame that is open to eviction
-pub open-stands : (r : FrameRecord) (fs : List ℕ) (f : ℕ) → isOpen r fs f ≡ true → (f ≢ 0) × (r .pins ≡ 0) × (childless fs f ≡ true)
-open-stands r fs f o = elim (stands r fs f) [
+pub open-stands : (T : ℕ) (r : FrameRecord) (fs : List ℕ) (f : ℕ) → isOpen T r fs f ≡ true → (T ≤ f) × (r .pins ≡ 0) × (childless fs f ≡ true)
+open-stands T r fs f o = elim (stands T r fs f) [
   | rootStands e a ↦ absurd (clash (sym o ∙ ap evictable e))
   | pinnedStands e a b ↦ absurd (clash (sym o ∙ ap evictable e))
   | parentStands e a b c ↦ absurd (clash (sym o ∙ ap evictable e))
   | openStands e a b c ↦ (a, b, c)
 ]
 
-pub open-childless : (r : FrameRecord) (fs : List ℕ) (f : ℕ) → isOpen r fs f ≡ true → childless fs f ≡ true
-open-childless r fs f o = open-stands r fs f o .2
+pub open-childless : (T : ℕ) (r : FrameRecord) (fs : List ℕ) (f : ℕ) → isOpen T r fs f ≡ true → childless fs f ≡ true
+open-childless T r fs f o = open-stands T r fs f o .2
 
 -- ---- the first that it breaks of evict's last rules
 
@@ -75,8 +75,8 @@ stayNumber Parent = 22
 stayNumber Evictable = 0
 
 -- where it breaks none, its frame is open to eviction
-pub none-stays : (r : FrameRecord) (fs : List ℕ) (f : ℕ) → stayNumber (standing r fs f) ≡ 0 → isOpen r fs f ≡ true
-none-stays r fs f = by-number (standing r fs f)
+pub none-stays : (T : ℕ) (r : FrameRecord) (fs : List ℕ) (f : ℕ) → stayNumber (standing T r fs f) ≡ 0 → isOpen T r fs f ≡ true
+none-stays T r fs f = by-number (standing T r fs f)
   where
     by-number : (a : Standing) → stayNumber a ≡ 0 → evictable a ≡ true
     by-number Root e = absurd (omega arith)
@@ -85,10 +85,10 @@ none-stays r fs f = by-number (standing r fs f)
     by-number Evictable e = refl
 
 -- of 20, 21 and 22, evict's page breaks first the one of where it stands
-pub stays-first : (s : State) (q : ℕ)
-    → firstBroken (stayRules s q) ≡ stayNumber (standing (recordAt (s .pool .records) (found (s .pool) q)) (s .frames) (found (s .pool) q))
+pub stays-first : (s : State) (t q : ℕ)
+    → firstBroken (stayRules s t q) ≡ stayNumber (standing (s .pool .stores) (recordAt (s .pool .records) (foundIn (s .pool) t q)) (s .frames) (foundIn (s .pool) t q))
 unfolding standing firstBroken pick
-stays-first s q = let f = found (s .pool) q in by-tests (isRoot f) (eqb (recordAt (s .pool .records) f .pins) 0) (childless (s .frames) f)
+stays-first s t q = let f = foundIn (s .pool) t q in by-tests (isRoot (s .pool .stores) f) (eqb (recordAt (s .pool .records) f .pins) 0) (childless (s .frames) f)
   where
     by-tests : (root free leaf : Bool) → firstBroken ((20, not root) ∷ (21, free) ∷ (22, leaf) ∷ []) ≡ stayNumber (pick root Root (pick free (pick leaf Evictable Parent) Pinned))
     by-tests true free leaf = refl

@@ -1,13 +1,13 @@
--- The laws of the sweep: at most 4 × F looks, a frame is taken exactly where one is open to eviction, usage counts and the hand alone change; and rule 15 in those words. Assumes nothing.
+-- The laws of the sweep, for a store below its ceiling and for one at it: at most 4 × F looks, a frame is taken exactly where one is open to eviction, of the store itself at its ceiling, usage counts and the hand alone change; and rules 15 and 27 in those words. Assumes nothing.
 use Prim.Native.Nat.{ℕ, zero, suc, _+_, _*_, _-_, _<_, _≤_}
 use mathlib.Core.Path.{_≡_, refl, sym, _∙_, ap}
-use mathlib.Core.Logic.{_≢_}
-use mathlib.Core.Bool.{true, false}
+use mathlib.Core.Logic.{_≢_, _↔_}
+use mathlib.Core.Bool.{Bool, true, false, not}
 use mathlib.Core.List.{List}
 use native.Mathlib.Omega.{arith}
 use native.Mathlib.Nat.{mul-le-mul-left}
 use native.Mathlib.Decide.{decLt, ℕ-discrete}
-use borrow.Author.Tests.{eqb-false, lt-ltb, le-ltb}
+use borrow.Author.Tests.{eqb-false, lt-ltb, le-ltb, not-false}
 use lib.Dec.{eqb, ltb}
 use lib.ListN.{length, set, length-set, List·getD-eq-default}
 use lib.Seq.{getD-set-same, getD-set-other}
@@ -16,13 +16,13 @@ use Rattle.machine.specs.declared.FrameRecord.{FrameRecord}
 use Rattle.machine.specs.declared.Pool.{Pool}
 use Rattle.machine.specs.declared.Standing.{Standing}
 use Rattle.machine.specs.declared.Standing.the-variants.{Root, Pinned, Parent, Evictable}
-use Rattle.rules.specs.Tests.{pick, some}
+use Rattle.rules.specs.Tests.{pick, _and_, _⇒_, some}
 use Rattle.machine.specs.Laws.Flags.{same-flag}
-use Rattle.rules.specs.TestLaws.{clash, case, on, off, is-off, same, and-left, both, or-none, or-off, true-some, some-true, pick-either, pick-by}
-use Rattle.machine.specs.Machine.{State, withPool, blank, isUsed, recordAt}
+use Rattle.rules.specs.TestLaws.{clash, case, on, off, is-off, same, and-left, and-true, both, or-none, or-off, use⇒, make⇒, true-some, some-true, some-ext, pick-either, pick-by}
+use Rattle.machine.specs.Machine.{State, withPool, blank, isUsed, recordAt, isOf, atCeiling}
 use Rattle.machine.specs.Laws.AgreementFacts.{InRange}
-use Rattle.machine.specs.Sweep.{Class, rest, warm, yield, yields, Kind, classOf, kind, Swept, after, emptyFrom, firstEmpty, standing, evictable, isOpen, lookLeaves, lookTakes, sweepFrom, mostLooks, sweep, withSwept}
-use Rattle.machine.specs.Rules.{rule15}
+use Rattle.machine.specs.Sweep.{Class, rest, warm, yield, yields, Kind, classOf, kind, kindFor, Swept, after, emptyFrom, firstEmpty, standing, evictable, isOpen, lookLeaves, lookTakes, sweepFrom, mostLooks, sweep, withSwept}
+use Rattle.machine.specs.Rules.{rule15, rule27}
 use Rattle.machine.specs.Laws.Standings.{rootStands, pinnedStands, parentStands, openStands, stands}
 use Rattle.machine.specs.Laws.Ready.{Ready}
 
@@ -86,9 +86,10 @@ pub record Cooler (r q : FrameRecord) : Type 0 where
   pub parent : q .parent ≡ r .parent
   pub pins : q .pins ≡ r .pins
   pub page : q .page ≡ r .page
+  pub store : q .store ≡ r .store
 
 pub cooler-self : (r : FrameRecord) → Cooler r r
-cooler-self r = record { used = refl; dirty = refl; usage = λ h. h; falls = λ z. omega arith; slot = refl; parent = refl; pins = refl; page = refl }
+cooler-self r = record { used = refl; dirty = refl; usage = λ h. h; falls = λ z. omega arith; slot = refl; parent = refl; pins = refl; page = refl; store = refl }
 
 pub cooler-then : (r q t : FrameRecord) → Cooler r q → Cooler q t → Cooler r t
 cooler-then r q t a b = record {
@@ -100,6 +101,7 @@ cooler-then r q t a b = record {
   parent = b .parent ∙ a .parent;
   pins = b .pins ∙ a .pins;
   page = b .page ∙ a .page;
+  store = b .store ∙ a .store;
 }
 
 -- a class goes by the record without its usage, and no frame without pins is warmed
@@ -110,8 +112,8 @@ pub record UsageBlind (k : Kind) : Type 0 where
 look-cooler : (r : FrameRecord) (c : Class) → (c ≡ warm → r .pins ≢ 0) → Cooler r (lookLeaves r c)
 unfolding lookLeaves
 look-cooler r rest p = cooler-self r
-look-cooler r warm p = record { used = refl; dirty = refl; usage = λ h. omega arith; falls = λ z. absurd (p refl z); slot = refl; parent = refl; pins = refl; page = refl }
-look-cooler r yield p = record { used = refl; dirty = refl; usage = λ h. omega arith; falls = λ z. omega arith; slot = refl; parent = refl; pins = refl; page = refl }
+look-cooler r warm p = record { used = refl; dirty = refl; usage = λ h. omega arith; falls = λ z. absurd (p refl z); slot = refl; parent = refl; pins = refl; page = refl; store = refl }
+look-cooler r yield p = record { used = refl; dirty = refl; usage = λ h. omega arith; falls = λ z. omega arith; slot = refl; parent = refl; pins = refl; page = refl; store = refl }
 
 -- the records after a look at frame h
 abbrev pub looked : Kind → List FrameRecord → ℕ → List FrameRecord
@@ -173,8 +175,8 @@ rest-not-warm e = let z : _≡_ {A = ℕ} 0 1 = cc in omega arith
 pub yield-not-warm : yield ≡ warm → ⊥
 yield-not-warm e = let z : _≡_ {A = ℕ} 0 1 = cc in omega arith
 
-pub open-class : (fs : List ℕ) (r : FrameRecord) (f : ℕ) → isOpen r fs f ≡ true → kind fs r f ≡ yield
-open-class fs r f = by-standing (standing r fs f)
+pub open-class : (T : ℕ) (fs : List ℕ) (r : FrameRecord) (f : ℕ) → isOpen T r fs f ≡ true → kind T fs r f ≡ yield
+open-class T fs r f = by-standing (standing T r fs f)
   where
     by-standing : (a : Standing) → evictable a ≡ true → classOf a ≡ yield
     by-standing Root e = absurd (clash (sym e))
@@ -182,30 +184,67 @@ open-class fs r f = by-standing (standing r fs f)
     by-standing Parent e = absurd (clash (sym e))
     by-standing Evictable e = refl
 
-open-kind : (fs : List ℕ) (r : FrameRecord) (f : ℕ) → yields (kind fs r f) ≡ true → isOpen r fs f ≡ true
-open-kind fs r f = by-standing (standing r fs f)
+open-kind : (T : ℕ) (fs : List ℕ) (r : FrameRecord) (f : ℕ) → yields (kind T fs r f) ≡ isOpen T r fs f
+open-kind T fs r f = by-standing (standing T r fs f)
   where
-    by-standing : (a : Standing) → yields (classOf a) ≡ true → evictable a ≡ true
-    by-standing Root e = e
-    by-standing Pinned e = e
-    by-standing Parent e = e
-    by-standing Evictable e = e
+    by-standing : (a : Standing) → yields (classOf a) ≡ evictable a
+    by-standing Root = refl
+    by-standing Pinned = refl
+    by-standing Parent = refl
+    by-standing Evictable = refl
 
 -- where a page stands goes by the pins and the words
-pub standing-same : (r q : FrameRecord) (fs : List ℕ) (f : ℕ) → q .pins ≡ r .pins → standing q fs f ≡ standing r fs f
+pub standing-same : (T : ℕ) (r q : FrameRecord) (fs : List ℕ) (f : ℕ) → q .pins ≡ r .pins → standing T q fs f ≡ standing T r fs f
 unfolding standing
-standing-same r q fs f e = rw e
+standing-same T r q fs f e = rw e
 
-pub kind-usage-blind : (fs : List ℕ) → UsageBlind (kind fs)
-kind-usage-blind fs = record { same = λ r q f c. ap classOf (standing-same r q fs f (c .pins)); pinned = warmed-pinned }
+pub kind-usage-blind : (T : ℕ) (fs : List ℕ) → UsageBlind (kind T fs)
+kind-usage-blind T fs = record { same = λ r q f c. ap classOf (standing-same T r q fs f (c .pins)); pinned = warmed-pinned }
   where
-    warmed-pinned : (r : FrameRecord) (f : ℕ) → kind fs r f ≡ warm → r .pins ≢ 0
-    warmed-pinned r f w = elim (stands r fs f) [
+    warmed-pinned : (r : FrameRecord) (f : ℕ) → kind T fs r f ≡ warm → r .pins ≢ 0
+    warmed-pinned r f w = elim (stands T r fs f) [
       | rootStands e a ↦ absurd (rest-not-warm (sym (ap classOf e) ∙ w))
       | pinnedStands e a b ↦ b
       | parentStands e a b c ↦ absurd (rest-not-warm (sym (ap classOf e) ∙ w))
       | openStands e a b c ↦ absurd (yield-not-warm (sym (ap classOf e) ∙ w))
     ]
+
+-- ---- the classes in a sweep for a page of store t, at its ceiling or below it
+
+pub for-usage-blind : (p : Pool) (fs : List ℕ) (t : ℕ) → UsageBlind (kindFor p fs t)
+for-usage-blind p fs t = record { same = same-class; pinned = warmed-pinned }
+  where
+    same-class : (r q : FrameRecord) (f : ℕ) → Cooler r q → kindFor p fs t q f ≡ kindFor p fs t r f
+    same-class r q f c = unfold kindFor in rw (kind-usage-blind (p .stores) fs .same r q f c, c .used, c .store)
+
+    warmed-pinned : (r : FrameRecord) (f : ℕ) → kindFor p fs t r f ≡ warm → r .pins ≢ 0
+    warmed-pinned r f = unfold kindFor in pick-either (λ (c : Class). c ≡ warm → r .pins ≢ 0) _ rest (kind (p .stores) fs r f) (λ e. absurd (rest-not-warm e)) (kind-usage-blind (p .stores) fs .pinned r f)
+
+-- whether a sweep for store t could take the frame: it is open to eviction, and holds a page of that store where this is at its ceiling
+unfoldable pub isLoose : Pool → List ℕ → ℕ → FrameRecord → ℕ → Bool
+isLoose p fs t r f = (atCeiling p t ⇒ isOf t r) and isOpen (p .stores) r fs f
+
+pub record Loose (p : Pool) (fs : List ℕ) (t : ℕ) (r : FrameRecord) (f : ℕ) : Type 0 where
+  pub evictable : isOpen (p .stores) r fs f ≡ true
+  pub own : atCeiling p t ≡ true → isOf t r ≡ true
+
+pub loose-of : (p : Pool) (fs : List ℕ) (t : ℕ) (r : FrameRecord) (f : ℕ) → isLoose p fs t r f ≡ true → Loose p fs t r f
+unfolding isLoose
+loose-of p fs t r f e = let a = and-true (atCeiling p t ⇒ isOf t r) _ e in record { evictable = a .1; own = use⇒ (atCeiling p t) (isOf t r) (a .0) }
+
+pub of-loose : (p : Pool) (fs : List ℕ) (t : ℕ) (r : FrameRecord) (f : ℕ) → Loose p fs t r f → isLoose p fs t r f ≡ true
+unfolding isLoose
+of-loose p fs t r f L = both _ _ (make⇒ (atCeiling p t) (isOf t r) (L .own)) (L .evictable)
+
+-- the frames that yield in it
+pub yields-loose : (p : Pool) (fs : List ℕ) (t : ℕ) (r : FrameRecord) (f : ℕ) → yields (kindFor p fs t r f) ≡ isLoose p fs t r f
+unfolding kindFor isLoose
+yields-loose p fs t r f = by-tests (atCeiling p t) (isOf t r) (kind (p .stores) fs r f) ∙ ap (λ (b : Bool). (atCeiling p t ⇒ isOf t r) and b) (open-kind (p .stores) fs r f)
+  where
+    by-tests : (full own : Bool) (c : Class) → yields (pick (full and not own) rest c) ≡ ((full ⇒ own) and yields c)
+    by-tests true true c = unfold pick _and_ _⇒_ in refl
+    by-tests true false c = unfold pick _and_ _⇒_ in refl
+    by-tests false own c = unfold pick _and_ _⇒_ in refl
 
 -- ---- how many looks
 
@@ -229,13 +268,13 @@ looks-some k F zero n rs h = λ e. absurd (clash (sym e))
 looks-some k F (suc m) n rs h =
     pick-either (λ (v : Swept). v .taken ≡ true → n + 1 ≤ v .looks) _ _ _ (λ e. omega arith) (λ e. looks-least k F m (n + 1) (looked k rs h) (after F h))
 
--- "A sweep takes at most 4 × F looks"
-pub sweep-looks : (p : Pool) (fs : List ℕ) → sweep p fs .looks ≤ mostLooks (p .count)
-sweep-looks p fs = let l = looks-most (kind fs) (p .count) (mostLooks (p .count)) 0 (p .records) (p .hand .0) in omega arith
+-- "A sweep takes at most 4 × F looks", for a store at its ceiling too
+pub sweep-looks : (p : Pool) (fs : List ℕ) (t : ℕ) → sweep p fs t .looks ≤ mostLooks (p .count)
+sweep-looks p fs t = let l = looks-most (kindFor p fs t) (p .count) (mostLooks (p .count)) 0 (p .records) (p .hand .0) in omega arith
 
 -- a sweep that takes a frame has looked
-pub sweep-looked : (p : Pool) (fs : List ℕ) → sweep p fs .taken ≡ true → 1 ≤ sweep p fs .looks
-sweep-looked p fs e = let l = looks-some (kind fs) (p .count) (mostLooks (p .count)) 0 (p .records) (p .hand .0) e in omega arith
+pub sweep-looked : (p : Pool) (fs : List ℕ) (t : ℕ) → sweep p fs t .taken ≡ true → 1 ≤ sweep p fs t .looks
+sweep-looked p fs t e = let l = looks-some (kindFor p fs t) (p .count) (mostLooks (p .count)) 0 (p .records) (p .hand .0) e in omega arith
 
 -- ---- the look at which an open frame would go
 
@@ -278,11 +317,11 @@ sweep-finds k K F (suc m) n rs h g d hF gF o a l = pick-by (λ (v : Swept). v .t
     let e = nearer k K F rs h g hF gF o t d a in
     sweep-finds k K F m (n + 1) (looked k rs h) (after F h) g (e .0) (after-in F h hF) gF (looked-open k K rs h g ∙ o) (e .1) (omega (arith, e .2)))
 
-pub sweep-enough : (p : Pool) (fs : List ℕ) (g : ℕ) → p .hand .0 < p .count → g < p .count → recordAt (p .records) g .usage ≤ maxUsage
-    → isOpen (recordAt (p .records) g) fs g ≡ true → sweep p fs .taken ≡ true
-sweep-enough p fs g hF gF u o =
+pub sweep-enough : (p : Pool) (fs : List ℕ) (t g : ℕ) → p .hand .0 < p .count → g < p .count → recordAt (p .records) g .usage ≤ maxUsage
+    → isLoose p fs t (recordAt (p .records) g) g ≡ true → sweep p fs t .taken ≡ true
+sweep-enough p fs t g hF gF u o =
     let a = away (p .count) (p .hand .0) g hF gF in
-    sweep-finds (kind fs) (kind-usage-blind fs) (p .count) (mostLooks (p .count)) 0 (p .records) (p .hand .0) g (a .0) hF gF (ap yields (open-class fs _ g o)) (a .2) (bound (p .count) (recordAt (p .records) g .usage) (a .0) u (a .1))
+    sweep-finds (kindFor p fs t) (for-usage-blind p fs t) (p .count) (mostLooks (p .count)) 0 (p .records) (p .hand .0) g (a .0) hF gF (yields-loose p fs t _ g ∙ o) (a .2) (bound (p .count) (recordAt (p .records) g .usage) (a .0) u (a .1))
   where
     bound : (F u d : ℕ) → u ≤ maxUsage → d < F → F * u + d + 1 ≤ mostLooks F
     bound F u d h l = omega (arith, mul-le-mul-left F h)
@@ -300,19 +339,44 @@ sound-from k K F (suc m) n rs h hF = pick-by (Sound k F rs) _ _ _ (λ t e. (hF, 
     let r = sound-from k K F m (n + 1) (looked k rs h) (after F h) (after-in F h hF) e in
     (r .0, sym (looked-open k K rs h _) ∙ r .1))
 
-pub sweep-sound : (p : Pool) (fs : List ℕ) → p .hand .0 < p .count → sweep p fs .taken ≡ true
-    → (sweep p fs .frame .0 < p .count) × (isOpen (recordAt (p .records) (sweep p fs .frame .0)) fs (sweep p fs .frame .0) ≡ true)
-sweep-sound p fs hF e =
-    let r = sound-from (kind fs) (kind-usage-blind fs) (p .count) (mostLooks (p .count)) 0 (p .records) (p .hand .0) hF e in
-    (r .0, open-kind fs _ (sweep p fs .frame .0) (r .1))
+pub sweep-sound : (p : Pool) (fs : List ℕ) (t : ℕ) → p .hand .0 < p .count → sweep p fs t .taken ≡ true
+    → (sweep p fs t .frame .0 < p .count) × (isLoose p fs t (recordAt (p .records) (sweep p fs t .frame .0)) (sweep p fs t .frame .0) ≡ true)
+sweep-sound p fs t hF e =
+    let r = sound-from (kindFor p fs t) (for-usage-blind p fs t) (p .count) (mostLooks (p .count)) 0 (p .records) (p .hand .0) hF e in
+    (r .0, sym (yields-loose p fs t _ (sweep p fs t .frame .0)) ∙ r .1)
 
--- a frame is taken exactly where one of the F is open to eviction
-pub taken-exactly : (p : Pool) (fs : List ℕ) → p .hand .0 < p .count → ((g : ℕ) → g < p .count → recordAt (p .records) g .usage ≤ maxUsage)
-    → sweep p fs .taken ≡ some (p .count) (λ g. isOpen (recordAt (p .records) g) fs g)
-taken-exactly p fs hF u =
+-- a frame is taken exactly where a sweep for the store could take one of the F
+pub taken-exactly : (p : Pool) (fs : List ℕ) (t : ℕ) → p .hand .0 < p .count → ((g : ℕ) → g < p .count → recordAt (p .records) g .usage ≤ maxUsage)
+    → sweep p fs t .taken ≡ some (p .count) (λ g. isLoose p fs t (recordAt (p .records) g) g)
+taken-exactly p fs t hF u =
     same _ _
-    (λ e. let r = sweep-sound p fs hF e in true-some (p .count) (λ g. isOpen (recordAt (p .records) g) fs g) (sweep p fs .frame .0) (r .0) (r .1))
-    (λ e. let r = some-true (p .count) (λ g. isOpen (recordAt (p .records) g) fs g) e in sweep-enough p fs (r .0) hF (r .1) (u (r .0) (r .1)) (r .2))
+    (λ e. let r = sweep-sound p fs t hF e in true-some (p .count) (λ g. isLoose p fs t (recordAt (p .records) g) g) (sweep p fs t .frame .0) (r .0) (r .1))
+    (λ e. let r = some-true (p .count) (λ g. isLoose p fs t (recordAt (p .records) g) g) e in sweep-enough p fs t (r .0) hF (r .1) (u (r .0) (r .1)) (r .2))
+
+-- ---- request A.11: so many looks, and no more, for both kinds of sweep
+
+-- how a sweep for store t ends, where the frames that it could take are those that the test holds of
+pub record FourRounds (p : Pool) (fs : List ℕ) (t : ℕ) (test : ℕ → Bool) : Type 0 where
+  pub bound : sweep p fs t .looks ≤ mostLooks (p .count)
+  pub enough : p .hand .0 < p .count → ((g : ℕ) → g < p .count → recordAt (p .records) g .usage ≤ maxUsage) → sweep p fs t .taken ≡ some (p .count) test
+
+pub record RoundsOfBoth (p : Pool) (fs : List ℕ) (t : ℕ) : Type 0 where
+  -- "A store at its ceiling sweeps its own pages only, even where frames are empty; any other frame costs a look"
+  pub full : atCeiling p t ≡ true → FourRounds p fs t (λ g. isOf t (recordAt (p .records) g) and isOpen (p .stores) (recordAt (p .records) g) fs g)
+  -- "Below it, loading goes as in 01, every root passed over"
+  pub below : atCeiling p t ≡ false → FourRounds p fs t (λ g. isOpen (p .stores) (recordAt (p .records) g) fs g)
+
+pub rounds-of-both : (p : Pool) (fs : List ℕ) (t : ℕ) → RoundsOfBoth p fs t
+rounds-of-both p fs t = record { full = λ e. rounds _ (λ g. full-loose e _ g); below = λ e. rounds _ (λ g. below-loose e _ g) }
+  where
+    rounds : (test : ℕ → Bool) → ((g : ℕ) → isLoose p fs t (recordAt (p .records) g) g ≡ test g) → FourRounds p fs t test
+    rounds test h = record { bound = sweep-looks p fs t; enough = λ hF u. taken-exactly p fs t hF u ∙ some-ext (p .count) _ test (λ g l. h g) }
+
+    full-loose : atCeiling p t ≡ true → (r : FrameRecord) (f : ℕ) → isLoose p fs t r f ≡ (isOf t r and isOpen (p .stores) r fs f)
+    full-loose e r f = unfold isLoose _⇒_ in rw e
+
+    below-loose : atCeiling p t ≡ false → (r : FrameRecord) (f : ℕ) → isLoose p fs t r f ≡ isOpen (p .stores) r fs f
+    below-loose e r f = unfold isLoose _⇒_ _and_ in rw e
 
 -- ---- what a sweep leaves: all but usage counts and the hand
 
@@ -332,14 +396,15 @@ cooled-from k K F (suc m) n rs h hF =
     pick-either (Cooled F rs) _ _ _ (record { size = l; each = looked-cooler k K rs h; hand = after-in F h hF })
     (cooled-then F rs (looked k rs h) _ l (looked-cooler k K rs h) (cooled-from k K F m (n + 1) (looked k rs h) (after F h) (after-in F h hF)))
 
-pub sweep-cooled : (p : Pool) (fs : List ℕ) → p .hand .0 < p .count → Cooled (p .count) (p .records) (sweep p fs)
-sweep-cooled p fs hF = cooled-from (kind fs) (kind-usage-blind fs) (p .count) (mostLooks (p .count)) 0 (p .records) (p .hand .0) hF
+pub sweep-cooled : (p : Pool) (fs : List ℕ) (t : ℕ) → p .hand .0 < p .count → Cooled (p .count) (p .records) (sweep p fs t)
+sweep-cooled p fs t hF = cooled-from (kindFor p fs t) (for-usage-blind p fs t) (p .count) (mostLooks (p .count)) 0 (p .records) (p .hand .0) hF
 
-pub swept-ready : (s : State) → Ready s → Ready (withPool s (withSwept (s .pool) (sweep (s .pool) (s .frames))))
-swept-ready s h =
-    let c = sweep-cooled (s .pool) (s .frames) (h .hand) in
+pub swept-ready : (s : State) (t : ℕ) → Ready s → Ready (withPool s (withSwept (s .pool) (sweep (s .pool) (s .frames) t)))
+swept-ready s t h =
+    let c = sweep-cooled (s .pool) (s .frames) t (h .hand) in
     record {
       sized = h .sized;
+      stores = h .stores;
       hand = c .hand;
       inRange = λ f l. in-range f (c .each f) (h .inRange f l);
       dirtyUsed = λ f l d. same-flag (c .each f .used) ∙ h .dirtyUsed f l (sym (same-flag (c .each f .dirty)) ∙ d);
@@ -347,11 +412,12 @@ swept-ready s h =
     }
   where
     after-sweep : Pool
-    after-sweep = withSwept (s .pool) (sweep (s .pool) (s .frames))
+    after-sweep = withSwept (s .pool) (sweep (s .pool) (s .frames) t)
 
     in-range : (f : ℕ) → Cooler (recordAt (s .pool .records) f) (recordAt (after-sweep .records) f) → InRange (s .pool) (recordAt (s .pool .records) f) → InRange after-sweep (recordAt (after-sweep .records) f)
     in-range f c r = record {
       page = rw (c .page) (r .page);
+      store = rw (c .store) (r .store);
       pins = rw (c .pins) (r .pins);
       usage = c .usage (r .usage);
       parent = rw (c .parent) (r .parent);
@@ -392,34 +458,58 @@ first-empty p hF = go (vacant-from (p .records) (p .count) (p .count) (p .hand .
     go (vacant l u) = empty l u
     go (none e k) = full (λ f l. let a = away (p .count) (p .hand .0) f hF l in k f (a .0) l (a .2) (a .1)) e
 
--- ---- rule 15
+-- ---- rules 15 and 27
 
 -- "No frame is empty and a sweep could take none", of the frames alone: every one is used, and none is open to eviction
 pub record Denied (s : State) : Type 0 where
   pub used : (f : ℕ) → f < s .pool .count → isUsed (recordAt (s .pool .records) f) ≡ true
-  pub shut : (f : ℕ) → f < s .pool .count → isOpen (recordAt (s .pool .records) f) (s .frames) f ≡ false
+  pub shut : (f : ℕ) → f < s .pool .count → isOpen (s .pool .stores) (recordAt (s .pool .records) f) (s .frames) f ≡ false
 
-pub rule15-denied : (s : State) → Ready s → rule15 s .1 ≡ false → Denied s
-rule15-denied s h e =
-    let r = or-none (ltb (firstEmpty (s .pool)) (s .pool .count)) (sweep (s .pool) (s .frames) .taken) e in
-    record {
-      used = all-used (r .0) (first-empty (s .pool) (h .hand));
-      shut = λ f l. is-off _ (λ o. clash (sym (sweep-enough (s .pool) (s .frames) f (h .hand) l (h .inRange f l .usage) o) ∙ r .1));
-    }
-  where
-    all-used : ltb (firstEmpty (s .pool)) (s .pool .count) ≡ false → FirstEmpty (s .pool) → (f : ℕ) → f < s .pool .count → isUsed (recordAt (s .pool .records) f) ≡ true
-    all-used n (empty l u) = absurd (clash (sym (lt-ltb _ _ l) ∙ n))
-    all-used n (full u e) = u
+-- "a store at its ceiling has no page of its own that a sweep could take"
+pub record DeniedOwn (s : State) (t : ℕ) : Type 0 where
+  pub shut : (f : ℕ) → f < s .pool .count → isOf t (recordAt (s .pool .records) f) ≡ true → isOpen (s .pool .stores) (recordAt (s .pool .records) f) (s .frames) f ≡ false
 
-pub of-denied : (s : State) → Ready s → Denied s → rule15 s .1 ≡ false
-of-denied s h d = or-off (no-empty (first-empty (s .pool) (h .hand))) (is-off _ (λ e.
-    let r = sweep-sound (s .pool) (s .frames) (h .hand) e in
-    clash (sym (r .1) ∙ d .shut _ (r .0))))
-  where
-    no-empty : FirstEmpty (s .pool) → ltb (firstEmpty (s .pool)) (s .pool .count) ≡ false
-    no-empty (empty l u) = absurd (clash (sym (d .used _ l) ∙ u))
-    no-empty (full u e) = le-ltb (firstEmpty (s .pool)) (s .pool .count) (omega arith)
+module _ (s : State) (t : ℕ) (h : Ready s) where
+  none-loose : sweep (s .pool) (s .frames) t .taken ≡ false → (f : ℕ) → f < s .pool .count → Loose (s .pool) (s .frames) t (recordAt (s .pool .records) f) f → ⊥
+  none-loose e f l L = clash (sym (sweep-enough (s .pool) (s .frames) t f (h .hand) l (h .inRange f l .usage) (of-loose (s .pool) (s .frames) t _ f L)) ∙ e)
 
--- 15 is answered exactly where every frame is used and none is open to eviction
-pub denied-exactly : (s : State) → Ready s → (rule15 s .1 ≡ false → Denied s) × (Denied s → rule15 s .1 ≡ false)
-denied-exactly s h = (rule15-denied s h, of-denied s h)
+  pub rule15-denied : rule15 s t .1 ≡ false → (atCeiling (s .pool) t ≡ false) × Denied s
+  rule15-denied e =
+      let c = or-none (atCeiling (s .pool) t) _ e in
+      let r = or-none (ltb (firstEmpty (s .pool)) (s .pool .count)) (sweep (s .pool) (s .frames) t .taken) (c .1) in (
+        c .0,
+        record {
+          used = all-used (r .0) (first-empty (s .pool) (h .hand));
+          shut = λ f l. is-off _ (λ o. none-loose (r .1) f l (record { evictable = o; own = λ a. absurd (clash (sym a ∙ c .0)) }));
+        },
+      )
+    where
+      all-used : ltb (firstEmpty (s .pool)) (s .pool .count) ≡ false → FirstEmpty (s .pool) → (f : ℕ) → f < s .pool .count → isUsed (recordAt (s .pool .records) f) ≡ true
+      all-used n (empty l u) = absurd (clash (sym (lt-ltb _ _ l) ∙ n))
+      all-used n (full u e) = u
+
+  taken-loose : (e : sweep (s .pool) (s .frames) t .taken ≡ true) → let f = sweep (s .pool) (s .frames) t .frame .0 in (f < s .pool .count) × Loose (s .pool) (s .frames) t (recordAt (s .pool .records) f) f
+  taken-loose e = let r = sweep-sound (s .pool) (s .frames) t (h .hand) e in (r .0, loose-of (s .pool) (s .frames) t _ _ (r .1))
+
+  pub of-denied : (atCeiling (s .pool) t ≡ false) × Denied s → rule15 s t .1 ≡ false
+  of-denied d = or-off (d .0) (or-off (no-empty (first-empty (s .pool) (h .hand))) (is-off _ (λ e. let r = taken-loose e in clash (sym (r .1 .evictable) ∙ d .1 .shut _ (r .0)))))
+    where
+      no-empty : FirstEmpty (s .pool) → ltb (firstEmpty (s .pool)) (s .pool .count) ≡ false
+      no-empty (empty l u) = absurd (clash (sym (d .1 .used _ l) ∙ u))
+      no-empty (full u e) = le-ltb (firstEmpty (s .pool)) (s .pool .count) (omega arith)
+
+  pub rule27-denied : rule27 s t .1 ≡ false → (atCeiling (s .pool) t ≡ true) × DeniedOwn s t
+  rule27-denied e =
+      let c = or-none (not (atCeiling (s .pool) t)) (sweep (s .pool) (s .frames) t .taken) e in
+      (not-false _ (c .0), record { shut = λ f l u. is-off _ (λ o. none-loose (c .1) f l (record { evictable = o; own = λ a. u })) })
+
+  pub of-denied-own : (atCeiling (s .pool) t ≡ true) × DeniedOwn s t → rule27 s t .1 ≡ false
+  of-denied-own d = or-off (ap not (d .0)) (is-off _ (λ e. let r = taken-loose e in clash (sym (r .1 .evictable) ∙ d .1 .shut _ (r .0) (r .1 .own (d .0)))))
+
+  -- 15 is answered exactly where the store is below its ceiling, every frame is used and none is open to eviction
+  pub denied-exactly : (rule15 s t .1 ≡ false) ↔ ((atCeiling (s .pool) t ≡ false) × Denied s)
+  denied-exactly = (rule15-denied, of-denied)
+
+  -- 27 exactly where the store is at its ceiling, and no frame with a page of it is open to eviction
+  pub own-denied-exactly : (rule27 s t .1 ≡ false) ↔ ((atCeiling (s .pool) t ≡ true) × DeniedOwn s t)
+  own-denied-exactly = (rule27-denied, of-denied-own)

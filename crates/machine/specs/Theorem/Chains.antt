@@ -1,31 +1,32 @@
 -- The directory along with the records: pages that stay, one that leaves its frame, one that comes into one, and the directory that open makes. Assumes nothing.
 use Prim.Native.Nat.{ℕ, zero, suc, _≤_, _<_}
 use mathlib.Core.Path.{_≡_, refl, sym, ap, _∙_}
-use mathlib.Core.Logic.{_≢_, inl}
+use mathlib.Core.Logic.{_≢_}
 use mathlib.Core.Bool.{true, false}
-use mathlib.Core.List.{List, _∷_, []}
+use mathlib.Core.List.{List, []}
 use native.Mathlib.Omega.{arith}
-use native.Mathlib.Decide.{ℕ-discrete}
-use lib.ListN.{length, getD, replicate, length-set, length-replicate}
-use lib.Seq.{getD-set-same, getD-set-other}
+use native.Mathlib.Decide.{decLt}
+use borrow.Author.Tests.{lt-ltb, le-ltb}
+use lib.Dec.{ltb}
+use lib.ListN.{length, getD, set, replicate, length-replicate}
+use lib.Seq.{getD-set-other}
 use Rattle.page.specs.Figures.{mostFrames}
 use Rattle.machine.specs.declared.FrameRecord.{FrameRecord}
 use Rattle.machine.specs.declared.Pool.{Pool}
-use Rattle.rules.specs.TestLaws.{case, on, off, clash}
-use Rattle.machine.specs.Machine.{State, state, blank, isUsed, recordAt, pageIn, withRecord, occupied}
+use Rattle.rules.specs.Tests.{pick}
+use Rattle.rules.specs.TestLaws.{case, on, off, clash, pick-yes, pick-no}
+use Rattle.machine.specs.Machine.{blank, isUsed, recordAt, pageIn, withRecord, occupied}
 use Rattle.machine.specs.Laws.AgreementFacts.{occupied-used, make-occupied}
 use Rattle.chains.specs.Chain.{directorySize, buckets, bucketOf, linkAt, openedDirectory, entered, takenOut}
-use Rattle.machine.specs.ByChain.{RootAlone}
-use Rattle.chains.specs.ChainLaws.{In, Single, Chain, chain-none, chain-more, chain-list, in-none, in-rest, single-more}
-use Rattle.chains.specs.ChainFacts.{Chained, chained-ext, enter-chained, taken-chained}
+use Rattle.machine.specs.ByChain.{lastFirst, RootsAlone}
+use Rattle.chains.specs.ChainLaws.{In, Apart, Single, Chain, chain-none, chain-list, enter-head, entered-length}
+use Rattle.chains.specs.ChainFacts.{Framed, Chained, chained-ext, enter-chained, taken-chained}
 use Rattle.machine.specs.Laws.DirectoryFacts.{homeOf, home-same, home-on, home-off, home-framed, bucket-lt}
-use Rattle.machine.specs.Theorem.View.{view}
-use Rattle.machine.specs.Theorem.KeepEffect.{Steady}
-use Rattle.machine.specs.Theorem.RecordChange.{change-here, change-other}
+use Rattle.machine.specs.Theorem.RecordChange.{SamePlaces, change-here, change-other}
 
 -- no page moves
-pub steady-chained : (s : State) (q : Pool) (fs st d : List ℕ) → Steady (view s) (view (state q fs st d)) → Chained (homeOf (s .pool)) d → Chained (homeOf q) d
-steady-chained s q fs st d K C = chained-ext (homeOf (s .pool)) (homeOf q) d (λ f. home-same (s .pool) q f (K .sameF) (K .used f) (K .page f)) C
+pub steady-chained : (p q : Pool) (d : List ℕ) → q .count ≡ p .count → SamePlaces (p .records) (q .records) → Chained (homeOf p) d → Chained (homeOf q) d
+steady-chained p q d c S C = chained-ext (homeOf p) (homeOf q) d (λ f. home-same p q f c (S .used f) (S .page f)) C
 
 -- a frame that isn't in use is empty
 pub unused-empty : (p : Pool) (f : ℕ) → isUsed (recordAt (p .records) f) ≡ false → occupied p f ≡ false
@@ -48,7 +49,7 @@ module _ (p : Pool) (few : p .count ≤ mostFrames) (d : List ℕ) (size : lengt
       (home-on (withRecord p f r) f (make-occupied (withRecord p f r) f l (ap isUsed (change-here (p .records) f r lt) ∙ u)) ∙ ap (λ t. bucketOf (t .page .0)) (change-here (p .records) f r lt))
       (others r)
 
--- ---- "Open leaves page 0 alone in it"
+-- ---- "Open leaves page 0 alone in it"; of T stores, the roots, "entered in the directory in that order"
 
 abbrev zeros : ℕ → List ℕ
 zeros n = replicate n 0
@@ -58,42 +59,76 @@ zero-at zero a = refl
 zero-at (suc n) zero = refl
 zero-at (suc n) (suc a) = zero-at n a
 
-pub opened-size : length openedDirectory ≡ directorySize
+pub opened-size : (T : ℕ) → length (openedDirectory T) ≡ directorySize
 unfolding openedDirectory
-opened-size = length-set (zeros directorySize) 0 1 ∙ length-replicate {A = ℕ} directorySize 0
+opened-size zero = length-replicate {A = ℕ} directorySize 0
+opened-size (suc t) = entered-length (openedDirectory t) 0 t ∙ opened-size t
 
-opened-head : getD openedDirectory 0 0 ≡ 1
-unfolding openedDirectory
-opened-head = getD-set-same (zeros directorySize) 0 1 0 (rw (length-replicate {A = ℕ} directorySize 0) (omega arith))
+opened-other : (T a : ℕ) → a ≢ 0 → ((t : ℕ) → t < T → a ≢ linkAt t) → getD (openedDirectory T) a 0 ≡ 0
+unfolding openedDirectory entered
+opened-other zero a n h = zero-at directorySize a
+opened-other (suc t) a n h =
+    getD-set-other (set (openedDirectory t) (linkAt t) (getD (openedDirectory t) 0 0)) 0 a (suc t) 0 n
+    ∙ getD-set-other (openedDirectory t) (linkAt t) a (getD (openedDirectory t) 0 0) 0 (h t (omega arith)) ∙ opened-other t a n (λ u l. h u (omega arith))
 
-opened-other : (a : ℕ) → a ≢ 0 → getD openedDirectory a 0 ≡ 0
-unfolding openedDirectory
-opened-other a n = getD-set-other (zeros directorySize) 0 a 1 0 n ∙ zero-at directorySize a
+-- the roots' frames are chain 0, the last first
 
-opened-chain : Chain openedDirectory 0 (0 ∷ [])
-opened-chain = chain-more openedDirectory 0 0 [] opened-head (chain-none openedDirectory (linkAt 0) (opened-other (linkAt 0) (λ z. omega arith)))
+last-length : (T : ℕ) → length (lastFirst T) ≡ T
+unfolding lastFirst
+last-length zero = refl
+last-length (suc t) = ap suc (last-length t)
 
-pub opened-alone : RootAlone openedDirectory
-opened-alone = record { size = opened-size; head = chain-list openedDirectory (suc mostFrames) 0 (0 ∷ []) (omega arith) opened-chain; others = opened-other }
+last-apart : (T e : ℕ) → T ≤ e → Apart e (lastFirst T)
+unfolding lastFirst Apart
+last-apart zero e l = tt
+last-apart (suc t) e l = (λ z. omega arith, last-apart t e (omega arith))
 
-pub opened-chained : (home : ℕ → ℕ) → home 0 ≡ 0 → ((f : ℕ) → f ≢ 0 → home f ≡ buckets) → Chained home openedDirectory
-unfolding In Single
-opened-chained home z e = record {
-  at = λ b h. elim (ℕ-discrete b 0) [
-    | yes y ↦ rw y (record {
-      chain = 0 ∷ [];
-      links = opened-chain;
-      single = single-more 0 [] (in-none 0) tt;
-      only = λ f i. elim (ℕ-discrete f 0) [ yes q ↦ rw q z | no q ↦ absurd (in-none f (in-rest f 0 [] (λ w. q (sym w)) i)) ];
-      all = λ f q. elim (ℕ-discrete f 0) [ yes w ↦ inl (sym w) | no w ↦ absurd (omega (arith, e f w)) ];
-    })
-    | no y ↦ record {
-      chain = [];
-      links = chain-none openedDirectory b (opened-other b y);
-      single = tt;
-      only = λ f i. absurd i;
-      all = λ f q. elim (ℕ-discrete f 0) [ yes w ↦ absurd (y (sym q ∙ ap home w ∙ z)) | no w ↦ absurd (omega (arith, e f w)) ];
-    }
-  ];
-  rest = λ f l h. opened-other (linkAt f) (λ y. omega arith);
+opened-chain : (T : ℕ) → T ≤ mostFrames → Chain (openedDirectory T) 0 (lastFirst T)
+unfolding openedDirectory lastFirst
+opened-chain zero l = chain-none (zeros directorySize) 0 (zero-at directorySize 0)
+opened-chain (suc t) l = enter-head (openedDirectory t) (opened-size t) 0 t (omega arith) (omega arith) (lastFirst t) (last-apart t t (omega arith)) (opened-chain t (omega arith))
+
+pub opened-alone : (T : ℕ) → T ≤ mostFrames → RootsAlone T (openedDirectory T)
+opened-alone T l = record {
+  size = opened-size T;
+  chain = chain-list (openedDirectory T) (suc mostFrames) 0 (lastFirst T) (omega (arith, last-length T)) (opened-chain T l);
+  others = opened-other T;
 }
+
+-- the frames below t belong in chain 0, the others in none
+unfoldable rootHome : ℕ → ℕ → ℕ
+rootHome t f = pick (ltb f t) 0 buckets
+
+root-home : (t f : ℕ) → f < t → rootHome t f ≡ 0
+unfolding rootHome
+root-home t f l = sym (pick-yes buckets (lt-ltb f t l) refl)
+
+no-home : (t f : ℕ) → t ≤ f → rootHome t f ≡ buckets
+unfolding rootHome
+no-home t f l = sym (pick-no 0 (le-ltb f t l) refl)
+
+root-framed : (t : ℕ) → t ≤ mostFrames → Framed (rootHome t)
+root-framed t few f h = elim (decLt f t) [ yes l ↦ omega arith | no l ↦ absurd (omega (arith, no-home t f (omega arith))) ]
+
+root-more : (t g : ℕ) → g ≢ t → rootHome (suc t) g ≡ rootHome t g
+root-more t g n = elim (decLt g t) [ yes l ↦ root-home (suc t) g (omega arith) ∙ sym (root-home t g l) | no l ↦ no-home (suc t) g (omega arith) ∙ sym (no-home t g (omega arith)) ]
+
+roots-chained : (T : ℕ) → T ≤ mostFrames → Chained (rootHome T) (openedDirectory T)
+unfolding openedDirectory In Single
+roots-chained zero l = record {
+  at = λ b h. record {
+    chain = [];
+    links = chain-none (zeros directorySize) b (zero-at directorySize b);
+    single = tt;
+    only = λ f i. absurd i;
+    all = λ f q. absurd (omega (arith, no-home 0 f (omega arith)));
+  };
+  rest = λ f m h. zero-at directorySize (linkAt f);
+}
+roots-chained (suc t) l =
+    enter-chained (rootHome t) (rootHome (suc t)) (root-framed t (omega arith)) (openedDirectory t) (opened-size t) (roots-chained t (omega arith)) 0 t (omega arith) (omega arith)
+    (omega (arith, no-home t t (omega arith))) (root-home (suc t) t (omega arith)) (root-more t)
+
+pub opened-chained : (T : ℕ) → T ≤ mostFrames → (home : ℕ → ℕ) → ((f : ℕ) → f < T → home f ≡ 0) → ((f : ℕ) → T ≤ f → home f ≡ buckets) → Chained home (openedDirectory T)
+opened-chained T l home z e = chained-ext (rootHome T) home (openedDirectory T)
+    (λ f. elim (decLt f T) [ yes h ↦ z f h ∙ sym (root-home T f h) | no h ↦ e f (omega arith) ∙ sym (no-home T f (omega arith)) ]) (roots-chained T l)

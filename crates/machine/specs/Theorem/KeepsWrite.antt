@@ -7,7 +7,7 @@ use Prim.Native.Nat.{ℕ, _+_, _≤_, _<_}
 use native.Mathlib.Omega.{arith}
 use native.Mathlib.Decide.{ℕ-discrete}
 use lib.Dec.{eqb}
-use lib.ListN.{length, length-set}
+use lib.ListN.{length, set, length-set}
 use borrow.Author.Tests.{eqb-true}
 use Rattle.page.specs.Figures.{pageSize, slotCount, payloadSize}
 use Rattle.page.specs.Word.{isMarked, nameOf}
@@ -18,12 +18,13 @@ use Rattle.rules.specs.TestLaws.{clash, pick-yes, pick-no, pick-either, case, o
 use Rattle.machine.specs.Machine.{State, isDirty, recordAt, dirtied}
 use Rattle.machine.specs.Calls.{dirtiedBy, written}
 use Rattle.machine.specs.History.{Point}
+use Rattle.machine.specs.Theorem.Lift.{lift-same}
 use Rattle.machine.specs.Theorem.View.{View, view, Occupied, Map, Free, MapSound}
-use Rattle.machine.specs.Theorem.Invariant.{Invariant, mapOf}
+use Rattle.machine.specs.Theorem.Invariant.{Invariant, mapView}
 use Rattle.machine.specs.Theorem.KeepEffect.{KeptView, kept-shape, kept-content, Rewritten}
 use Rattle.machine.specs.Theorem.PinsEffect.{pins-kept}
 use Rattle.machine.specs.Theorem.Chains.{steady-chained}
-use Rattle.machine.specs.Theorem.RecordChange.{SamePlace, change-here, change-other, change-same, change-steady, neat-change, neat-place, record-lt, lengths-kept}
+use Rattle.machine.specs.Theorem.RecordChange.{SamePlace, stores-kept, change-places, change-here, change-other, change-same, change-steady, neat-change, neat-place, record-lt, lengths-kept}
 
 -- a map with the same words is as sound
 same-sound : (m n : Map) (N : ℕ) → ((p k : ℕ) → p < N → k < slotCount → n .mapWord p k ≡ m .mapWord p k) → (roots each : ℕ) → MapSound m N roots each → MapSound n N roots each
@@ -34,7 +35,7 @@ same-sound m n N same roots each S = record {
 }
 
 module _ (x : Point) (I : Invariant x) (f : ℕ) (of : Occupied (view (x .now)) f) (offset : ℕ) (d : List ℕ) (fits : offset + length d ≤ payloadSize) (od : Octets d)
-    (free : Free (mapOf (x .map)) (x .now .pool .pages) (view (x .now) .page f)) where
+    (free : Free (mapView (x .now .pool .pages) (x .map)) (view (x .now) .N) (view (x .now) .page f)) where
   abbrev s : State
   s = x .now
 
@@ -62,7 +63,7 @@ module _ (x : Point) (I : Invariant x) (f : ℕ) (of : Occupied (view (x .now)) 
   -- either record that may be picked
   samePlace : SamePlace (recordAt rs f) r
   samePlace = pick-either (SamePlace (recordAt rs f)) (eqb (length d) 0) (recordAt rs f) (dirtied (recordAt rs f))
-      (record { used = refl; page = refl; parent = refl; slot = refl }) (record { used = refl; page = refl; parent = refl; slot = refl })
+      (record { used = refl; store = refl; page = refl; parent = refl; slot = refl }) (record { used = refl; store = refl; page = refl; parent = refl; slot = refl })
 
   samePins : r .pins ≡ recordAt rs f .pins
   samePins = pick-either (λ (t : FrameRecord). t .pins ≡ recordAt rs f .pins) (eqb (length d) 0) (recordAt rs f) (dirtied (recordAt rs f)) refl refl
@@ -76,7 +77,7 @@ module _ (x : Point) (I : Invariant x) (f : ℕ) (of : Occupied (view (x .now)) 
   kept : KeptView v w
   kept = record {
     steady = change-steady s f r (putPayload (s .frames) f offset d) (s .store) (s .directory) lt samePlace;
-    word = λ g k hg hk. ap nameOf (slot-putPayload (s .frames) f offset d _ (I .sized .frames) (of .lt) fits g k hk);
+    word = λ g k hg hk. lift-same (s .pool .pages) _ _ _ _ (change-places rs f r lt samePlace .store g) (ap nameOf (slot-putPayload (s .frames) f offset d _ (I .sized .frames) (of .lt) fits g k hk));
     mark = λ g k hg hk. ap isMarked (slot-putPayload (s .frames) f offset d _ (I .sized .frames) (of .lt) fits g k hk);
   }
 
@@ -104,9 +105,9 @@ module _ (x : Point) (I : Invariant x) (f : ℕ) (of : Occupied (view (x .now)) 
   mapSlots : (p k : ℕ) → k < slotCount → slot m p k ≡ slot (x .map) p k
   mapSlots p k hk = slot-putPayload (x .map) (v .page f) offset d _ (I .mapLength) pN fits p k hk
 
-  rewritten : Rewritten v w (mapOf (x .map)) (mapOf m)
+  rewritten : Rewritten v w (mapView (s .pool .pages) (x .map)) (mapView (s .pool .pages) m)
   rewritten = record {
-    mapWord = λ p k hp hk. ap nameOf (mapSlots p k hk);
+    mapWord = λ p k hp hk. lift-same (s .pool .pages) _ _ _ _ refl (ap nameOf (mapSlots p k hk));
     mapMark = λ p k hp hk. ap isMarked (mapSlots p k hk);
     bytes = λ g i o h l e. elim (ℕ-discrete g f) [
       | yes q ↦ rw q (byte-putPayload-both (s .frames) f (x .map) (v .page f) offset d _ _ i (I .sized .frames) (of .lt) (I .mapLength) pN fits l (rw q at e))
@@ -127,16 +128,18 @@ module _ (x : Point) (I : Invariant x) (f : ℕ) (of : Occupied (view (x .now)) 
   pub write-keeps : Invariant (record { now = written s f offset d; map = putPayload (x .map) (v .page f) offset d; balance = x .balance })
   write-keeps = record {
     sized = lengths-kept _ (s .store) (I .sized) (putPayload-length (s .frames) f offset d _ (I .sized .frames) (of .lt) fits) refl;
+    stores = I .stores;
     records = length-set rs f r ∙ I .records;
     mapLength = putPayload-length (x .map) (v .page f) offset d _ (I .mapLength) pN fits ∙ I .mapLength;
-    neat = neat-change (s .pool) f r lt (of .lt) (neat-place f (recordAt rs f) r (of .on) samePlace flagDirty (rw sameUsage (I .neat .at f .usage)) (rw samePins (I .neat .at f .pins)) (I .neat .at f)) (I .neat);
+    neat = neat-change (s .pool) f r lt (of .lt) (neat-place _ _ f (recordAt rs f) r (of .on) samePlace flagDirty (rw sameUsage (I .neat .at f .usage)) (rw samePins (I .neat .at f .pins)) (I .neat .at f)) (I .neat);
+    byStore = stores-kept (s .pool) (set rs f r) (s .pool .hand) (change-places rs f r lt samePlace) (I .byStore);
     frameOctets = octets-putPayload (s .frames) f offset d (I .frameOctets) od;
     storeOctets = I .storeOctets;
     mapOctets = octets-putPayload (x .map) (v .page f) offset d (I .mapOctets) od;
     shape = kept-shape v w kept (I .shape);
-    content = kept-content v w kept (I .shape) (mapOf (x .map)) (mapOf m) (I .content) rewritten;
-    sound = same-sound (mapOf (x .map)) (mapOf m) (v .N) (rewritten .mapWord) 1 _ (I .sound);
+    content = kept-content v w kept (I .shape) (mapView (s .pool .pages) (x .map)) (mapView (s .pool .pages) m) (I .content) rewritten;
+    sound = same-sound (mapView (s .pool .pages) (x .map)) (mapView (s .pool .pages) m) (v .N) (rewritten .mapWord) _ _ (I .sound);
     pins = pins-kept v w (kept .steady) (x .balance) (I .pins) (change-same rs f r (λ t. t .pins) lt samePins);
     directory = I .directory;
-    chained = steady-chained s _ _ _ (s .directory) (kept .steady) (I .chained);
+    chained = steady-chained (s .pool) _ (s .directory) refl (change-places rs f r lt samePlace) (I .chained);
   }

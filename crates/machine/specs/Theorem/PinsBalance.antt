@@ -1,5 +1,5 @@
 -- Along a list of calls a record's pins are the balance of its page: accepted roots and fixes less accepted unfixes. Assumes nothing.
-use Prim.Native.Nat.{ℕ, _+_}
+use Prim.Native.Nat.{ℕ, _+_, _<_}
 use mathlib.Core.Path.{_≡_}
 use mathlib.Core.List.{List}
 use Rattle.page.specs.Octets.{Octets}
@@ -7,24 +7,22 @@ use Rattle.machine.specs.Machine.{recordAt}
 use Rattle.machine.specs.Answers.{done}
 use Rattle.machine.specs.Calls.{openCall}
 use Rattle.machine.specs.History.{Call, Point, start, run, AllBytes}
-use Rattle.machine.specs.Demand3.{InFrame, Resident}
-use Rattle.machine.specs.Theorem.View.{view}
+use Rattle.machine.specs.Demand3.{at, InFrame, Resident}
 use Rattle.machine.specs.Theorem.Invariant.{Invariant}
-use Rattle.machine.specs.Theorem.Holders.{Holder}
-use Rattle.machine.specs.Theorem.Residence.{holder, absent-of}
+use Rattle.machine.specs.Theorem.Residence.{sits-place, sits, absent-of}
 use Rattle.machine.specs.Theorem.Demand3Holds.{invariant-along}
 
 -- the pins of a resident page, and of one that isn't resident
 pub record Balanced (x : Point) : Type 0 where
-  pub pins : (p f : ℕ) → InFrame x p f → x .balance .fixes p ≡ x .balance .unfixes p + recordAt (x .now .pool .records) f .pins
-  pub none : (p : ℕ) → (Resident x p → ⊥) → x .balance .fixes p ≡ x .balance .unfixes p
+  pub pins : (t p f : ℕ) → InFrame x t p f → x .balance .fixes (at x t p) ≡ x .balance .unfixes (at x t p) + recordAt (x .now .pool .records) f .pins
+  pub none : (t p : ℕ) → p < x .now .pool .pages → (Resident x t p → ⊥) → x .balance .fixes (at x t p) ≡ x .balance .unfixes (at x t p)
 
 balanced : (x : Point) → Invariant x → Balanced x
 balanced x I = record {
-  pins = λ p f e. let h : Holder (view (x .now)) p f = holder x I p f e in rw (h .page) at (I .pins .count f (h .at));
-  none = λ p n. I .pins .none p (absent-of x I p n);
+  pins = λ t p f e. let S = sits x I t p f e in rw (sits-place (x .now) t p f S) at (I .pins .count f (S .at));
+  none = λ t p l n. I .pins .none (at x t p) (absent-of x I t p l n);
 }
 
-pub pins-balance : (frames store directory : List ℕ) → Octets frames → Octets store → openCall frames store directory .answer ≡ done
-    → (cs : List Call) → AllBytes cs → Balanced (run cs (start (openCall frames store directory .left)))
-pins-balance frames store directory bf bs e cs b = balanced _ (invariant-along frames store directory bf bs e cs b)
+pub pins-balance : (T : ℕ) (ceilings frames store directory : List ℕ) → Octets frames → Octets store → openCall T ceilings frames store directory .answer ≡ done
+    → (cs : List Call) → AllBytes cs → Balanced (run cs (start (openCall T ceilings frames store directory .left)))
+pins-balance T ceilings frames store directory bf bs e cs b = balanced _ (invariant-along T ceilings frames store directory bf bs e cs b)

@@ -1,128 +1,162 @@
--- What demand 3 says of a point by itself, from the invariant: frames, pins, the tree, bytes, words. Assumes nothing.
+-- What demand 3 says of a point by itself, from the invariant: frames, pins, the trees, bytes, words. Assumes nothing.
 use Prim.Native.Nat.{ℕ, _<_, _≤_}
 use mathlib.Core.Path.{_≡_, refl, sym, _∙_, ap}
-use mathlib.Core.Logic.{_≢_}
+use mathlib.Core.Logic.{_≢_, _↔_}
 use mathlib.Core.Bool.{Bool, true}
+use mathlib.Core.List.{List}
 use native.Mathlib.Omega.{arith}
-use native.Mathlib.Decide.{ℕ-discrete}
+use native.Mathlib.Decide.{decLt}
 use Rattle.page.specs.Figures.{pageSize, slotCount, payloadStart}
 use Rattle.page.specs.Word.{isNumber, frameWord, Number, yes-number, reading, low, high, numberWord, renamed, renamed-same, marked}
 use Rattle.page.specs.Page.{slot, name, byte}
-use Rattle.machine.specs.Machine.{recordAt, occupied, blank}
+use Rattle.page.specs.StorePlaces.{place-lt}
+use Rattle.machine.specs.declared.FrameRecord.{FrameRecord}
+use Rattle.machine.specs.Machine.{recordAt, pageIn, storeIn, occupied, blank, isOf}
 use Rattle.machine.specs.Moves.{plain}
 use Rattle.rules.specs.TestLaws.{case, on, off}
 use Rattle.machine.specs.History.{Point}
-use Rattle.machine.specs.Demand3.{InFrame, Resident, Pinned, Names, LeadsToRoot, atRoot, toParent}
+use Rattle.machine.specs.Demand3.{at, InFrame, Resident, Pinned, Names, LeadsToRoot, atRoot, toParent}
 use Rattle.machine.specs.Laws.PlainLaws.{plain-low, plain-high}
-use Rattle.machine.specs.Theorem.View.{view, Reach, top, via, Occupied, Absent, Parent, Child, first-root, first-page, past-first, not-first}
-use Rattle.machine.specs.Theorem.Invariant.{Invariant}
-use Rattle.machine.specs.Theorem.Holders.{Holder, occupied-of}
-use Rattle.machine.specs.Theorem.InvariantReads.{blank-record}
-use Rattle.machine.specs.Theorem.Reads.{held-word, held-mark, parent-word, held-byte, stored-number}
-use Rattle.machine.specs.Theorem.Residence.{in-frame, resident-of, holder, pinned-holder}
+use Rattle.machine.specs.Laws.HeldLaws.{is-of, of-is}
+use Rattle.machine.specs.Theorem.View.{View, view, Reach, top, via, Occupied, Parent, Child}
+use Rattle.machine.specs.Theorem.Invariant.{Fit, fit-of, Invariant}
+use Rattle.machine.specs.Theorem.Holders.{occupied-of}
+use Rattle.machine.specs.Theorem.FrameReads.{root-store, root-number, number-some, some-number, up-store, child-of, child-store}
+use Rattle.machine.specs.Theorem.Reads.{held-word, held-mark, held-byte, parent-word, map-once, stored-number}
+use Rattle.machine.specs.Theorem.InvariantReads.{blank-record, number-away}
+use Rattle.machine.specs.Theorem.Residence.{Sits, sits-place, sits-holder, sits-self, sits-store, sits-below, sits-once, in-frame, resident-of, sits, pinned-sits}
 
--- a word of page p in frame f against the map's: a number, of no resident page, or swizzled to the frame of the page that the map's names
-pub data Meets (x : Point) (p f k : ℕ) : Type 0 where
-  number : name (x .now .frames) f k ≡ name (x .map) p k → Number (name (x .now .frames) f k) → (name (x .map) p k ≢ 0 → Absent (view (x .now)) (name (x .map) p k)) → Meets x p f k
-  swizzledTo : (g : ℕ) → name (x .now .frames) f k ≡ frameWord g → Child (view (x .now)) f k g → Holder (view (x .now)) (name (x .map) p k) g → Meets x p f k
+-- a word of page p of store t, in frame f, against the map's: a number, of no resident page, or swizzled to the frame of the page that the map's names
+pub data Meets (x : Point) (t p f k : ℕ) : Type 0 where
+  number : name (x .now .frames) f k ≡ name (x .map) (at x t p) k → Number (name (x .now .frames) f k)
+      → (name (x .map) (at x t p) k ≢ 0 → (g : ℕ) → Sits (x .now) t (name (x .map) (at x t p) k) g → ⊥) → Meets x t p f k
+  swizzledTo : (g : ℕ) → name (x .now .frames) f k ≡ frameWord g → Child (view (x .now)) f k g → Sits (x .now) t (name (x .map) (at x t p) k) g → Meets x t p f k
 
 module _ (x : Point) (I : Invariant x) where
+  abbrev v : View
+  v = view (x .now)
+
+  abbrev rs : List FrameRecord
+  rs = x .now .pool .records
+
+  abbrev J : Fit (x .now)
+  J = fit-of x I
+
   -- ---- frames and pins
-  pub pages-apart : (p q f : ℕ) → InFrame x p f → InFrame x q f → p ≡ q
-  pages-apart p q f a b = sym (holder x I p f a .page) ∙ holder x I q f b .page
+  pub pages-apart : (t p u q f : ℕ) → InFrame x t p f → InFrame x u q f → (t ≡ u) × (p ≡ q)
+  pages-apart t p u q f a b =
+      let S = sits x I t p f a in
+      let R = sits x I u q f b in
+      (sym (S .store) ∙ R .store, sym (S .page) ∙ R .page)
 
-  pub other-empty : (f : ℕ) → f < x .now .pool .count → ((p : ℕ) → InFrame x p f → ⊥) → recordAt (x .now .pool .records) f ≡ blank
+  pub other-empty : (f : ℕ) → f < x .now .pool .count → ((t p : ℕ) → InFrame x t p f → ⊥) → recordAt rs f ≡ blank
   other-empty f l n = elim (case (occupied (x .now .pool) f)) [
-    | on t ↦ absurd (n (view (x .now) .page f) (in-frame x I _ f (record { at = occupied-of (x .now) f t; page = refl })))
-    | off t ↦ blank-record x I f t
+    | on e ↦ absurd (n _ _ (in-frame x I _ _ f (sits-self (x .now) f (occupied-of (x .now) f e))))
+    | off e ↦ blank-record x I f e
   ]
 
-  pub kept-frame : (p : ℕ) → Pinned x p → InFrame x p (x .balance .frame p)
-  kept-frame p t =
-      let a = pinned-holder x I p t in
-      let e : x .balance .frame p ≡ a .0 = rw (a .1 .page) at (I .pins .place (a .0) (a .1 .at) (a .2)) in
-      rw e (in-frame x I p (a .0) (a .1))
+  pub kept-frame : (t p : ℕ) → Pinned x t p → InFrame x t p (x .balance .frame (at x t p))
+  kept-frame t p B =
+      let a = pinned-sits x I t p B in
+      let e : x .balance .frame (at x t p) ≡ a .0 = rw (sits-place (x .now) t p (a .0) (a .1)) at (I .pins .place (a .0) (a .1 .at) (a .2)) in
+      rw e (in-frame x I t p (a .0) (a .1))
 
-  -- ---- the tree
-  pub root-holder : Holder (view (x .now)) 0 0
-  root-holder = record { at = first-root _ (I .shape); page = first-page _ (I .shape) }
+  -- what counts towards the ceiling of a store
+  pub counts-in : (t f : ℕ) → f < x .now .pool .count → (isOf t (recordAt rs f) ≡ true) ↔ ((p : ℕ) × InFrame x t p f)
+  counts-in t f l = (
+    λ e. let a = of-is t (recordAt rs f) e in
+        (pageIn rs f, in-frame x I t _ f (record { at = record { lt = l; on = a .0 }; store = a .1; page = refl })),
+    λ r. let S = sits x I t (r .0) f (r .1) in is-of t (recordAt rs f) (S .at .on) (S .store),
+  )
 
-  pub root-resident : Resident x 0
-  root-resident = resident-of x I 0 0 root-holder
+  -- ---- the trees
+  pub root-sits : (t : ℕ) → t < x .now .pool .stores → Sits (x .now) t 0 t
+  root-sits t l = record { at = I .shape .root t l; store = root-store (x .now) J t l; page = root-number (x .now) J t l }
 
-  -- the parent's word in the map
-  parent-names : (f : ℕ) → Occupied (view (x .now)) f → (P : Parent (view (x .now)) f) → Names x (view (x .now) .page (view (x .now) .up f)) (view (x .now) .upSlot f) (view (x .now) .page f)
-  parent-names f o P = record { inPage = P .inPage; word = parent-word x I f P }
+  pub root-resident : (t : ℕ) → t < x .now .pool .stores → InFrame x t 0 t
+  root-resident t l = in-frame x I t 0 t (root-sits t l)
 
-  parent-resident : (f : ℕ) → Parent (view (x .now)) f → Resident x (view (x .now) .page (view (x .now) .up f))
-  parent-resident f P = resident-of x I _ (view (x .now) .up f) (record { at = P .occupied; page = refl })
+  -- the parent of a frame that is no root's, and its word in the map
+  module _ (f : ℕ) (o : Occupied v f) (n : x .now .pool .stores ≤ f) where
+    P : Parent v f
+    P = I .shape .parent f o n
 
-  pub named-by : (p : ℕ) → p ≢ 0 → Resident x p → (q k : ℕ) × Resident x q × Names x q k p
-  named-by p n r =
-      let h : Holder (view (x .now)) p (r .0) = holder x I p (r .0) (r .1) in
-      let z : r .0 ≢ 0 = λ q. n (sym (h .page) ∙ ap (view (x .now) .page) q ∙ first-page _ (I .shape)) in
-      let P : Parent (view (x .now)) (r .0) = I .shape .parent (r .0) (h .at) (past-first z) in
-      (view (x .now) .page (view (x .now) .up (r .0)), view (x .now) .upSlot (r .0), parent-resident (r .0) P, rw (h .page) at (parent-names (r .0) (h .at) P))
+    parent-sits : Sits (x .now) (storeIn rs f) (pageIn rs (v .up f)) (v .up f)
+    parent-sits = record { at = P .occupied; store = sym (up-store (x .now) J f o n); page = refl }
 
-  page-below : (p : ℕ) → Resident x p → p < x .now .pool .pages
-  page-below p r = let h : Holder (view (x .now)) p (r .0) = holder x I p (r .0) (r .1) in rw (h .page) at (I .shape .pageLt (r .0) (h .at))
+    parent-names : Names x (storeIn rs f) (pageIn rs (v .up f)) (v .upSlot f) (pageIn rs f)
+    parent-names = record { inPage = P .inPage; word = ap (λ (q : ℕ). name (x .map) q (v .upSlot f)) (sym (sits-place (x .now) _ _ _ parent-sits)) ∙ parent-word x I f P }
 
-  pub named-once : (p q k r j : ℕ) → p ≢ 0 → Resident x p → Resident x q → Names x q k p → Resident x r → Names x r j p → (q ≡ r) × (k ≡ j)
-  named-once p q k r j n rp rq a rr b =
-      I .sound .once q k r j (page-below q rq) (a .inPage) (page-below r rr) (b .inPage) (λ z. n (sym (a .word) ∙ z)) (a .word ∙ sym (b .word))
+  pub named-by : (t p : ℕ) → p ≢ 0 → Resident x t p → (q k : ℕ) × Resident x t q × Names x t q k p
+  named-by t p n r =
+      let S = sits x I t p (r .0) (r .1) in
+      let z = some-number (x .now) J (r .0) (λ e. n (sym (S .page) ∙ e)) in
+      (_, _, rw (S .store) at (resident-of x I _ _ _ (parent-sits (r .0) (S .at) z)), rw (S .store, S .page) at (parent-names (r .0) (S .at) z))
 
-  leads : (f : ℕ) → Reach (view (x .now)) f → Occupied (view (x .now)) f → LeadsToRoot x (view (x .now) .page f)
-  leads f (top l) o = let z : f ≡ 0 = omega arith in rw (z, first-page _ (I .shape)) atRoot
-  leads f (via r) o = elim (ℕ-discrete f 0) [
-    | yes z ↦ rw (z, first-page _ (I .shape)) atRoot
-    | no z ↦
-        let P : Parent (view (x .now)) f = I .shape .parent f o (past-first z) in
-        toParent _ _ (parent-resident f P) (parent-names f o P) (leads (view (x .now) .up f) r (P .occupied))
+  pub named-once : (t p q k r j : ℕ) → p ≢ 0 → Resident x t p → Resident x t q → Names x t q k p → Resident x t r → Names x t r j p → (q ≡ r) × (k ≡ j)
+  named-once t p q k r j n rp rq a rr b =
+      let Q = sits x I t q (rq .0) (rq .1) in
+      let R = sits x I t r (rr .0) (rr .1) in
+      map-once x I t q k r j (sits-store x I t q (rq .0) Q) (sits-below x I t q (rq .0) Q) (a .inPage) (sits-below x I t r (rr .0) R) (b .inPage) (λ z. n (sym (a .word) ∙ z)) (a .word ∙ sym (b .word))
+
+  at-root : (f : ℕ) → f < x .now .pool .stores → LeadsToRoot x (storeIn rs f) (pageIn rs f)
+  at-root f l = rw (root-number (x .now) J f l) atRoot
+
+  leads : (f : ℕ) → Reach v f → Occupied v f → LeadsToRoot x (storeIn rs f) (pageIn rs f)
+  leads f (top l) o = at-root f l
+  leads f (via r) o = elim (decLt f (x .now .pool .stores)) [
+    | yes l ↦ at-root f l
+    | no l ↦
+        let n : x .now .pool .stores ≤ f = omega arith in
+        toParent _ _ (resident-of x I _ _ _ (parent-sits f o n)) (parent-names f o n) (rw (sym (up-store (x .now) J f o n)) at (leads (v .up f) r (P f o n .occupied)))
   ]
 
-  pub leads-to-root : (p : ℕ) → Resident x p → LeadsToRoot x p
-  leads-to-root p r = let h : Holder (view (x .now)) p (r .0) = holder x I p (r .0) (r .1) in rw (h .page) at (leads (r .0) (I .shape .reach (r .0) (h .at)) (h .at))
+  pub leads-to-root : (t p : ℕ) → Resident x t p → LeadsToRoot x t p
+  leads-to-root t p r = let S = sits x I t p (r .0) (r .1) in rw (S .store, S .page) at (leads (r .0) (I .shape .reach (r .0) (S .at)) (S .at))
 
   -- ---- bytes and words
-  pub same-payload : (p f i : ℕ) → InFrame x p f → payloadStart ≤ i → i < pageSize → byte (x .now .frames) f i ≡ byte (x .map) p i
-  same-payload p f i a lo hi =
-      held-byte x I p f i (holder x I p f a) lo hi
+  pub same-payload : (t p f i : ℕ) → InFrame x t p f → payloadStart ≤ i → i < pageSize → byte (x .now .frames) f i ≡ byte (x .map) (at x t p) i
+  same-payload t p f i a lo hi = held-byte x I (at x t p) f i (sits-holder (x .now) t p f (sits x I t p f a)) lo hi
 
-  pub meets : (p f k : ℕ) → Holder (view (x .now)) p f → k < slotCount → Meets x p f k
-  meets p f k h hk = elim (reading (name (x .now .frames) f k)) [
+  -- what a word of a resident page stands for is what the map's names
+  pub sits-word : (t p f k : ℕ) → Sits (x .now) t p f → k < slotCount → plain (pageIn rs) (name (x .now .frames) f k) ≡ name (x .map) (at x t p) k
+  sits-word t p f k S hk = held-word x I (at x t p) f k (sits-holder (x .now) t p f S) hk
+
+  pub meets : (t p f k : ℕ) → Sits (x .now) t p f → k < slotCount → Meets x t p f k
+  meets t p f k S hk = elim (reading (name (x .now .frames) f k)) [
     | low l ↦
-        let e : name (x .now .frames) f k ≡ name (x .map) p k = sym (plain-low (view (x .now) .page) _ l) ∙ held-word x I p f k h hk in
-        number e l (λ n. rw e at (I .shape .numberAbsent f k (h .at) hk l (λ z. n (sym e ∙ z))))
+        let e : name (x .now .frames) f k ≡ name (x .map) (at x t p) k = sym (plain-low (pageIn rs) _ l) ∙ sits-word t p f k S hk in
+        number e l (λ n g G. number-away x I f k (S .at) hk l (λ z. n (sym e ∙ z)) g (G .at) (sits-place (x .now) t _ g G ∙ ap (at x t) (sym e) ∙ ap (λ (u : ℕ). at x u (name (x .now .frames) f k)) (sym (S .store))))
     | high g e ↦
-        let C : Child (view (x .now)) f k g = I .shape .child f k g (h .at) hk e in
-        swizzledTo g e C (record { at = C .occupied; page = sym (plain-high (view (x .now) .page) g) ∙ ap (plain (view (x .now) .page)) (sym e) ∙ held-word x I p f k h hk })
+        let C : Child v f k g = child-of (x .now) J f k (S .at) hk g e in
+        swizzledTo g e C (record { at = C .occupied; store = child-store (x .now) J f k (S .at) hk g e ∙ S .store; page = sym (plain-high (pageIn rs) g) ∙ ap (plain (pageIn rs)) (sym e) ∙ sits-word t p f k S hk })
   ]
 
-  pub swizzled-word : (p f k c g : ℕ) → InFrame x p f → Names x p k c → c ≢ 0 → InFrame x c g → name (x .now .frames) f k ≡ frameWord g
-  swizzled-word p f k c g a m n b =
-      let h : Holder (view (x .now)) c g = holder x I c g b in
-      elim (meets p f k (holder x I p f a) (m .inPage)) [
-        | number e l away ↦ absurd (away (λ z. n (sym (m .word) ∙ z)) g (h .at) (h .page ∙ sym (m .word)))
-        | swizzledTo j e C k ↦ e ∙ ap frameWord (I .shape .apart j g (k .at) (h .at) (k .page ∙ m .word ∙ sym (h .page)))
+  pub swizzled-word : (t p f k c g : ℕ) → InFrame x t p f → Names x t p k c → c ≢ 0 → InFrame x t c g → name (x .now .frames) f k ≡ frameWord g
+  swizzled-word t p f k c g a m n b =
+      let G = sits x I t c g b in
+      elim (meets t p f k (sits x I t p f a) (m .inPage)) [
+        | number e l away ↦ absurd (away (λ z. n (sym (m .word) ∙ z)) g (rw (m .word) G))
+        | swizzledTo j e C K ↦ e ∙ ap frameWord (sits-once x I t c j g (rw (m .word) at K) G)
       ]
 
-  pub number-word : (p f k c : ℕ) → InFrame x p f → Names x p k c → (c ≢ 0 → Resident x c → ⊥) → name (x .now .frames) f k ≡ c
-  number-word p f k c a m n = elim (meets p f k (holder x I p f a) (m .inPage)) [
+  pub number-word : (t p f k c : ℕ) → InFrame x t p f → Names x t p k c → (c ≢ 0 → Resident x t c → ⊥) → name (x .now .frames) f k ≡ c
+  number-word t p f k c a m n = elim (meets t p f k (sits x I t p f a) (m .inPage)) [
     | number e l away ↦ e ∙ m .word
-    | swizzledTo j e C k ↦ absurd (n
-        (λ z. not-first (C .notRoot) (I .shape .apart j 0 (k .at) (first-root _ (I .shape)) (k .page ∙ m .word ∙ z ∙ sym (first-page _ (I .shape)))))
-        (resident-of x I c j (record { at = k .at; page = k .page ∙ m .word })))
+    | swizzledTo j e C K ↦
+        let G : Sits (x .now) t c j = rw (m .word) at K in
+        absurd (n (λ z. number-some (x .now) J j (C .occupied) (C .notRoot) (G .page ∙ z)) (resident-of x I t c j G))
   ]
 
   -- the whole words, put in the place of the map's: with its mark
-  whole-word : (p f k n : ℕ) → InFrame x p f → k < slotCount → name (x .now .frames) f k ≡ n → slot (x .now .frames) f k ≡ renamed (slot (x .map) p k) n
-  whole-word p f k n a l e = renamed-same (slot (x .now .frames) f k) n e ∙ ap (λ (m : Bool). marked m n) (held-mark x I p f k (holder x I p f a) l)
+  whole-word : (t p f k n : ℕ) → InFrame x t p f → k < slotCount → name (x .now .frames) f k ≡ n → slot (x .now .frames) f k ≡ renamed (slot (x .map) (at x t p) k) n
+  whole-word t p f k n a l e = renamed-same (slot (x .now .frames) f k) n e ∙ ap (λ (m : Bool). marked m n) (held-mark x I (at x t p) f k (sits-holder (x .now) t p f (sits x I t p f a)) l)
 
-  pub swizzled-whole : (p f k c g : ℕ) → InFrame x p f → Names x p k c → c ≢ 0 → InFrame x c g → slot (x .now .frames) f k ≡ renamed (slot (x .map) p k) (frameWord g)
-  swizzled-whole p f k c g a m n b = whole-word p f k (frameWord g) a (m .inPage) (swizzled-word p f k c g a m n b)
+  pub swizzled-whole : (t p f k c g : ℕ) → InFrame x t p f → Names x t p k c → c ≢ 0 → InFrame x t c g → slot (x .now .frames) f k ≡ renamed (slot (x .map) (at x t p) k) (frameWord g)
+  swizzled-whole t p f k c g a m n b = whole-word t p f k (frameWord g) a (m .inPage) (swizzled-word t p f k c g a m n b)
 
-  pub number-whole : (p f k c : ℕ) → InFrame x p f → Names x p k c → (c ≢ 0 → Resident x c → ⊥) → slot (x .now .frames) f k ≡ renamed (slot (x .map) p k) (numberWord c)
-  number-whole p f k c a m n = whole-word p f k c a (m .inPage) (number-word p f k c a m n)
+  pub number-whole : (t p f k c : ℕ) → InFrame x t p f → Names x t p k c → (c ≢ 0 → Resident x t c → ⊥) → slot (x .now .frames) f k ≡ renamed (slot (x .map) (at x t p) k) (numberWord c)
+  number-whole t p f k c a m n = whole-word t p f k c a (m .inPage) (number-word t p f k c a m n)
 
-  pub store-plain : (p k : ℕ) → p < x .now .pool .pages → k < slotCount → isNumber (name (x .now .store) p k) ≡ true
-  store-plain p k hp hk = yes-number (name (x .now .store) p k) (stored-number x I p k hp hk)
+  pub store-plain : (t p k : ℕ) → t < x .now .pool .stores → p < x .now .pool .pages → k < slotCount → isNumber (name (x .now .store) (at x t p) k) ≡ true
+  store-plain t p k ht hp hk = yes-number (name (x .now .store) (at x t p) k) (stored-number x I (at x t p) k (place-lt _ t _ p ht hp) hk)

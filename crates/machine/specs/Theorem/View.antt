@@ -1,15 +1,14 @@
--- The machine as functions: what the invariant of demand 3 speaks of. No list and no byte offset stands here.
-use mathlib.Core.Path.{_≡_, ap, _∙_}
-use native.Mathlib.Omega.{arith}
-use native.Mathlib.Nat.{mul-zero}
+-- The machine as functions: what the invariant of demand 3 speaks of. No list and no byte offset stands here; pages are places in the one buffer of all stores, and words name places.
+use mathlib.Core.Path.{_≡_}
 use mathlib.Core.Logic.{_≢_}
 use mathlib.Core.Bool.{Bool, true, false}
-use Prim.Native.Nat.{ℕ, _*_, _≤_, _<_}
-use Rattle.page.specs.Figures.{pageSize, slotCount, payloadStart, leastFrames, mostFrames, mostPages}
+use Prim.Native.Nat.{ℕ, _*_, _/_, _≤_, _<_}
+use Rattle.page.specs.Figures.{pageSize, slotCount, payloadStart, leastFrames, mostFrames}
 use Rattle.page.specs.Word.{frameWord, Number}
 use Rattle.page.specs.Page.{name, lock, byte}
-use Rattle.machine.specs.Machine.{State, isUsed, isDirty, recordAt, pageIn}
+use Rattle.machine.specs.Machine.{State, isUsed, isDirty, recordAt, storeIn, placeIn}
 use Rattle.machine.specs.Moves.{plain}
+use Rattle.machine.specs.Theorem.Lift.{mostPlaces, lift}
 
 pub record View : Type 0 where
   pub F : ℕ
@@ -34,19 +33,19 @@ pub record View : Type 0 where
 abbrev pub view : State → View
 view s = record {
   F = s .pool .count;
-  N = s .pool .pages;
-  roots = 1;
+  N = s .pool .pages * s .pool .stores;
+  roots = s .pool .stores;
   each = s .pool .pages;
   used = λ f. isUsed (recordAt (s .pool .records) f);
-  page = pageIn (s .pool .records);
+  page = placeIn (s .pool .pages) (s .pool .records);
   up = λ f. recordAt (s .pool .records) f .parent .0;
   upSlot = λ f. recordAt (s .pool .records) f .slot;
   pins = λ f. recordAt (s .pool .records) f .pins;
   dirty = λ f. isDirty (recordAt (s .pool .records) f);
-  word = λ f k. name (s .frames) f k;
+  word = λ f k. lift (s .pool .pages) (storeIn (s .pool .records) f) (name (s .frames) f k);
   mark = λ f k. lock (s .frames) f k;
   bytes = λ f i. byte (s .frames) f i;
-  storeWord = λ p k. name (s .store) p k;
+  storeWord = λ p k. lift (s .pool .pages) (p / s .pool .pages) (name (s .store) p k);
   storeMark = λ p k. lock (s .store) p k;
   storeBytes = λ p i. byte (s .store) p i;
 }
@@ -82,7 +81,7 @@ pub record Shape (v : View) : Type 0 where
   pub least : leastFrames ≤ v .F
   pub most : v .F ≤ mostFrames
   pub some : 1 ≤ v .N
-  pub pages : v .N ≤ mostPages
+  pub pages : v .N ≤ mostPlaces
   pub someRoots : 1 ≤ v .roots
   pub root : (f : ℕ) → f < v .roots → Occupied v f
   pub rootPage : (f : ℕ) → f < v .roots → v .page f ≡ v .each * f
@@ -128,21 +127,3 @@ pub record MapSound (m : Map) (N roots each : ℕ) : Type 0 where
   pub below : (p k : ℕ) → p < N → k < slotCount → m .mapWord p k < N
   pub once : (p k q j : ℕ) → p < N → k < slotCount → q < N → j < slotCount → m .mapWord p k ≢ 0 → m .mapWord p k ≡ m .mapWord q j → (p ≡ q) × (k ≡ j)
   pub notRoot : (p k : ℕ) → p < N → k < slotCount → m .mapWord p k ≢ 0 → NoRoot roots each (m .mapWord p k)
-
--- of a single store: a number but 0 is no root's page
-pub single-root : (each p : ℕ) → p ≢ 0 → NoRoot 1 each p
-single-root each p n t l e = let z : t ≡ 0 = omega arith in n (e ∙ ap (λ (x : ℕ). each * x) z ∙ mul-zero each)
-
--- and a frame but 0 is no root's
-pub past-first : {f : ℕ} → f ≢ 0 → 1 ≤ f
-past-first n = omega arith
-
-pub not-first : {f : ℕ} → 1 ≤ f → f ≢ 0
-not-first l z = omega arith
-
--- the first root is page 0
-pub first-root : (v : View) → Shape v → Occupied v 0
-first-root v S = S .root 0 (S .someRoots)
-
-pub first-page : (v : View) → Shape v → v .page 0 ≡ 0
-first-page v S = S .rootPage 0 (S .someRoots) ∙ mul-zero (v .each)

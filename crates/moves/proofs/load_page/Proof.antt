@@ -1,5 +1,6 @@
 -- `load_page` meets its contract: the parent's old word is read before the page is copied. Assumes nothing.
 use mathlib.Core.Path.{refl}
+use native.Mathlib.Omega.{arith}
 use Rattle.moves.specs.MoveSteps.{renamed-put}
 use Rattle.moves.specs.InAndOut.{broughtIn}
 use borrow.Author.Needs.{needs}
@@ -9,8 +10,8 @@ use Rattle.moves.proofs.load_page.Tie as tie
 slot-word-requires : tie.Need-slot-word-requires
 slot-word-requires c κs = search needs
 
-place-requires : tie.Need-place-requires
-place-requires c κs = search needs
+of-requires : tie.Need-of-requires
+of-requires c κs = let p = c .before .before .before .before .before .pre .placeable in (omega (arith, p .store), omega (arith, p .page), p .pages)
 
 to-frame-requires : tie.Need-to-frame-requires
 to-frame-requires c κs = search needs
@@ -46,8 +47,9 @@ returns c =
     let put = entered .before .before .before .before in
     let word = put .before .before in
     let copied = word .before .before .before .before in
-    let read = copied .before .before .before in
-    let whole = rw (copied .before .place .ensures) at (copied .to-frame .ensures .0) in
+    let placed = copied .before .before in
+    let read = placed .before in
+    let whole = rw (placed .of .ensures) at (copied .to-frame .ensures .0) in
     (c .loaded .ensures, renamed-put _ _ _ _ _ _ _ _ _ _ _ whole refl (read .slot-word .ensures) (word .before .word .ensures) (word .renamed .ensures) (put .put-in-slot .ensures), entered .enter .ensures)
 
 pub load-page-spec : {M : Type 1} → statement M
@@ -55,7 +57,7 @@ load-page-spec =
     tie.close
     (tie.spec
     slot-word-requires
-    place-requires
+    of-requires
     to-frame-requires
     word-requires
     renamed-requires

@@ -9,10 +9,10 @@ use Rattle.moves.proofs.settle_pages.Statement.{statement}
 use Rattle.moves.proofs.settle_pages.Tie as tie
 
 abbrev Inv-loop : tie.InvT-loop
-Inv-loop residents frames store₀ next₀ count f₀ store next f = (f ≤ count) × (length store ≡ length store₀) × Settling next₀ next frames store₀ store f
+Inv-loop residents frames store₀ next₀ count pages f₀ store next f = (f ≤ count) × (length store ≡ length store₀) × Settling next₀ next frames store₀ store f
 
 abbrev μ-loop : tie.MeasureT-loop
-μ-loop residents frames store₀ next₀ count f₀ store next f = count - f
+μ-loop residents frames store₀ next₀ count pages f₀ store next f = count - f
 
 cast-count : tie.Need-cast-count Inv-loop μ-loop
 cast-count c = search needs
@@ -26,8 +26,8 @@ mul-record c = search needs
 element-copy-out-record : tie.Need-element-copy-out-record Inv-loop μ-loop
 element-copy-out-record c = search needs
 
-cast-t18 : tie.Need-cast-t18 Inv-loop μ-loop
-cast-t18 c = search needs
+cast-t19 : tie.Need-cast-t19 Inv-loop μ-loop
+cast-t19 c = search needs
 
 write-out-requires : tie.Need-write-out-requires Inv-loop μ-loop
 write-out-requires c κs =
@@ -39,8 +39,8 @@ write-out-requires c κs =
 cleaned-requires : tie.Need-cleaned-requires Inv-loop μ-loop
 cleaned-requires c κs = search needs
 
-mul-t11 : tie.Need-mul-t11 Inv-loop μ-loop
-mul-t11 c = search needs
+mul-t12 : tie.Need-mul-t12 Inv-loop μ-loop
+mul-t12 c = search needs
 
 element-set-from-next : tie.Need-element-set-from-next Inv-loop μ-loop
 element-set-from-next c = search needs
@@ -74,10 +74,10 @@ settle-pages-spec =
     loop-holds
     mul-record
     element-copy-out-record
-    cast-t18
+    cast-t19
     write-out-requires
     cleaned-requires
-    mul-t11
+    mul-t12
     element-set-from-next
     add-f
     loop-less

@@ -25,7 +25,7 @@ in-store-requires c κs = search needs
 
 returns-2 : tie.Need-returns-2
 unfolding namedBy
-returns-2 c = c .in-store .ensures ∙ ap (inStore _ _ _) (c .before .word .ensures) ∙ sym (or-skip _ (sym (c .before .before .before .is-noted .ensures) ∙ c .before .before .if1 .left))
+returns-2 c = c .in-store .ensures ∙ ap (inStore _ _ _ _ _) (c .before .word .ensures) ∙ sym (or-skip _ (sym (c .before .before .before .is-noted .ensures) ∙ c .before .before .if1 .left))
 
 pub is-named-spec : {M : Type 1} → statement M
 is-named-spec =

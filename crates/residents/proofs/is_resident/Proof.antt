@@ -11,18 +11,21 @@ use lib.Dec.{eqb}
 use Rattle.page.specs.Figures.{mostFrames}
 use Rattle.seen.specs.Fold.{fold, fold-none, fold-more, someOf, some-fold, flag-set, flag-unset}
 use Rattle.seen.specs.Among.{among}
-use Rattle.residents.specs.Residents.{pageBy, inTable}
+use Rattle.residents.specs.Residents.{keyBy, inTable}
 use Rattle.residents.proofs.is_resident.Statement.{statement}
 use Rattle.residents.proofs.is_resident.Tie as tie
 
 abbrev test : List ℕ → ℕ → ℕ → Bool
-test residents q g = eqb (pageBy residents g) q
+test residents q g = eqb (keyBy residents g) q
 
 abbrev Inv-loop : tie.InvT-loop
-Inv-loop residents page hit₀ g₀ hit g = (g ≤ mostFrames) × (hit ≡ fold (someOf (test residents (page .0))) false g)
+Inv-loop residents sought hit₀ g₀ hit g = (g ≤ mostFrames) × (hit ≡ fold (someOf (test residents sought)) false g)
 
 abbrev μ-loop : tie.MeasureT-loop
-μ-loop residents page hit₀ g₀ hit g = mostFrames - g
+μ-loop residents sought hit₀ g₀ hit g = mostFrames - g
+
+key-requires : tie.Need-key-requires Inv-loop μ-loop
+key-requires c = search needs
 
 loop-holds : tie.Need-loop-holds Inv-loop μ-loop
 loop-holds c = (omega arith, fold-none _ _)
@@ -41,7 +44,7 @@ loop-less c = search needs
 
 loop-again : tie.Need-loop-again Inv-loop μ-loop
 loop-again c =
-    let l = c .before .before .before .before .loop in (
+    let l = c .before .before .before .loop in (
       omega arith,
       fold-more _ _ _ (l .inv .1) (⊎-elim
           (λ a. flag-set (l .hit) (eq-eqb _ _ (a .0 .taken)) (a .1))
@@ -53,7 +56,7 @@ returns : tie.Need-returns Inv-loop μ-loop
 unfolding inTable among
 returns c =
     let e : c .before .loop .g ≡ 64 = omega arith in
-    rw e at (c .before .loop .inv .1) ∙ some-fold _ mostFrames
+    rw (e, c .before .before .key .ensures) at (c .before .loop .inv .1) ∙ some-fold _ mostFrames
 
 pub is-resident-spec : {M : Type 1} → statement M
 is-resident-spec =
@@ -61,6 +64,7 @@ is-resident-spec =
     (tie.spec
     Inv-loop
     μ-loop
+    key-requires
     loop-holds
     mul-if1
     element-copy-out-if1

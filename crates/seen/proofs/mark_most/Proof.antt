@@ -17,7 +17,7 @@ add-result c = search needs
 returns : tie.Need-returns
 returns c =
     let at-first = c .before in
-    record { most = λ h. absurd (omega arith); past = λ h. marks-false _ _ _ _ 4 16 (omega arith) _ (at-first .mark-plain .ensures .past (c .if1 .taken)) }
+    record { most = λ h. absurd (omega arith); past = λ h. marks-false _ _ _ _ _ 4 16 (omega arith) _ (at-first .mark-plain .ensures .past (c .if1 .taken)) }
 
 -- one of them isn't below the limit as it stands
 returns-2 : tie.Need-returns-2
@@ -36,7 +36,7 @@ returns-3 c =
     let at-first = past-first .before .before in
     let e : at-first .mark-plain .result ≡ 4 = le-antisymm (past-first .before .if1 .left) (past-first .if2 .left) in
     record {
-      most = λ h. marks-over _ _ 0 4 12 _ _ _ (at-first .before .before .before .pre .0) (at-others .names-few .ensures (c .if3 .taken)) (rw e at (at-first .mark-plain .ensures .most (past-first .before .if1 .left)));
+      most = λ h. marks-over _ _ _ 0 4 12 _ _ _ (at-first .before .before .before .pre .0) (at-others .names-few .ensures (c .if3 .taken)) (rw e at (at-first .mark-plain .ensures .most (past-first .before .if1 .left)));
       past = λ h. absurd (omega arith);
     }
 
@@ -51,8 +51,8 @@ returns-4 c =
     let e : at-first .mark-plain .result ≡ 4 = le-antisymm (past-first .before .if1 .left) (past-first .if2 .left) in
     let first = rw e at (at-first .mark-plain .ensures .most (past-first .before .if1 .left)) in
     record {
-      most = λ h. marks-then _ _ 0 4 _ _ _ _ _ first (c .mark-plain2 .ensures .most h);
-      past = λ h. marks-then _ _ 0 4 _ _ _ _ _ first (c .mark-plain2 .ensures .past h);
+      most = λ h. marks-then _ _ _ 0 4 _ _ _ _ _ first (c .mark-plain2 .ensures .most h);
+      past = λ h. marks-then _ _ _ 0 4 _ _ _ _ _ first (c .mark-plain2 .ensures .past h);
     }
 
 pub mark-most-spec : {M : Type 1} → statement M

@@ -13,13 +13,13 @@ use Rattle.seen.proofs.mark_names.Statement.{statement}
 use Rattle.seen.proofs.mark_names.Tie as tie
 
 abbrev Inv-loop : tie.InvT-loop
-Inv-loop buffer at first end limit seen₀ k₀ seen k = (k ≤ end) × MarksOn first k (wordsFrom buffer at) limit seen₀ seen true
+Inv-loop buffer at first end limit of-store seen₀ k₀ seen k = (k ≤ end) × MarksOn (of-store .0) first k (wordsFrom buffer at) limit seen₀ seen true
 
 abbrev μ-loop : tie.MeasureT-loop
-μ-loop buffer at first end limit seen₀ k₀ seen k = end - k
+μ-loop buffer at first end limit of-store seen₀ k₀ seen k = end - k
 
 loop-holds : tie.Need-loop-holds Inv-loop μ-loop
-loop-holds c = (omega arith, marks-none _ _ _ _)
+loop-holds c = (omega arith, marks-none _ _ _ _ _)
 
 mul-name-at : tie.Need-mul-name-at Inv-loop μ-loop
 mul-name-at c = search needs
@@ -39,8 +39,8 @@ returns c =
     let past-zero = c .before in
     let at-name = past-zero .before in
     let l = at-name .before .before .loop in
-    marks-false _ _ _ _ _ _ (omega arith) _
-    (marks-large _ _ _ _ (l .k) _ (sym (at-name .name-at .ensures)) (past-zero .if1 .taken) (c .if2 .taken) _)
+    marks-false _ _ _ _ _ _ _ (omega arith) _
+    (marks-large _ _ _ _ _ (l .k) _ (sym (at-name .name-at .ensures)) (past-zero .if1 .taken) (c .if2 .taken) _ (l .inv .1))
 
 mark-requires : tie.Need-mark-requires Inv-loop μ-loop
 mark-requires c κs = search needs
@@ -52,8 +52,8 @@ returns-2 c =
     let past-zero = at-mark .before .before .before in
     let at-name = past-zero .before in
     let l = at-name .before .before .loop in
-    marks-false _ _ _ _ _ _ (omega arith) _
-    (marks-more _ _ _ _ (omega arith) (l .k) (l .seen) _ (sym (at-name .name-at .ensures)) (λ n. omega arith) _ _ (λ t. mark-notes _ _ (omega arith) (at-mark .mark .ensures) (past-zero .if1 .taken)) _ (sym (not-true _ (c .if3 .taken))) (l .inv .1))
+    marks-false _ _ _ _ _ _ _ (omega arith) _
+    (marks-more _ _ _ _ _ (omega arith) (l .k) (l .seen) _ (sym (at-name .name-at .ensures)) (λ n. omega arith) _ _ (λ t. mark-notes _ _ _ (omega arith) (at-mark .mark .ensures) (past-zero .if1 .taken)) _ (sym (not-true _ (c .if3 .taken))) (l .inv .1))
 
 add-k : tie.Need-add-k Inv-loop μ-loop
 add-k c = search needs
@@ -68,8 +68,8 @@ loop-again c =
     let e = at-name .name-at .ensures in (
       omega arith,
       ⊎-elim
-          (λ a. rw (a .5) (marks-more _ _ _ _ (omega arith) (l .k) (l .seen) _ (sym e) (λ n. omega (arith, a .1 .left)) _ _ (λ t. mark-notes _ _ (omega (arith, a .1 .left)) (a .3 .ensures) (a .0 .taken)) _ (sym (not-false _ (a .4 .left))) (l .inv .1)))
-          (λ a. rw (a .1) (marks-more _ _ _ _ (omega arith) (l .k) (l .seen) _ (sym e ∙ a .0 .left) (λ n. absurd (n refl)) _ _ (notes-zero _) _ refl (l .inv .1)))
+          (λ a. rw (a .5) (marks-more _ _ _ _ _ (omega arith) (l .k) (l .seen) _ (sym e) (λ n. omega (arith, a .1 .left)) _ _ (λ t. mark-notes _ _ _ (omega (arith, a .1 .left)) (a .3 .ensures) (a .0 .taken)) _ (sym (not-false _ (a .4 .left))) (l .inv .1)))
+          (λ a. rw (a .1) (marks-more _ _ _ _ _ (omega arith) (l .k) (l .seen) _ (sym e ∙ a .0 .left) (λ n. absurd (n refl)) _ _ (notes-zero _ _) _ refl (l .inv .1)))
           (c .if1 .came),
     )
 

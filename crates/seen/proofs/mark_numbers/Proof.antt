@@ -11,13 +11,13 @@ use Rattle.seen.proofs.mark_numbers.Statement.{statement}
 use Rattle.seen.proofs.mark_numbers.Tie as tie
 
 abbrev Inv-loop : tie.InvT-loop
-Inv-loop numbers seen₀ fresh₀ k₀ seen fresh k = (k ≤ slotCount) × Marked k (rowOf numbers) mostPages seen₀ seen fresh
+Inv-loop numbers seen₀ fresh₀ k₀ seen fresh k = (k ≤ slotCount) × Marked 0 k (rowOf numbers) mostPages seen₀ seen fresh
 
 abbrev μ-loop : tie.MeasureT-loop
 μ-loop numbers seen₀ fresh₀ k₀ seen fresh k = slotCount - k
 
 loop-holds : tie.Need-loop-holds Inv-loop μ-loop
-loop-holds c = (omega arith, marked-none _ _ _ (c .pre .1))
+loop-holds c = (omega arith, marked-none _ _ _ _ (c .pre .1))
 
 mul-x : tie.Need-mul-x Inv-loop μ-loop
 mul-x c = search needs
@@ -28,11 +28,11 @@ element-copy-out-x c = search needs
 cast-x : tie.Need-cast-x Inv-loop μ-loop
 cast-x c = record { fits = omega (arith, c .before .before .before .pre .0 (c .before .before .loop .k) (omega arith)) }
 
-note-requires : tie.Need-note-requires Inv-loop μ-loop
-note-requires c κs =
+note-alone-requires : tie.Need-note-alone-requires Inv-loop μ-loop
+note-alone-requires c κs =
     let at-numbers = c .before .before .before in
     let at-entry = at-numbers .before in
-    at-entry .pre .0 (at-numbers .loop .k) (omega arith)
+    (at-entry .pre .0 (at-numbers .loop .k) (omega arith), at-numbers .loop .inv .1 .within .alone refl (at-entry .pre .2))
 
 add-k : tie.Need-add-k Inv-loop μ-loop
 add-k c = search needs
@@ -46,7 +46,7 @@ loop-again c =
     let at-entry = at-numbers .before in
     let l = at-numbers .loop in (
       omega arith,
-      marked-more _ _ _ (l .k) (omega arith) (l .seen) _ refl (λ n. at-entry .pre .0 (l .k) (omega arith)) _ _ (c .note .ensures) _ _ (flag-and (l .fresh) _) (l .inv .1),
+      marked-more _ _ _ _ (l .k) (omega arith) (l .seen) _ refl (λ n. at-entry .pre .0 (l .k) (omega arith)) _ _ (c .note-alone .ensures) _ _ (flag-and (l .fresh) _) (l .inv .1),
     )
 
 returns : tie.Need-returns Inv-loop μ-loop
@@ -62,7 +62,7 @@ mark-numbers-spec =
     mul-x
     element-copy-out-x
     cast-x
-    note-requires
+    note-alone-requires
     add-k
     loop-less
     loop-again

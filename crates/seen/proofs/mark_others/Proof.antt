@@ -19,7 +19,7 @@ mark-names-requires-2 c κs = search needs
 returns-2 : tie.Need-returns-2
 returns-2 c =
     let at-first = c .before in
-    marks-false _ _ _ _ 4 16 (omega arith) _ (rw (not-true (at-first .mark-names2 .result) (c .if2 .taken)) at (at-first .mark-names2 .ensures))
+    marks-false _ _ _ _ _ 4 16 (omega arith) _ (rw (not-true (at-first .mark-names2 .result) (c .if2 .taken)) at (at-first .mark-names2 .ensures))
 
 names-few-requires : tie.Need-names-few-requires
 names-few-requires c κs = search needs
@@ -30,7 +30,7 @@ returns-3 c =
     let at-others = c .before in
     let past-first = at-others .before in
     let at-first = past-first .before in
-    marks-over _ _ _ 4 12 _ _ _ (at-first .before .before .before .before .pre .0) (at-others .names-few .ensures (c .if3 .taken)) (rw (not-false (at-first .mark-names2 .result) (past-first .if2 .left)) at (at-first .mark-names2 .ensures))
+    marks-over _ _ _ _ 4 12 _ _ _ (at-first .before .before .before .before .pre .0) (at-others .names-few .ensures (c .if3 .taken)) (rw (not-false (at-first .mark-names2 .result) (past-first .if2 .left)) at (at-first .mark-names2 .ensures))
 
 mark-names-requires-3 : tie.Need-mark-names-requires-3
 mark-names-requires-3 c κs = search needs
@@ -40,7 +40,7 @@ returns-4 : tie.Need-returns-4
 returns-4 c =
     let past-first = c .before .before .before .before in
     let at-first = past-first .before in
-    marks-then _ _ _ 4 _ _ _ _ _ (rw (not-false (at-first .mark-names2 .result) (past-first .if2 .left)) at (at-first .mark-names2 .ensures)) (c .mark-names3 .ensures)
+    marks-then _ _ _ _ 4 _ _ _ _ _ (rw (not-false (at-first .mark-names2 .result) (past-first .if2 .left)) at (at-first .mark-names2 .ensures)) (c .mark-names3 .ensures)
 
 pub mark-others-spec : {M : Type 1} → statement M
 mark-others-spec =

@@ -16,16 +16,16 @@ use Rattle.seen.proofs.mark_plain.Statement.{statement}
 use Rattle.seen.proofs.mark_plain.Tie as tie
 
 abbrev Inv-loop : tie.InvT-loop
-Inv-loop buffer at first end limit seen₀ k₀ seen k = (k ≤ end) × MarksOn first k (wordsFrom buffer at) limit seen₀ seen true
+Inv-loop buffer at first end limit of-store seen₀ k₀ seen k = (k ≤ end) × MarksOn (of-store .0) first k (wordsFrom buffer at) limit seen₀ seen true
 
 abbrev μ-loop : tie.MeasureT-loop
-μ-loop buffer at first end limit seen₀ k₀ seen k = end - k
+μ-loop buffer at first end limit of-store seen₀ k₀ seen k = end - k
 
 own-name : (b : List ℕ) (a w : ℕ) → w ≡ wordAt b a → w < mostPages → nameAt b a ≡ w
 own-name b a w e l = ap nameOf (sym e) ∙ name-number w l
 
 loop-holds : tie.Need-loop-holds Inv-loop μ-loop
-loop-holds c = (omega arith, marks-none _ _ _ _)
+loop-holds c = (omega arith, marks-none _ _ _ _ _)
 
 mul-word-at : tie.Need-mul-word-at Inv-loop μ-loop
 mul-word-at c = search needs
@@ -60,8 +60,8 @@ returns-2 c =
     let l = at-word .before .before .loop in
     record {
       most = λ h. absurd (omega arith);
-      past = λ h. marks-false _ _ _ _ _ _ (omega arith) _
-          (marks-more _ _ _ _ (omega arith) (l .k) (l .seen) _ (own-name _ _ _ (at-word .word-at .ensures) (omega arith)) (λ n. omega arith) _ _ (λ t. mark-notes _ _ (omega arith) (at-mark .mark .ensures) (past-zero .if1 .taken)) _ (sym (not-true _ (c .if3 .taken))) (l .inv .1));
+      past = λ h. marks-false _ _ _ _ _ _ _ (omega arith) _
+          (marks-more _ _ _ _ _ (omega arith) (l .k) (l .seen) _ (own-name _ _ _ (at-word .word-at .ensures) (omega arith)) (λ n. omega arith) _ _ (λ t. mark-notes _ _ _ (omega arith) (at-mark .mark .ensures) (past-zero .if1 .taken)) _ (sym (not-true _ (c .if3 .taken))) (l .inv .1));
     }
 
 add-k : tie.Need-add-k Inv-loop μ-loop
@@ -77,8 +77,8 @@ loop-again c =
     let e = at-word .word-at .ensures in (
       omega arith,
       ⊎-elim
-          (λ a. rw (a .5) (marks-more _ _ _ _ (omega arith) (l .k) (l .seen) _ (own-name _ _ _ e (omega (arith, a .1 .left))) (λ n. omega (arith, a .1 .left)) _ _ (λ t. mark-notes _ _ (omega (arith, a .1 .left)) (a .3 .ensures) (a .0 .taken)) _ (sym (not-false _ (a .4 .left))) (l .inv .1)))
-          (λ a. rw (a .1) (marks-more _ _ _ _ (omega arith) (l .k) (l .seen) _ (own-name _ _ _ (sym (a .0 .left) ∙ e) (omega arith)) (λ n. absurd (n refl)) _ _ (notes-zero _) _ refl (l .inv .1)))
+          (λ a. rw (a .5) (marks-more _ _ _ _ _ (omega arith) (l .k) (l .seen) _ (own-name _ _ _ e (omega (arith, a .1 .left))) (λ n. omega (arith, a .1 .left)) _ _ (λ t. mark-notes _ _ _ (omega (arith, a .1 .left)) (a .3 .ensures) (a .0 .taken)) _ (sym (not-false _ (a .4 .left))) (l .inv .1)))
+          (λ a. rw (a .1) (marks-more _ _ _ _ _ (omega arith) (l .k) (l .seen) _ (own-name _ _ _ (sym (a .0 .left) ∙ e) (omega arith)) (λ n. absurd (n refl)) _ _ (notes-zero _ _) _ refl (l .inv .1)))
           (c .if1 .came),
     )
 

@@ -11,7 +11,7 @@ element-write-seen : tie.Need-element-write-seen
 element-write-seen c = search needs
 
 returns : tie.Need-returns
-returns c = unmarked-notes _ _ (c .before .before .pre) (c .mark .ensures)
+returns c = unmarked-notes _ _ _ (c .before .before .pre .1) (c .mark .ensures)
 
 pub note-spec : {M : Type 1} → statement M
 note-spec =

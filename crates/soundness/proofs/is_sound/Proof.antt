@@ -1,66 +1,56 @@
--- `soundness::is_sound` meets its contract: the pages before p are passed. Assumes nothing.
+-- `soundness::is_sound` meets its contract: the stores before t are passed. Assumes nothing.
 use borrow.Author.Needs.{needs}
 use borrow.Author.Tests.{not-true, not-false}
 use Prim.Native.Nat.{_≤_, _-_}
 use mathlib.Core.Path.{_≡_, sym, _∙_}
-use mathlib.Core.Logic.{⊎-elim}
 use native.Mathlib.Omega.{arith}
-use Rattle.soundness.specs.Pages.{Passed, passed-none, passed-all, pass-page, pass-over, fail-page}
+use native.Mathlib.Nat.{le-refl}
+use Rattle.page.specs.StorePlaces.{store-room}
+use Rattle.soundness.specs.Pages.{PassedStores, passed-no-store, pass-store, fail-store, passed-stores}
 use Rattle.soundness.proofs.is_sound.Statement.{statement}
 use Rattle.soundness.proofs.is_sound.Tie as tie
 
 abbrev Inv-loop : tie.InvT-loop
-Inv-loop store n seen₀ p₀ seen p = (p ≤ n) × Passed store n p seen
+Inv-loop store n stores seen₀ t₀ seen t = (t ≤ stores) × PassedStores store n t seen
 
 abbrev μ-loop : tie.MeasureT-loop
-μ-loop store n seen₀ p₀ seen p = n - p
+μ-loop store n stores seen₀ t₀ seen t = stores - t
 
 loop-holds : tie.Need-loop-holds Inv-loop μ-loop
-loop-holds c = (omega arith, passed-none _ _)
+loop-holds c = (omega arith, passed-no-store _ _)
 
-start-requires : tie.Need-start-requires Inv-loop μ-loop
-start-requires c κs = search needs
+is-store-sound-requires : tie.Need-is-store-sound-requires Inv-loop μ-loop
+is-store-sound-requires c κs =
+    let at-stores = c .before .before in
+    let n = at-stores .before .before .args .n in
+    let room = store-room n (at-stores .loop .t) (at-stores .before .before .args .stores) (omega arith) in
+    (omega arith, omega arith, omega (arith, room), at-stores .loop .inv .1 .clear _ (le-refl _))
 
-has-word-requires : tie.Need-has-word-requires Inv-loop μ-loop
-has-word-requires c κs = search needs
-
-mark-page-requires : tie.Need-mark-page-requires Inv-loop μ-loop
-mark-page-requires c κs =
-    let at-pages = c .before .before .before .before .before in
-    (omega arith, omega arith, at-pages .loop .inv .1 .tells .table)
-
--- a word is out of range, or a number stands twice
+-- one isn't sound
 returns : tie.Need-returns Inv-loop μ-loop
 returns c =
-    let at-mark-page = c .before in
-    let at-start = at-mark-page .before .before .before .before in
-    let at-pages = at-start .before .before in
-    fail-page _ _ (omega arith) _ _ (at-pages .loop .inv .1) _ (omega arith)
-    (rw (at-start .start .ensures, not-true (at-mark-page .mark-page .result) (c .if2 .taken)) at (at-mark-page .mark-page .ensures))
+    let at-store = c .before in
+    fail-store _ _ (at-store .before .before .before .loop .t) _ (omega arith) (sym (not-true _ (c .if1 .taken)) ∙ at-store .is-store-sound .ensures .0)
 
-add-p : tie.Need-add-p Inv-loop μ-loop
-add-p c = search needs
+add-t : tie.Need-add-t Inv-loop μ-loop
+add-t c = search needs
 
 loop-less : tie.Need-loop-less Inv-loop μ-loop
 loop-less c = search needs
 
 loop-again : tie.Need-loop-again Inv-loop μ-loop
 loop-again c =
-    let at-has-word = c .before in
-    let at-start = at-has-word .before in
-    let at-pages = at-start .before .before in (
-      omega arith,
-      ⊎-elim
-          (λ a. rw (a .4) (pass-page _ _ (omega arith) _ _ (at-pages .loop .inv .1) _ (rw (at-start .start .ensures, not-false (a .2 .result) (a .3 .left)) at (a .2 .ensures))))
-          (λ a. rw (a .1) (pass-over _ _ (omega arith) _ _ (at-pages .loop .inv .1) (sym (rw (at-start .start .ensures) at (at-has-word .has-word .ensures)) ∙ a .0 .left)))
-          (c .if1 .came),
-    )
+    let at-store = c .before in
+    let l = at-store .before .before .before .loop in
+    let e = at-store .is-store-sound .ensures in
+    (omega arith, pass-store _ _ (l .t) (l .seen) _ (l .inv .1) (sym (not-false _ (c .if1 .left)) ∙ e .0) (e .1))
 
--- every page is passed
+-- every store is
 returns-2 : tie.Need-returns-2 Inv-loop μ-loop
 returns-2 c =
-    let e : c .before .loop .p ≡ c .before .before .before .args .n = omega arith in
-    passed-all _ _ _ (rw e at (c .before .loop .inv .1))
+    let at-stores = c .before in
+    let e : at-stores .loop .t ≡ at-stores .before .before .args .stores = omega arith in
+    passed-stores _ _ _ _ (rw e at (at-stores .loop .inv .1))
 
 pub is-sound-spec : {M : Type 1} → statement M
 is-sound-spec =
@@ -69,11 +59,9 @@ is-sound-spec =
     Inv-loop
     μ-loop
     loop-holds
-    start-requires
-    has-word-requires
-    mark-page-requires
+    is-store-sound-requires
     returns
-    add-p
+    add-t
     loop-less
     loop-again
     returns-2)

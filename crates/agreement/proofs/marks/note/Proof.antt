@@ -7,7 +7,7 @@ use mathlib.Core.Bool.{true}
 use native.Mathlib.Omega.{arith}
 use Rattle.page.specs.Figures.{slotCount}
 use Rattle.rules.specs.TestLaws.{clash}
-use Rattle.residents.specs.Residents.{holdsPage}
+use Rattle.residents.specs.Residents.{holdsPage, storeBy}
 use Rattle.agreement.specs.Fit.{isMarkedIn, markedInFrames, MarksNoted}
 use Rattle.agreement.specs.MarkedNumbers.{noting-none, noting-then, noting-then-stale}
 use Rattle.agreement.proofs.marks.note.Statement.{statement}
@@ -15,7 +15,7 @@ use Rattle.agreement.proofs.marks.note.Tie as tie
 
 abbrev Inv-loop : tie.InvT-loop
 Inv-loop frames residents count pages even seen₀ marked₀ f₀ seen marked f =
-    (f ≤ count) × MarksNoted (isMarkedIn (holdsPage residents) frames pages) (markedInFrames (holdsPage residents) frames pages) (slotCount * f) seen₀ seen marked true
+    (f ≤ count) × MarksNoted (isMarkedIn (holdsPage residents) frames pages) (markedInFrames (holdsPage residents) (storeBy residents) frames pages) (slotCount * f) seen₀ seen marked true
 
 abbrev μ-loop : tie.MeasureT-loop
 μ-loop frames residents count pages even seen₀ marked₀ f₀ seen marked f = count - f
@@ -31,7 +31,10 @@ cast-t12 : tie.Need-cast-t12 Inv-loop μ-loop
 cast-t12 c = search needs
 
 note-frame-requires : tie.Need-note-frame-requires Inv-loop μ-loop
-note-frame-requires c κs = search needs
+note-frame-requires c κs =
+    let at-frames = c .before .before in
+    let at-entry = at-frames .before .before .before in
+    (at-entry .pre .0, omega (arith, at-entry .pre .1), at-entry .pre .2 (at-frames .loop .f) (omega arith), omega (arith, at-entry .pre .3))
 
 -- one of the frame's was noted before
 returns-2 : tie.Need-returns-2 Inv-loop μ-loop

@@ -14,15 +14,19 @@ start-requires c κs = search needs
 has-marked-requires : tie.Need-has-marked-requires
 has-marked-requires c κs = search needs
 
+store-in-requires : tie.Need-store-in-requires
+store-in-requires c κs = search needs
+
 note-words-requires : tie.Need-note-words-requires
 note-words-requires c κs = search needs
 
 -- some of its words have marks
 returns : tie.Need-returns
 returns c =
-    let at-start = c .before .before .before .before in
+    let at-store = c .before .before in
+    let at-start = at-store .before .before .before in
     let held = at-start .before in
-    frame-marked _ _ _ _ _ (sym (held .before .holds-page .ensures) ∙ held .if1 .taken) _ (at-start .start .ensures) _ _ _ (c .note-words .ensures)
+    frame-marked _ _ _ _ _ (sym (held .before .holds-page .ensures) ∙ held .if1 .taken) _ (at-start .start .ensures) _ (at-store .store-in .ensures) _ _ _ (c .note-words .ensures)
 
 -- none has
 returns-2 : tie.Need-returns-2
@@ -40,4 +44,4 @@ returns-3 c = frame-empty _ _ _ _ _ (sym (c .before .holds-page .ensures) ∙ c 
 pub note-frame-spec : {M : Type 1} → statement M
 note-frame-spec =
     tie.close
-    (tie.spec holds-page-requires start-requires has-marked-requires note-words-requires returns returns-2 returns-3)
+    (tie.spec holds-page-requires start-requires has-marked-requires store-in-requires note-words-requires returns returns-2 returns-3)

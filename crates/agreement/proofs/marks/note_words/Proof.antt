@@ -8,16 +8,17 @@ use mathlib.Core.Logic.{⊎-elim}
 use native.Mathlib.Omega.{arith}
 use Rattle.page.specs.Figures.{slotCount}
 use Rattle.page.specs.Word.{isMarkedNumber, nameOf}
+use Rattle.agreement.specs.Twice.{keyed, keyed-zero}
 use Rattle.agreement.specs.Fit.{marksFrom, markedFrom, MarksNoted}
 use Rattle.agreement.specs.MarkedNumbers.{gives-one, gives-large, gives-none, noting-none, noting-over, noting-new, noting-stale}
 use Rattle.agreement.proofs.marks.note_words.Statement.{statement}
 use Rattle.agreement.proofs.marks.note_words.Tie as tie
 
 abbrev Inv-loop : tie.InvT-loop
-Inv-loop frames start pages seen₀ count₀ k₀ seen count k = (k ≤ slotCount) × MarksNoted (marksFrom frames pages start) (markedFrom frames pages start) k seen₀ seen count true
+Inv-loop frames start pages of-store seen₀ count₀ k₀ seen count k = (k ≤ slotCount) × MarksNoted (marksFrom frames pages start) (markedFrom frames pages start (of-store .0)) k seen₀ seen count true
 
 abbrev μ-loop : tie.MeasureT-loop
-μ-loop frames start pages seen₀ count₀ k₀ seen count k = slotCount - k
+μ-loop frames start pages of-store seen₀ count₀ k₀ seen count k = slotCount - k
 
 -- the word that was read, and what it names
 marked-word : {w u : ℕ} {r b : Bool} → w ≡ u → r ≡ isMarkedNumber w → r ≡ b → isMarkedNumber u ≡ b
@@ -67,7 +68,7 @@ returns c =
     let e = at-word .word-at .ensures in
     let x = at-name .name-of .ensures in
     let g = gives-one _ _ (marked-word e (at-test .is-marked-number .ensures) (at-name .before .if1 .taken)) (named-below e x (at-note .before .before .if2 .taken)) in
-    noting-stale _ _ (l .k) _ (l .seen) (l .count) (l .inv .1) _ (g .1 ∙ named e x) (omega arith) _ _ (at-note .note .ensures) _ (omega arith) (not-true _ (c .if3 .taken))
+    noting-stale _ _ (l .k) _ (l .seen) (l .count) (l .inv .1) _ _ (ap (keyed _) (g .1 ∙ named e x)) (at-word .before .before .before .before .pre .1) (omega arith) _ _ (at-note .note .ensures) _ (omega arith) (not-true _ (c .if3 .taken))
 
 add-count : tie.Need-add-count Inv-loop μ-loop
 add-count c = record { fits = omega (arith, c .before .before .before .before .before .before .before .before .before .loop .inv .1 .few) }
@@ -90,14 +91,14 @@ loop-again c =
       ⊎-elim
           (λ a.
           let g = gives-one _ _ (marked-word e t (a .0 .taken)) (named-below e (a .1 .ensures) (a .2 .taken)) in
-          rw (a .6, a .7) (noting-new _ _ (l .k) _ (l .seen) (l .count) (l .inv .1) _ (g .1 ∙ named e (a .1 .ensures)) (omega (arith, a .2 .taken)) _ _ (a .4 .ensures) (g .0) (not-false _ (a .5 .left))))
+          rw (a .6, a .7) (noting-new _ _ (l .k) _ (l .seen) (l .count) (l .inv .1) _ _ (ap (keyed _) (g .1 ∙ named e (a .1 .ensures))) (at-words .before .before .pre .1) (omega (arith, a .2 .taken)) _ _ (a .4 .ensures) (g .0) (not-false _ (a .5 .left))))
           (⊎-elim
           (λ a.
           let g = gives-large _ _ (named-above e (a .1 .ensures) (a .2 .left)) in
-          rw (a .3, a .4) (noting-over _ _ (l .k) _ (l .seen) (l .count) (l .inv .1) (g .0) (g .1)))
+          rw (a .3, a .4) (noting-over _ _ (l .k) _ (l .seen) (l .count) (l .inv .1) (g .0) (keyed-zero _ _ (g .1))))
           (λ a.
           let g = gives-none _ _ (at-words .before .before .pre .0) (marked-word e t (a .0 .left)) in
-          rw (a .1, a .2) (noting-over _ _ (l .k) _ (l .seen) (l .count) (l .inv .1) (g .0) (g .1))))
+          rw (a .1, a .2) (noting-over _ _ (l .k) _ (l .seen) (l .count) (l .inv .1) (g .0) (keyed-zero _ _ (g .1)))))
           (c .if1 .came),
     )
 

@@ -26,18 +26,22 @@ returns-4 c = search needs
 returns-5 : tie.Need-returns-5
 returns-5 c = search needs
 
--- page
+-- store
 returns-6 : tie.Need-returns-6
 returns-6 c = search needs
 
--- its use decides
+-- page
 returns-7 : tie.Need-returns-7
-returns-7 c =
+returns-7 c = search needs
+
+-- its use decides
+returns-8 : tie.Need-returns-8
+returns-8 c =
     let past-page = c .before in
-    let past-slot = past-page .before .before .before .before in
+    let past-slot = past-page .before .before .before .before .before .before in
     let past-dirty = past-slot .before .before in
-    let at-entry = past-dirty .before .before .before .before .before .before in
-    decide-flag _ (RootFits (at-entry .args .rec)) (λ u. record { used = u; pins = omega arith; usage = omega arith; dirty = omega arith; slot = omega arith; parent = omega arith; page = omega arith }) (λ r. r .used)
+    let at-entry = past-dirty .before .before .before .before .before .before .before in
+    decide-flag _ (RootFits (at-entry .args .frame .0) (at-entry .args .rec)) (λ u. record { used = u; pins = omega arith; usage = omega arith; dirty = omega arith; slot = omega arith; parent = omega arith; store = omega arith; page = omega arith }) (λ r. r .used)
 
 pub root-fits-spec : {M : Type 1} → statement M
-root-fits-spec = tie.close (tie.spec returns returns-2 returns-3 returns-4 returns-5 returns-6 returns-7)
+root-fits-spec = tie.close (tie.spec returns returns-2 returns-3 returns-4 returns-5 returns-6 returns-7 returns-8)

@@ -1,13 +1,12 @@
 -- `changes::refusals::link_refusal` meets its contract: the rules of a change, and then rules 6, 9, by the tables, and 8. Assumes nothing.
-use Prim.Native.Nat.{ℕ, _/_, _≤_, _<_}
+use Prim.Native.Nat.{ℕ, _≤_, _<_}
 use mathlib.Core.Path.{_≡_, sym, ap, _∙_}
 use mathlib.Core.Bool.{true, false, not}
 use mathlib.Core.List.{List, [], _∷_}
 use native.Mathlib.Omega.{arith}
 use borrow.Author.Tests.{lt-ltb, le-ltb, eq-eqb, ne-eqb}
 use lib.Dec.{ltb}
-use lib.ListN.{length}
-use Rattle.page.specs.Figures.{pageSize}
+use Rattle.page.specs.StorePlaces.{store-room}
 use Rattle.rules.specs.Tests.{_and_, Rule, firstBroken}
 use Rattle.rules.specs.TestLaws.{and-yes, and-no, kept-then, broken-here, none-broken}
 use Rattle.machine.specs.Machine.{State, state}
@@ -30,14 +29,14 @@ abbrev past-change : tie.Else3 → tie.Else1
 past-change c = c .before .before .before .before
 
 abbrev past-number : tie.After-is-named → tie.Else3
-past-number c = c .before .before .before
+past-number c = c .before .before .before .before
 
 abbrev given : tie.Start → State
 given c = let a = c .args in state (a .pool) (a .frames .now) (a .store .now) (a .directory .now)
 
 -- what comes after rule 6, and after the rules of a change
 abbrev last : tie.Start → List Rule
-last c = let s = given c in rule9 s (c .args .page .0) ∷ rule8 (wordOf s (c .args .handle) (c .args .slot)) ∷ []
+last c = let s = given c in rule9 s (c .args .handle .store .0) (c .args .page .0) ∷ rule8 (wordOf s (c .args .handle) (c .args .slot)) ∷ []
 
 abbrev rest : tie.Start → List Rule
 rest c = rule6-link (given c) (c .args .page .0) ∷ last c
@@ -59,13 +58,9 @@ kept c = let a = start c .args in edit-kept (given (start c)) (a .handle) (a .sl
 passed : (c : tie.Else1) {m : ℕ} → m ≡ firstBroken (rest (start c)) → let a = start c .args in m ≡ firstBroken (linkRules (given (start c)) (a .handle) (a .slot) (a .page))
 passed c = let a = start c .args in edit-passes (given (start c)) (a .handle) (a .slot) (rest (start c)) (c .before .edit-refusal .ensures .0) (c .if1 .left)
 
--- N by the store's length
-stored : (c : tie.Else1) → let a = start c .args in length (a .store .now) / pageSize ≡ a .pool .pages
-stored c = omega (arith, kept c .kept .sized .store)
-
 -- past rule 6
 below : (c : tie.Else3) → let a = start (past-change c) .args in a .page .0 < a .pool .pages
-below c = omega (arith, stored (past-change c), c .if3 .left)
+below c = omega (arith, start (past-change c) .pre .2, c .if3 .left)
 
 numbered : (c : tie.Else3) → let a = start (past-change c) .args in (ltb 0 (a .page .0) and ltb (a .page .0) (a .pool .pages)) ≡ true
 numbered c = a-page _ _ (c .before .before .if2 .left) (below c)
@@ -75,20 +70,22 @@ passed-number c e = passed (past-change c) (e ∙ sym (kept-then 6 _ (numbered c
 
 -- what the tables tell is what rule 9 asks
 told : (c : tie.Else3) {residents : List ℕ} {seen : Seen} → let a = start (past-change c) .args in Handed (a .pool) (a .frames .now) residents seen
-    → namedBy residents seen (a .store .now) (length (a .store .now) / pageSize) (a .page .0) ≡ named (given (start (past-change c))) (a .page .0)
+    → namedBy residents seen (a .store .now) (a .pages) (a .handle .store .0) (a .page .0) ≡ named (given (start (past-change c))) (a .handle .store .0) (a .page .0)
 told c {residents} {seen} h =
     let a = start (past-change c) .args in
     let z = c .before .before .if2 .left in
-    ap (λ (n : ℕ). namedBy residents seen (a .store .now) n (a .page .0)) (stored (past-change c)) ∙ named-by-tables (given (start (past-change c))) (kept (past-change c) .kept) h (a .page .0) (omega arith) (below c)
+    let k = kept (past-change c) in
+    ap (λ (n : ℕ). namedBy residents seen (a .store .now) n (a .handle .store .0) (a .page .0)) (start (past-change c) .pre .2)
+    ∙ named-by-tables (given (start (past-change c))) (k .kept) h (a .handle .store .0) (k .store) (a .page .0) (omega arith) (below c)
 
 -- what rule 9's test answered is whether the page is named
-asked : (c : tie.After-is-named) → let at-start = start (past-change (past-number c)) in c .is-named .result ≡ named (given at-start) (at-start .args .page .0)
+asked : (c : tie.After-is-named) → let at-start = start (past-change (past-number c)) in c .is-named .result ≡ named (given at-start) (at-start .args .handle .store .0) (at-start .args .page .0)
 asked c = let handed = past-change (past-number c) in c .is-named .ensures ∙ told (past-number c) (handed .before .edit-refusal .ensures .1 (handed .if1 .left))
 
 edit-refusal-requires : tie.Need-edit-refusal-requires
 edit-refusal-requires c κs = search needs
 
--- rules 1 to 4, and 26
+-- rules 1, 2, 28, 3, 4 and 26
 returns : tie.Need-returns
 returns c =
     let at-start = c .before .before .before .before .before .before .before in
@@ -99,25 +96,21 @@ returns c =
 returns-2 : tie.Need-returns-2
 returns-2 c = passed (c .before .before) (sym (broken-here 6 _ (no-page _ _ (c .if2 .taken))))
 
-cast-if3 : tie.Need-cast-if3
-cast-if3 c = search needs
-
 -- rule 6: a page from N on
 returns-3 : tie.Need-returns-3
 returns-3 c =
     let past-zero = c .before .before in
     let past-handle = past-zero .before .before in
-    let a = start past-handle .args in
-    let l : a .pool .pages ≤ a .page .0 = omega (arith, stored past-handle, c .if3 .taken) in
-    passed past-handle (sym (broken-here 6 _ (past-pages _ _ (past-zero .if2 .left) l)))
+    passed past-handle (sym (broken-here 6 _ (past-pages _ _ (past-zero .if2 .left) (omega (arith, start past-handle .pre .2, c .if3 .taken)))))
 
 is-named-requires : tie.Need-is-named-requires
 is-named-requires c κs =
-    let past-numbered = c .before .before in
-    let z = kept (past-change past-numbered) .kept .sized in
-    let e = stored (past-change past-numbered) in
-    let l = below past-numbered in
-    (omega arith, omega arith, omega arith)
+    let past-numbered = c .before .before .before in
+    let a = start (past-change past-numbered) .args in
+    let k = kept (past-change past-numbered) in
+    let r = store-room (a .pool .pages) (a .handle .store .0) (a .pool .stores) (k .store) in
+    let e = start (past-change past-numbered) .pre .2 in
+    let z = k .kept .sized in (omega (arith, e, z .pages), omega (arith, k .store, k .kept .stores .most), rw e (omega (arith, r, z .store)), omega (arith, below past-numbered, z .pages))
 
 -- rule 9
 returns-4 : tie.Need-returns-4
@@ -153,7 +146,6 @@ link-refusal-spec =
     edit-refusal-requires
     returns
     returns-2
-    cast-if3
     returns-3
     is-named-requires
     returns-4

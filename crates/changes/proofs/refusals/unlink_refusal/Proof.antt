@@ -37,7 +37,7 @@ passed c = edit-passes (given (start c)) (start c .args .handle) (start c .args 
 edit-refusal-requires : tie.Need-edit-refusal-requires
 edit-refusal-requires c κs = search needs
 
--- rules 1 to 4, and 26
+-- rules 1, 2, 28, 3, 4 and 26
 returns : tie.Need-returns
 returns c =
     let at-edit-refusal = c .before in

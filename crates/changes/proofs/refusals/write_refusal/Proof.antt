@@ -44,12 +44,12 @@ asked : (c : tie.After-is-locked) → let at-start = start (past-handle (c .befo
 asked c =
     let at-start = start (past-handle (c .before)) in
     let k = kept (past-handle (c .before)) in
-    is-locked (given at-start) (at-start .args .handle) (k .kept) (k .held) (at-start .pre .0) (c .is-locked .ensures)
+    is-locked (given at-start) (at-start .args .handle) (k .kept) (k .held) (at-start .pre .0) (at-start .pre .1) (c .is-locked .ensures)
 
 handle-refusal-requires : tie.Need-handle-refusal-requires
 handle-refusal-requires c κs = search needs
 
--- rules 1 to 3
+-- rules 1, 2, 28 and 3
 returns : tie.Need-returns
 returns c =
     let at-handle-refusal = c .before in

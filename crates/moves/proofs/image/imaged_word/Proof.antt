@@ -20,11 +20,14 @@ name-of-requires c κs = search needs
 frame-in-requires : tie.Need-frame-in-requires
 frame-in-requires c κs = search needs
 
-mul-held : tie.Need-mul-held
-mul-held c = search needs
+mul-page-of : tie.Need-mul-page-of
+mul-page-of c = search needs
 
-element-copy-out-held : tie.Need-element-copy-out-held
-element-copy-out-held c = search needs
+element-copy-out-page-of : tie.Need-element-copy-out-page-of
+element-copy-out-page-of c = search needs
+
+page-of-requires : tie.Need-page-of-requires
+page-of-requires c κs = search needs
 
 by-number-requires : tie.Need-by-number-requires
 by-number-requires c κs = search needs
@@ -32,12 +35,13 @@ by-number-requires c κs = search needs
 -- it names a frame
 returns-2 : tie.Need-returns-2
 returns-2 c =
-    let at-frame = c .before .before in
+    let at-page = c .before in
+    let at-frame = at-page .before .before in
     let at-name = at-frame .before in
     let past-number = at-name .before in
     let at-entry = past-number .before .before in
     let swizzled = number-no _ (number-as-word _ ∙ sym (past-number .before .is-number .ensures) ∙ past-number .if1 .left) in
-    c .by-number .ensures ∙ ap (renamed _) (ap (pageBy (at-entry .args .residents .now)) (at-frame .frame-in .ensures ∙ ap frameIn (at-name .name-of .ensures)) ∙ sym (plain-swizzled _ _ swizzled))
+    c .by-number .ensures ∙ ap (renamed _) (at-page .page-of .ensures ∙ ap (pageBy (at-entry .args .residents .now)) (at-frame .frame-in .ensures ∙ ap frameIn (at-name .name-of .ensures)) ∙ sym (plain-swizzled _ _ swizzled))
 
 pub imaged-word-spec : {M : Type 1} → statement M
 imaged-word-spec =
@@ -47,7 +51,8 @@ imaged-word-spec =
     returns
     name-of-requires
     frame-in-requires
-    mul-held
-    element-copy-out-held
+    mul-page-of
+    element-copy-out-page-of
+    page-of-requires
     by-number-requires
     returns-2)

@@ -6,9 +6,6 @@ use borrow.Author.Needs.{needs}
 use Rattle.moves.proofs.out.store_bytes.Statement.{statement}
 use Rattle.moves.proofs.out.store_bytes.Tie as tie
 
-place-requires : tie.Need-place-requires
-place-requires c κs = search needs
-
 to-store-requires : tie.Need-to-store-requires
 to-store-requires c κs = search needs
 
@@ -17,9 +14,9 @@ same-length c = search needs
 
 returns : tie.Need-returns
 returns c page =
-    let a = c .before .before .before .before .before .before .before in
-    let copied = rw (c .before .before .before .place .ensures) at (c .before .before .to-store .ensures) in
+    let a = c .before .before .before .before .before .before in
+    let copied = c .before .before .to-store .ensures in
     copied .0 ∙ ap (putPage _ _) (sym (own-image page _ _ (a .pre .0 .bytes) (copied .1) (a .pre .1)))
 
 pub store-bytes-spec : {M : Type 1} → statement M
-store-bytes-spec = tie.close (tie.spec place-requires to-store-requires same-length returns)
+store-bytes-spec = tie.close (tie.spec to-store-requires same-length returns)

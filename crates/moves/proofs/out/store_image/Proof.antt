@@ -1,7 +1,5 @@
 -- `store_image` meets its contract: the part of the store that was lent comes back as the image, and a page without a swizzled word is its own. Assumes nothing.
-use Prim.Native.Nat.{ℕ, _*_}
-use mathlib.Core.Path.{sym, ap, _∙_}
-use Rattle.page.specs.Figures.{pageSize}
+use mathlib.Core.Path.{sym, _∙_}
 use Rattle.moves.specs.MoveSteps.{part-named, image-back}
 use borrow.Author.Needs.{needs}
 use Rattle.moves.proofs.out.store_image.Statement.{statement}
@@ -23,9 +21,6 @@ same-length c = search needs
 -- no word is swizzled: the bytes
 returns : tie.Need-returns
 returns c = c .before .before .store-bytes .ensures _
-
-place-requires : tie.Need-place-requires
-place-requires c κs = search needs
 
 start-requires : tie.Need-start-requires
 start-requires c κs = search needs
@@ -60,7 +55,7 @@ part-put-image-end-2 c = search needs
 put-image-requires : tie.Need-put-image-requires
 put-image-requires c κs =
     let at-start2 = c .before .before in
-    let at-childless = at-start2 .before .before .before .before in
+    let at-childless = at-start2 .before .before .before in
     let at-entry = at-childless .before .before .before in
     (search needs, search needs, part-named _ _ _ (at-start2 .start2 .ensures) (at-entry .pre .1))
 
@@ -72,10 +67,9 @@ returns-2 : tie.Need-returns-2
 returns-2 c =
     let at-put-image = c .before .before in
     let at-start2 = at-put-image .before .before .before in
-    let frame = at-start2 in
-    let place = frame .before .before in
-    let to = frame .before .start .ensures ∙ ap (λ (p : ℕ). pageSize * p) (place .place .ensures) in
-    image-back _ _ _ _ _ _ _ _ (frame .start2 .ensures) to (place .before .before .before .before .before .pre .0 .bytes) (at-put-image .put-image .ensures)
+    let at-start = at-start2 .before in
+    let at-entry = at-start .before .before .before .before .before in
+    image-back _ _ _ _ _ _ _ _ (at-start2 .start2 .ensures) (at-start .start .ensures) (at-entry .pre .0 .bytes) (at-put-image .put-image .ensures)
 
 pub store-image-spec : {M : Type 1} → statement M
 store-image-spec =
@@ -85,7 +79,6 @@ store-image-spec =
     store-bytes-requires
     same-length
     returns
-    place-requires
     start-requires
     start-requires-2
     add-put-image

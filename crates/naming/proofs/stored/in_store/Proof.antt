@@ -11,25 +11,28 @@ use Rattle.naming.proofs.stored.in_store.Statement.{statement}
 use Rattle.naming.proofs.stored.in_store.Tie as tie
 
 abbrev Inv-loop : tie.InvT-loop
-Inv-loop store residents n w p₀ p = (p ≤ n) × (inStore residents store p w ≡ false)
+Inv-loop store residents n of-store w p₀ p = (p ≤ n) × (inStore residents store n (of-store .0) p w ≡ false)
 
 abbrev μ-loop : tie.MeasureT-loop
-μ-loop store residents n w p₀ p = n - p
+μ-loop store residents n of-store w p₀ p = n - p
 
 loop-holds : tie.Need-loop-holds Inv-loop μ-loop
-loop-holds c = (omega arith, in-no-page _ _ _)
+loop-holds c = (omega arith, in-no-page _ _ _ _ _)
 
-cast-t8 : tie.Need-cast-t8 Inv-loop μ-loop
-cast-t8 c = search needs
+cast-of : tie.Need-cast-of Inv-loop μ-loop
+cast-of c = search needs
+
+cast-of-2 : tie.Need-cast-of-2 Inv-loop μ-loop
+cast-of-2 c = search needs
+
+of-requires : tie.Need-of-requires Inv-loop μ-loop
+of-requires c κs = search needs
 
 start-requires : tie.Need-start-requires Inv-loop μ-loop
 start-requires c κs = search needs
 
 has-requires : tie.Need-has-requires Inv-loop μ-loop
 has-requires c κs = search needs
-
-cast-t12 : tie.Need-cast-t12 Inv-loop μ-loop
-cast-t12 c = search needs
 
 is-resident-requires : tie.Need-is-resident-requires Inv-loop μ-loop
 is-resident-requires c κs = search needs
@@ -41,9 +44,10 @@ returns c =
     let past-has = at-is-resident .before in
     let at-has = past-has .before in
     let at-start = at-has .before in
-    let at-pages = at-start .before .before in
-    sym (in-page _ _ _ _ (at-pages .loop .p) (omega arith)
-    (sym (rw (at-start .start .ensures) at (at-has .has .ensures)) ∙ past-has .if1 .taken) (call-no (at-is-resident .is-resident .ensures) (c .if2 .taken)))
+    let at-of = at-start .before in
+    let at-pages = at-of .before .before in
+    sym (in-page _ _ _ _ _ _ (at-pages .loop .p) (omega arith)
+    (sym (rw (at-start .start .ensures, at-of .of .ensures) at (at-has .has .ensures)) ∙ past-has .if1 .taken) (call-no (at-is-resident .is-resident .ensures) (c .if2 .taken)))
 
 add-p : tie.Need-add-p Inv-loop μ-loop
 add-p c = search needs
@@ -55,11 +59,12 @@ loop-again : tie.Need-loop-again Inv-loop μ-loop
 loop-again c =
     let at-has = c .before in
     let at-start = at-has .before in
-    let at-pages = at-start .before .before in (
+    let at-of = at-start .before in
+    let at-pages = at-of .before .before in (
       omega arith,
       ⊎-elim
-          (λ a. pass-resident _ _ _ _ (call-yes (a .1 .ensures) (a .2 .left)))
-          (λ a. pass-other _ _ _ _ (sym (rw (at-start .start .ensures) at (at-has .has .ensures)) ∙ a .left))
+          (λ a. pass-resident _ _ _ _ _ _ (call-yes (a .1 .ensures) (a .2 .left)))
+          (λ a. pass-other _ _ _ _ _ _ (sym (rw (at-start .start .ensures, at-of .of .ensures) at (at-has .has .ensures)) ∙ a .left))
           (c .if1 .came)
           ∙ at-pages .loop .inv .1,
     )
@@ -77,10 +82,11 @@ in-store-spec =
     Inv-loop
     μ-loop
     loop-holds
-    cast-t8
+    cast-of
+    cast-of-2
+    of-requires
     start-requires
     has-requires
-    cast-t12
     is-resident-requires
     returns
     add-p

@@ -21,7 +21,7 @@ returns c =
     let at-entry = at-page .before .before .before .before in
     let a = at-entry .args in
     let s : State = state (a .pool) (a .frames .now) (a .store .now) (a .directory .now) in
-    line-listed _ _ _ (c .of-find .ensures) (rw (at-page .page .ensures) at (find-leaves s (at-page .page .result) (at-find .find .ensures)))
+    line-listed _ _ _ (c .of-find .ensures) (rw (at-page .page .ensures) at (find-leaves s 0 (at-page .page .result) (at-find .find .ensures)))
 
 pub find-spec : {M : Type 1} → statement M
 find-spec = tie.close (tie.spec page-requires find-requires of-find-requires returns)

@@ -20,7 +20,7 @@ enum-told-3 c = search needs
 enum-told-4 : tie.Need-enum-told-4
 enum-told-4 c = search needs
 
--- the root; pinned; with a swizzled word; open to eviction
+-- a root; pinned; with a swizzled word; open to eviction
 returns : tie.Need-returns
 returns c = ap stayNumber (sym (c .enum-told .given .1) ∙ c .before .before .of .ensures)
 

@@ -1,0 +1,1 @@
+// Cases computed from the definitions. This crate has no code.
