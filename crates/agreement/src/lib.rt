@@ -1,4 +1,6 @@
 // Rule 2: do records and frames agree. One pass over the frames tests each record, the word that names the frame, and the numbers in it; then numbers with marks are looked for, where there may be some, the stores' pages are counted against their ceilings, and parents are followed, where one doesn't lie before its frame.
+#![tactic(auto)]
+
 mod ceilings;
 mod frame;
 mod marks;

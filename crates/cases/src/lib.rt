@@ -1,1 +1,2 @@
 // Cases computed from the definitions. This crate has no code.
+#![tactic(auto)]

@@ -1,4 +1,6 @@
 // The calls that change the contents of a handle's page: write, link and unlink.
+#![tactic(auto)]
+
 mod refusals;
 
 ghost use Rattle.std.specs.Prelude.{◌≡◌};

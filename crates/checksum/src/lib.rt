@@ -1,4 +1,6 @@
 // The checksum of a text that comes in parts: the one that the command `cksum` gives.
+#![tactic(auto)]
+
 ghost use Rattle.std.specs.Prelude.{◌≡◌};
 ghost use Rattle.checksum.specs.Checksum.{shifted, with_byte, with_bytes, octets, complement};
 ghost use Rattle.checksum.specs.Parts.{empty_sum, added, value_of};

@@ -1,4 +1,6 @@
 // The calls that only read: show, peek, word and find.
+#![tactic(auto)]
+
 mod part;
 
 ghost use Rattle.std.specs.Prelude.{◌≡◌};

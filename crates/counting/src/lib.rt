@@ -1,4 +1,6 @@
 // The calls of a tally: a recording is added, the share at a size, and the report.
+#![tactic(auto)]
+
 mod marks;
 mod refusal;
 mod sums;

@@ -1,5 +1,6 @@
 // How many frames to buy: the tally of recorded fixes. What its calls mean stands in specs/: depths, the cache of any size, and what the
 // one tells of the other.
+#![tactic(auto)]
 
 // The head of a tally: the recordings that were added, and all their references. The counters, one for each depth from 1 on, are
 // lent.

@@ -1,4 +1,6 @@
 // The directory of resident pages: rule 2's test of its chains, an entry that comes in and one that goes, and the search.
+#![tactic(auto)]
+
 ghost use Rattle.std.specs.Prelude.{◌≡◌, true, ◌+◌, ◌%◌, ◌<◌, ◌≤◌, length, get_or, set};
 ghost use Rattle.page.specs.Figures.{most_frames, most_pages, most_stores};
 ghost use Rattle.chains.specs.Chain.{directory_size, buckets, bucket_of, opened_directory, entered, taken_out, sought_in};

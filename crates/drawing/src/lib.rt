@@ -1,4 +1,6 @@
 // The next call record of a workload (request A.10), made of a pool by five draws.
+#![tactic(auto)]
+
 mod entry;
 mod fields;
 

@@ -1,4 +1,6 @@
 // The pool in Rattle, call by call, with two stores over the same frames: page 5 of store 1 comes under its root, is written and shown, is peeked at while it is resident and after its eviction, and the stores are settled. Store 0's page 5 is another one.
+#![tactic(auto)]
+
 mod print;
 
 use pool::{FixAnswer, Handle, PageNumber, Pool, StoreNumber};

@@ -1,4 +1,6 @@
 // Root and fix: the calls that pin a page. A resident page is pinned where it is, another one is loaded first.
+#![tactic(auto)]
+
 mod answer;
 mod load;
 

@@ -1,4 +1,6 @@
 // The generator of a workload (request A.10): 32-bit xorshift. A draw moves its number on.
+#![tactic(auto)]
+
 ghost use Rattle.std.specs.Prelude.{◌≡◌};
 ghost use Rattle.generator.specs.Generator.{number_after, seed_read};
 

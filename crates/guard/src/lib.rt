@@ -1,6 +1,8 @@
 // The rules that calls share, tested in their order: the number of the first broken one, 0 for none.
 // F is taken from the length of the frames where rule 1 was kept, and T and N are handed on with the refusal by rules 1 and 2: the records are then passed on and not read, which spares a copy of them.
 // The tables are the caller's: cleared before the caller copies the records, they give the host's own copy the time to arrive.
+#![tactic(auto)]
+
 ghost use Rattle.std.specs.Prelude.{◌≡◌, ◌+◌, ◌*◌, ◌≤◌, ◌<◌, length};
 ghost use Rattle.page.specs.Figures.{page_size, slot_count, most_stores};
 ghost use Rattle.rules.specs.Tests.{first_broken};

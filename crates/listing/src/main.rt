@@ -1,4 +1,6 @@
 // The call listing: reads records of 16 bytes from standard input to its end, and prints a line for each. What is there is read in one block, and its lines are out before more is read.
+#![tactic(auto)]
+
 mod block;
 mod message;
 

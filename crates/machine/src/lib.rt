@@ -1,4 +1,6 @@
 // The pool's records and the answers of its calls. What they mean stands in specs/: document 01 as definitions, and demand 3.
+#![tactic(auto)]
+
 use page::{FrameIndex, PageNumber, StoreNumber};
 
 // What is known of one frame (document 01: its record). The all-zero record is the empty frame's.

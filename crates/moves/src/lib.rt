@@ -1,4 +1,6 @@
 // A page leaving its frame, coming into one, and settling. Frames, store and directory are changed here; the caller puts the record.
+#![tactic(auto)]
+
 mod image;
 mod out;
 

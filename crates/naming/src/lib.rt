@@ -1,4 +1,6 @@
 // Rules 9 and 14: which pages name a page. The tables that rule 2 hands on tell of resident pages: which they are, and what they name.
+#![tactic(auto)]
+
 pub mod stored;
 
 ghost use Rattle.std.specs.Prelude.{◌≡◌, ◌+◌, ◌*◌, ◌≤◌, ◌<◌, length};

@@ -1,4 +1,6 @@
 // Pages, frames and words: the kinds of count with their figures and places, the word and what it names, the slots of a frame, and bytes copied.
+#![tactic(auto)]
+
 pub mod copy;
 pub mod slot;
 pub mod wide;

@@ -1,5 +1,7 @@
 // The pool's thirteen calls, the draws of a workload, and the tally of recorded fixes, for programs in C and Rust. A lent buffer is a pointer and a length there, and an answer a struct by value.
 // include/pagepool.h declares them for C, the package rust/ for Rust.
+#![tactic(auto)]
+
 mod answers;
 mod layout;
 

@@ -1,4 +1,6 @@
 // The page pool: its thirteen calls, and the kinds that they take and give.
+#![tactic(auto)]
+
 pub use changes::{link, unlink, write};
 pub use contents::{find, peek, peek_place, show, show_place, word};
 pub use fixing::{fix, root};

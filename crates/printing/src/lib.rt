@@ -1,4 +1,6 @@
 // The lines of the listing, in a text.
+#![tactic(auto)]
+
 ghost use Rattle.std.specs.Prelude.{◌+◌, ◌≤◌, ◌≡◌, length, take};
 ghost use Rattle.recording.specs.Listing.{line_numbers};
 ghost use Rattle.printing.specs.Printing.{with_number, with_line};

@@ -1,4 +1,6 @@
 // The call listing: its pool is opened, and one record of 16 bytes is run on it, and gives the four numbers of its line.
+#![tactic(auto)]
+
 mod calls;
 mod fields;
 mod lines;

@@ -1,4 +1,6 @@
 // The records that calls leave. Each is made here alone, and is its definition.
+#![tactic(auto)]
+
 ghost use Rattle.std.specs.Prelude.{◌≡◌, ◌+◌, ◌<◌, min};
 ghost use Rattle.page.specs.Figures.{max_usage, max_pins};
 ghost use Rattle.machine.specs.Machine.{blank, root_record, loaded_record, pinned as onePinMore, unpinned as onePinLess, dirtied as nowDirty, cleaned as nowClean};

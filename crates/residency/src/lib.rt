@@ -1,4 +1,6 @@
 // The calls that begin with a pool, release its pages and write them out: open, unfix, evict and settle.
+#![tactic(auto)]
+
 mod opening;
 mod releasing;
 mod settling;

@@ -1,4 +1,6 @@
 // What is asked of the table of the page in each frame, which rule 2's pass hands on: loops and later rules go by it in place of the records.
+#![tactic(auto)]
+
 ghost use Rattle.std.specs.Prelude.{◌≡◌, ◌%◌, ◌<◌, ◌≤◌};
 ghost use Rattle.page.specs.Figures.{most_frames, most_pages, most_stores};
 ghost use Rattle.residents.specs.Residents.{key_of, page_by, in_table, holds_page, held_by};

@@ -1,4 +1,6 @@
 // Finding a frame: the one that holds a page, the first empty one, and the one that a clock sweep takes.
+#![tactic(auto)]
+
 pub mod look;
 pub mod standing;
 

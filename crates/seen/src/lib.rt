@@ -1,4 +1,6 @@
 // The table of the page numbers seen, of up to four stores, a bit for each: what is noted in it, and asked of it. No other crate goes by its form.
+#![tactic(auto)]
+
 pub mod words;
 
 ghost use Rattle.std.specs.Prelude.{◌≡◌, true, false, ◌+◌, ◌*◌, ◌-◌, ◌^◌, ◌≤◌, ◌<◌, length};

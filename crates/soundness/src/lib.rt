@@ -1,4 +1,6 @@
 // Rule 16: are the stores sound. Their words are looked at a page at a time, one store after the other, with one table of the numbers seen.
+#![tactic(auto)]
+
 ghost use Rattle.std.specs.Prelude.{◌≡◌, false, ◌+◌, ◌*◌, ◌≤◌, ◌<◌, length};
 ghost use Rattle.page.specs.Figures.{page_size, most_pages, most_stores};
 ghost use Rattle.machine.specs.Soundness.{sound_store, sound};

@@ -1,4 +1,6 @@
 // A workload on the listing's pool: takes an order from standard input, draws so many records and runs each, and writes the listing's lines or the records. At the end a checksum of the lines goes to standard error.
+#![tactic(auto)]
+
 mod block;
 mod message;
 mod order;
