@@ -1,0 +1,11 @@
+-- `page::word::is_marked_number` meets its contract. Assumes nothing.
+use mathlib.Core.Path.{sym}
+use native.Mathlib.Omega.{arith}
+use Rattle.page.specs.Word.{marked-number, marked-no-number}
+use Rattle.page.proofs.word.is_marked_number.Goals as goal
+
+pub returns-then-w-lt-SWIZZLE_BIT : goal.returns-then-w-lt-SWIZZLE_BIT
+returns-then-w-lt-SWIZZLE_BIT c = sym (marked-number _ (omega arith))
+
+pub returns : goal.returns
+returns c = sym (marked-no-number _ (omega arith))
