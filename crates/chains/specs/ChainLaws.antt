@@ -1,7 +1,7 @@
 -- Lists of frames, and the links of the directory that lead through one. Assumes nothing.
 use Prim.Native.Nat.{ℕ, zero, suc, ◌+◌, ◌-◌, ◌≤◌, ◌<◌}
 use Rattle.std.specs.Prelude.{◌≡◌, ◌≢◌, ◌⊎◌, Bool, true, not, eqb, set}
-use Rattle.std.proofs.Math.Path.{refl, sym, ap}
+use Rattle.std.proofs.Math.Path.{refl, sym, ap, subst}
 use Rattle.std.proofs.Common.{◌∙◌, inl, inr, eq-eqb, ne_eqb, length-set}
 use mathlib.Core.List.{List, ◌∷◌, ◌++◌, []}
 use native.Mathlib.Omega.{arith}
@@ -346,8 +346,8 @@ module _ (d : List ℕ) (size : length d ≡ directory_size) (e : ℕ) (he : e <
     | no z ↦
         let hf : f < most_frames = b f (inl refl) in
         let r = taken-chain n (link_at f) l (omega arith) (omega arith) (λ g y. b g (inr y)) (λ g y. let q : g ≡ f = omega arith in rw q t.0) t.1 (rest z i) c.1 in
-        rw (dropped-on e f l z, taken-on n a f c.0 z)
-        (taken-keeps n (link_at f) a l (omega arith) c.1 (rest z i) (λ y. (p f y).0 refl) (λ y. alone z i y) (λ g y. (p g y).1) ∙ c.0, r)
+        let k = taken-keeps n (link_at f) a l (omega arith) c.1 (rest z i) (λ y. (p f y).0 refl) (λ y. alone z i y) (λ g y. (p g y).1) ∙ c.0 in
+        rw (dropped-on e f l z) (subst (λ (u : List ℕ). Chain u a (f ∷ dropped e l)) (sym (taken-on n a f c.0 z)) (k, r))
   ]
     where
       rest : f ≢ e → (f ≡ e) ⊎ In e l → In e l
