@@ -1,7 +1,7 @@
 -- Turns in a sweep, by any class: how often a frame is looked at, what that leaves of its record, and at which look a frame goes. Assumes nothing.
 use Prim.Native.Nat.{ℕ, zero, suc, ◌+◌, ◌*◌, ◌-◌, ◌<◌, ◌≤◌, min}
 use Rattle.std.specs.Prelude.{◌≡◌, ◌≢◌, false, List, eqb}
-use Rattle.std.proofs.Math.Path.{refl}
+use Rattle.std.proofs.Math.Path.{subst, refl}
 use Rattle.std.proofs.Common.{sym, ◌∙◌}
 use Rattle.std.proofs.Math.Bool.{true}
 use native.Mathlib.Omega.{arith}
@@ -89,7 +89,12 @@ module _ (k : Kind) (K : UsageBlind k) (F : ℕ) where
       let z : 0 + n ≡ n = omega arith in
       let s : 1 + n ≡ suc n = omega arith in
       elim (ℕ_discrete g h) [
-        | yes e ↦ rw (c, eq-eqb h g (sym e), s, e, looked-here k K rs h)
+        | yes e ↦
+            let d : k (record_at (looked k rs h) h) h ≡ k (record_at rs h) h = K.same _ _ h (looked-cooler k K rs h h) in
+            subst
+            (λ (x : ℕ). looks_leave (k (record_at (looked k rs h) x) x) n (record_at (looked k rs h) x) ≡ looks_leave (k (record_at rs x) x) (pick (eqb h x) 1 0 + n) (record_at rs x))
+            (sym e)
+            (rw (d, eq-eqb h h refl, s, looked-here k K rs h))
         | no q ↦ rw (c, ne_eqb h g (λ e. q (sym e)), z, looked-other k rs h g q)
       ]
 
