@@ -9,7 +9,7 @@ use residents::Residents;
 use seen::Seen;
 
 // What was found of them: how many there are, and whether they are all new.
-#[derive(Drop)]
+#[derive(Clone, Copy)]
 pub struct Marked {
     pub count: u32,
     pub fresh: bool,

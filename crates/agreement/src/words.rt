@@ -11,7 +11,7 @@ use seen::Seen;
 const OVER: u32 = 65536;
 
 // What was found of a frame's numbers: how many of its words are not below N, and whether the others are all new.
-#[derive(Drop)]
+#[derive(Clone, Copy)]
 pub struct Noted {
     pub over: u32,
     pub fresh: bool,

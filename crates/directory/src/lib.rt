@@ -33,7 +33,7 @@ const MET: u16 = 323;
 const ROW: usize = 8;
 
 // Where a page is: its frame, or F, and the entries compared.
-#[derive(Drop)]
+#[derive(Clone, Copy)]
 pub struct Sought {
     pub frame: usize,
     pub compared: usize,

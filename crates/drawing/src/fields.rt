@@ -7,7 +7,7 @@ use generator::Generator;
 use page::{FrameIndex, PageNumber};
 
 // The fields, and the generator after the draws.
-#[derive(Drop)]
+#[derive(Clone, Copy)]
 pub struct Fields {
     pub call: u8,
     pub frame: FrameIndex,

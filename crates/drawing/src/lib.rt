@@ -17,7 +17,7 @@ use residents::Residents;
 
 // A record of 16 bytes, as the call listing reads it, and the generator after its draws. Beside a refusal: no byte but 0, and the generator as it was.
 #[repr(C)]
-#[derive(Drop)]
+#[derive(Clone, Copy)]
 pub struct Drawn {
     pub refusal: u8,
     pub entry: [u8; 16],

@@ -18,7 +18,7 @@ use residents::Residents;
 use seen::Seen;
 
 // A refusal's number, with the pool's T and N.
-#[derive(Drop)]
+#[derive(Clone, Copy)]
 pub struct Tested {
     pub refusal: u8,
     pub stores: u8,

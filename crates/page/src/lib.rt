@@ -13,21 +13,21 @@ ghost use Rattle.page.specs.StorePlaces.{store_place};
 
 // A page number. Its figures are those of a page.
 #[repr(C)]
-#[derive(Drop)]
+#[derive(Clone, Copy)]
 pub struct PageNumber(pub u16);
 
 // A frame index. Its figures are those of a frame and of its record.
 #[repr(C)]
-#[derive(Drop)]
+#[derive(Clone, Copy)]
 pub struct FrameIndex(pub u8);
 
 // Which of up to four stores a page is of.
 #[repr(C)]
-#[derive(Drop)]
+#[derive(Clone, Copy)]
 pub struct StoreNumber(pub u8);
 
 // A page's place in the buffer of the stores, counted in pages.
-#[derive(Drop)]
+#[derive(Clone, Copy)]
 pub struct StorePlace(pub u16);
 
 impl PageNumber {

@@ -9,7 +9,7 @@ use pool::{
 
 // The answer of root and fix: the records, the handle and the looks of the sweep.
 #[repr(C)]
-#[derive(Drop)]
+#[derive(Clone, Copy)]
 pub struct Fixed {
     pub pool: Pool,
     pub refusal: u8,
@@ -19,7 +19,7 @@ pub struct Fixed {
 
 // The answer of word: the page number in the slot, 0 for none, and whether that page is locked.
 #[repr(C)]
-#[derive(Drop)]
+#[derive(Clone, Copy)]
 pub struct Named {
     pub refusal: u8,
     pub locked: bool,
@@ -28,7 +28,7 @@ pub struct Named {
 
 // The answer of find: whether the page is resident, its frame, and the entries compared.
 #[repr(C)]
-#[derive(Drop)]
+#[derive(Clone, Copy)]
 pub struct Found {
     pub refusal: u8,
     pub present: bool,

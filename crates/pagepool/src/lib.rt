@@ -22,7 +22,7 @@ use pool::{Done, Handle, PageNumber, Place, Pool, StoreNumber};
 
 // The most resident pages of each store, as open takes them.
 #[repr(C)]
-#[derive(Drop)]
+#[derive(Clone, Copy)]
 pub struct Ceilings {
     pub most: [u8; StoreNumber::MOST],
 }

@@ -8,7 +8,7 @@ use page::{FrameIndex, PageNumber};
 use pool::{Done, FindAnswer, Fix, FixAnswer, Pool};
 
 // The four numbers of a record's line, and the records after it.
-#[derive(Drop)]
+#[derive(Clone, Copy)]
 pub struct Line {
     pub call: u8,
     pub refusal: u8,

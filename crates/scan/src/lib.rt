@@ -29,7 +29,7 @@ const WARMEST: u8 = 7;
 const REST: u8 = 8;
 
 // What a sweep ends with: whether a frame was taken and which, the looks, and the hand after it.
-#[derive(Drop)]
+#[derive(Clone, Copy)]
 pub struct Walk {
     pub taken: bool,
     pub frame: FrameIndex,
