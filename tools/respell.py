@@ -32,7 +32,7 @@ def turned(name):
 
 
 def files(*patterns):
-    return sorted(f for p in patterns for f in glob.glob(p, recursive=True) if "/out/" not in f)
+    return sorted(f for p in patterns for f in glob.glob(p, recursive=True) if f.split("/")[2:3] != ["out"])
 
 
 def read(path):
