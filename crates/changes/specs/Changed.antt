@@ -17,7 +17,7 @@ use Rattle.machine.specs.Machine.{State, state, blank, record_at, with_record, w
 use Rattle.machine.specs.Rules.{range_fits, word_of, rule5, rule6-link, rule7, rule8, rule9, rule10, rule26}
 use Rattle.machine.specs.Answers.{out, done_answer}
 use Rattle.machine.specs.Calls.{write_rules, link_rules, unlink_rules, written, relinked, write_call, link_call, unlink_call}
-use Rattle.machine.specs.Laws.RuleLaws.{HandleKept, EditKept, handle-parts, edit-parts, done-yes}
+use Rattle.machine.proofs.Laws.RuleLaws.{HandleKept, EditKept, handle-parts, edit-parts, done-yes}
 use Rattle.guard.specs.Held.{record_place}
 
 -- the records with the page in frame f marked dirty

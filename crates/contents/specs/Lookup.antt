@@ -13,9 +13,9 @@ use Rattle.machine.specs.Answers.{payload, in_frames, in_store, frame, nowhere}
 use Rattle.machine.specs.Calls.{page_rules, sought, payload_place, peek_call, found_answer, find_call}
 use Rattle.chains.specs.ChainLaws.{seek-compared}
 use Rattle.chains.specs.ChainFacts.{Bucket, bucket-few, bucket-chain}
-use Rattle.machine.specs.Laws.DirectoryFacts.{home_of, home-framed, bucket-lt}
-use Rattle.machine.specs.Laws.Ready.{Kept}
-use Rattle.machine.specs.Laws.RuleLaws.{PageKept, page-kept, answer-yes}
+use Rattle.machine.proofs.Laws.DirectoryFacts.{home_of, home-framed, bucket-lt}
+use Rattle.machine.proofs.Laws.Ready.{Kept}
+use Rattle.machine.proofs.Laws.RuleLaws.{PageKept, page-kept, answer-yes}
 use Rattle.seen.specs.Seen.{Seen}
 use Rattle.residents.specs.Residents.{key_of, key_by}
 use Rattle.residents.specs.Handed.{Handed}

@@ -13,7 +13,7 @@ use Rattle.rules.specs.TestLaws.{clash, pick_yes, pick_no, case, on, off}
 use Rattle.machine.specs.Machine.{State}
 use Rattle.machine.specs.Answers.{Answer, payload, in_store, out, place_of, Lent, cut, Shown, lent_if, handed_at}
 use Rattle.machine.specs.Calls.{decide, handle_rules, page_rules, sought, payload_place, show_call, peek_call}
-use Rattle.machine.specs.Laws.RuleLaws.{handle-kept, page-kept, answer-no, answer-yes}
+use Rattle.machine.proofs.Laws.RuleLaws.{handle-kept, page-kept, answer-no, answer-yes}
 
 -- the payload at place p of the store, or of frame p
 abbrev pub payload_in : Bool → ℕ → Place

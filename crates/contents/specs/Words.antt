@@ -9,13 +9,13 @@ use Rattle.page.specs.Word.{frame_in, reading, low, high, Number, Swizzled}
 use Rattle.machine.specs.declared.Handle.{Handle}
 use Rattle.rules.specs.Tests.{first_broken}
 use Rattle.machine.specs.Machine.{State, page_number, page_in}
-use Rattle.machine.specs.Laws.AgreementFacts.{occupied-lt}
+use Rattle.machine.proofs.Laws.AgreementFacts.{occupied-lt}
 use Rattle.machine.specs.Moves.{plain}
-use Rattle.machine.specs.Laws.PlainLaws.{plain-low, plain-high}
+use Rattle.machine.proofs.Laws.PlainLaws.{plain-low, plain-high}
 use Rattle.machine.specs.Answers.{number}
 use Rattle.machine.specs.Rules.{word_of, mark_of}
 use Rattle.machine.specs.Calls.{word_rules, word_call}
-use Rattle.machine.specs.Laws.RuleLaws.{SlotKept, slot_kept, held-occupied, answer-yes}
+use Rattle.machine.proofs.Laws.RuleLaws.{SlotKept, slot_kept, held-occupied, answer-yes}
 use Rattle.seen.specs.Seen.{Seen}
 use Rattle.residents.specs.Residents.{page_by}
 use Rattle.residents.specs.ResidentLaws.{page-by}

@@ -8,14 +8,14 @@ use Rattle.page.specs.StorePlaces.{store_place}
 use Rattle.rules.specs.Tests.{pick}
 use Rattle.rules.specs.TestLaws.{case, on, off, pick_yes, pick_no, same}
 use Rattle.machine.specs.Machine.{State, page_in, store_in, place_in, occupied}
-use Rattle.machine.specs.Laws.AgreementFacts.{Agreed, occupied-lt}
+use Rattle.machine.proofs.Laws.AgreementFacts.{Agreed, occupied-lt}
 use Rattle.chains.specs.Chain.{directory_size, buckets, bucket_of, link_at, seek_in, sought_in}
 use Rattle.machine.specs.Directory.{chains_agree}
 use Rattle.machine.specs.Calls.{sought}
 use Rattle.chains.specs.ChainLaws.{In, Chain}
 use Rattle.chains.specs.ChainFacts.{Bucket, Chained, Framed, chained-ext, bucket-chain}
-use Rattle.machine.specs.Laws.DirectoryFacts.{bucket-lt, home_of, home-on, home_off, home-framed, chains-facts, chains-tests}
-use Rattle.machine.specs.Laws.Ready.{Kept}
+use Rattle.machine.proofs.Laws.DirectoryFacts.{bucket-lt, home_of, home-on, home_off, home-framed, chains-facts, chains-tests}
+use Rattle.machine.proofs.Laws.Ready.{Kept}
 use Rattle.residents.specs.Residents.{key_of, key_by, page_by, Residents, holds_page}
 use Rattle.residents.specs.ResidentLaws.{key-place, page-by, holds-page}
 use Rattle.rules.specs.Deciding.{Decides, decided, fails}

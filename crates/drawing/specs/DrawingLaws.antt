@@ -9,7 +9,7 @@ use Rattle.rules.specs.Tests.{pick, first_broken}
 use Rattle.rules.specs.TestLaws.{case, on, off, or-none, pick_yes, pick_no, verdict-yes, verdict-no}
 use Rattle.machine.specs.Machine.{State, frame_index, page_number, occupied}
 use Rattle.machine.specs.Calls.{pool_rules}
-use Rattle.machine.specs.Laws.Ready.{Kept, rules-kept}
+use Rattle.machine.proofs.Laws.Ready.{Kept, rules-kept}
 use Rattle.seen.specs.Seen.{Seen}
 use Rattle.residents.specs.Residents.{Residents, page_by, holds_page}
 use Rattle.residents.specs.ResidentLaws.{page-by, holds-page}

@@ -12,8 +12,8 @@ use Rattle.machine.specs.Rules.{lengths_fit, stores_fit, directory_fits, rule2}
 use Rattle.machine.specs.Calls.{pool_rules, open_call, settle_call}
 use Rattle.machine.specs.History.{Call, settle, Point, start, run, AllBytes}
 use Rattle.machine.specs.Demand3.{Holds}
-use Rattle.machine.specs.Laws.Outcomes.{answers-as, refused-by}
-use Rattle.machine.specs.Theorem.Demand3Holds.{demand3}
+use Rattle.machine.proofs.Laws.Outcomes.{answers-as, refused-by}
+use Rattle.machine.proofs.Theorem.Demand3Holds.{demand3}
 use Rattle.generator.specs.declared.Generator.{Generator}
 use Rattle.drawing.specs.declared.Drawn.{Drawn}
 use Rattle.drawing.specs.Drawing.{drawn_out, InRanges}

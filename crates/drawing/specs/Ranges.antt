@@ -12,7 +12,7 @@ use Rattle.rules.specs.Tests.{first_broken}
 use Rattle.rules.specs.TestLaws.{pick-either, pick_no, verdict-yes, verdict-no}
 use Rattle.machine.specs.Machine.{State, store_number, page_number}
 use Rattle.machine.specs.Calls.{pool_rules}
-use Rattle.machine.specs.Laws.Ready.{Kept, rules-kept}
+use Rattle.machine.proofs.Laws.Ready.{Kept, rules-kept}
 use Rattle.generator.specs.declared.Generator.{Generator}
 use Rattle.generator.specs.Generator.{number_after}
 use Rattle.drawing.specs.declared.Drawn.{Drawn}

@@ -16,8 +16,8 @@ use Rattle.machine.specs.Answers.{Answer, refused, Out}
 use Rattle.machine.specs.Rules.{range_fits, word_of, rule3, rule4, rule5, rule6, rule6-link, rule7, rule8, rule9, rule10, rule11, rule13, rule14, rule15, rule26, rule27, rule28}
 use Rattle.machine.specs.Calls.{decide, pool_rules, store_rules, handle_rules, word_rules, edit_rules, page_rules, root_rules, fix_entry_rules, fix_rules, write_rules, link_rules, unlink_rules, stay_rules, evict_rules, root_call, fix_call, unfix_call, write_call, link_call, unlink_call, evict_call, settle_call, find_call}
 use Rattle.machine.specs.History.{Call, accepted, row}
-use Rattle.machine.specs.Laws.Ready.{rules-kept}
-use Rattle.machine.specs.Laws.Outcomes.{kept, broken, outcome, no-refusal, one-refusal, found-accepted, fix-accepted}
+use Rattle.machine.proofs.Laws.Ready.{rules-kept}
+use Rattle.machine.proofs.Laws.Outcomes.{kept, broken, outcome, no-refusal, one-refusal, found-accepted, fix-accepted}
 use Rattle.recording.specs.Listing.{call_of, rule17, record_out, call_in, data_in}
 use Rattle.recording.specs.ListingLaws.{record-runs}
 use Rattle.generator.specs.declared.Generator.{Generator}

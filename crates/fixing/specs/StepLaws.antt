@@ -22,11 +22,11 @@ use Rattle.machine.specs.Moves.{vacate, evicted}
 use Rattle.machine.specs.Naming.{loadable}
 use Rattle.machine.specs.Rules.{word_of, rule7, rule13, rule14, rule15, rule27}
 use Rattle.machine.specs.Calls.{decide, store_rules, word_rules, loaded_out, swept_out, miss_out, root_call, fix_call}
-use Rattle.machine.specs.Laws.Ready.{Kept, Ready, Sized, ready}
-use Rattle.machine.specs.Laws.RuleLaws.{SlotKept, held-occupied, store_kept, decide-no, decide-yes, store-stops, store-passes, slot-stops, slot-passes}
-use Rattle.machine.specs.Laws.SweepLaws.{loose-of, sweep_sound, swept-ready}
-use Rattle.machine.specs.Laws.Standings.{open-childless}
-use Rattle.machine.specs.Laws.MoveLaws.{evicted-sized}
+use Rattle.machine.proofs.Laws.Ready.{Kept, Ready, Sized, ready}
+use Rattle.machine.proofs.Laws.RuleLaws.{SlotKept, held-occupied, store_kept, decide-no, decide-yes, store-stops, store-passes, slot-stops, slot-passes}
+use Rattle.machine.proofs.Laws.SweepLaws.{loose-of, sweep_sound, swept-ready}
+use Rattle.machine.proofs.Laws.Standings.{open-childless}
+use Rattle.machine.proofs.Laws.MoveLaws.{evicted-sized}
 use Rattle.chains.specs.ChainLaws.{taken-length}
 use Rattle.seen.specs.Seen.{Seen}
 use Rattle.residents.specs.Residents.{held_by}

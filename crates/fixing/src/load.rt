@@ -3,7 +3,7 @@ ghost use Rattle.std.specs.Prelude.{◌≡◌, not, ◌≤◌, ◌<◌};
 ghost use Rattle.page.specs.Figures.{slot_count, most_frames};
 ghost use Rattle.rules.specs.Tests.{pick, ◌and◌};
 ghost use Rattle.machine.specs.Machine.{state, is_of};
-ghost use Rattle.machine.specs.Laws.Ready.{Kept};
+ghost use Rattle.machine.proofs.Laws.Ready.{Kept};
 ghost use Rattle.residents.specs.Handed.{Handed};
 ghost use Rattle.scan.specs.FoundByTable.{empty_by};
 ghost use Rattle.fixing.specs.FixSteps.{fix_out, miss_decided};

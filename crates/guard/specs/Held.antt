@@ -13,8 +13,8 @@ use Rattle.rules.specs.Tests.{◌and◌}
 use Rattle.rules.specs.TestLaws.{and_no}
 use Rattle.machine.specs.Machine.{State, is_used, record_at, is_root}
 use Rattle.machine.specs.Rules.{handle_fits, locked}
-use Rattle.machine.specs.Laws.Ready.{Kept}
-use Rattle.machine.specs.Laws.RuleLaws.{HandleHeld}
+use Rattle.machine.proofs.Laws.Ready.{Kept}
+use Rattle.machine.proofs.Laws.RuleLaws.{HandleHeld}
 
 -- a refusal's number, with T and N
 abbrev pub tested_as : ℕ → ℕ → ℕ → Tested

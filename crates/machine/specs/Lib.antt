@@ -13,6 +13,3 @@ pub mod History
 pub mod Demand3
 pub mod LockedPages
 pub mod ByChain
--- Cases computed from them, laws of them for the code and the theorem, and the proofs of demand 3 and of what is said of locked pages and of the directory.
-pub mod Laws
-pub mod Theorem

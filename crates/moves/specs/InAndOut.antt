@@ -11,7 +11,7 @@ use Rattle.machine.specs.Machine.{State, state, record_at, page_in, loaded_recor
 use Rattle.chains.specs.Chain.{directory_size, bucket_of, entered, taken_out}
 use Rattle.machine.specs.Sweep.{childless}
 use Rattle.machine.specs.Moves.{vacate, occupy, evicted, loaded}
-use Rattle.machine.specs.Laws.Ready.{Sized, Ceiled, Ready}
+use Rattle.machine.proofs.Laws.Ready.{Sized, Ceiled, Ready}
 pub use Rattle.directory.specs.Homes.{Followed, followed}
 use Rattle.moves.specs.WriteOut.{Placeable, Writable, WrittenAsIs}
 use Rattle.moves.specs.MoveSteps.{has-place, place_inside, writable}

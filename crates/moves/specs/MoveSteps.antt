@@ -13,8 +13,8 @@ use Rattle.rules.specs.TestLaws.{every_true, pick_yes, pick_no}
 use Rattle.machine.specs.Machine.{State, state, cleaned, is_dirty, record_at, page_in, with_record, with_records}
 use Rattle.machine.specs.Moves.{image_to, written_out_by, written_out_to, cleaned_to, settled}
 use Rattle.machine.specs.Sweep.{childless}
-use Rattle.machine.specs.Laws.MoveLaws.{image-length, image-own, written_out_by-ext, written_out_to-zero, written_out_to-suc, cleaned_to-zero, cleaned_to-suc, cleaned_to-above}
-use Rattle.machine.specs.Laws.Ready.{Sized, Ceiled, Ready}
+use Rattle.machine.proofs.Laws.MoveLaws.{image-length, image-own, written_out_by-ext, written_out_to-zero, written_out_to-suc, cleaned_to-zero, cleaned_to-suc, cleaned_to-above}
+use Rattle.machine.proofs.Laws.Ready.{Sized, Ceiled, Ready}
 use Rattle.residents.specs.Residents.{page_by, Residents}
 use Rattle.residents.specs.ResidentLaws.{page-by}
 use Rattle.moves.specs.WriteOut.{Named, Placeable, Placed, Writable}

@@ -8,7 +8,7 @@ ghost use Rattle.std.specs.Prelude.{◌≡◌, []};
 ghost use Rattle.page.specs.StorePlaces.{store_place};
 ghost use Rattle.machine.specs.Machine.{state, loaded_record};
 ghost use Rattle.chains.specs.Chain.{bucket_of, entered};
-ghost use Rattle.machine.specs.Laws.Ready.{Ready};
+ghost use Rattle.machine.proofs.Laws.Ready.{Ready};
 ghost use Rattle.residents.specs.Residents.{Residents};
 ghost use Rattle.moves.specs.MoveSteps.{SettledAs};
 ghost use Rattle.moves.specs.InAndOut.{Removable, TakenOut, Fitting, brought_in};

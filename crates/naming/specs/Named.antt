@@ -11,11 +11,11 @@ use Rattle.page.specs.StorePlaces.{store_place, place-inj}
 use Rattle.rules.specs.Tests.{◌or◌}
 use Rattle.rules.specs.TestLaws.{case, on, off, same, is-off, or_left, or_right, or-second, some-true, true-some, pick_yes, pick_no}
 use Rattle.machine.specs.Machine.{State, page_in, occupied, found, found_in}
-use Rattle.machine.specs.Laws.AgreementFacts.{occupied-lt}
-use Rattle.machine.specs.Laws.FoundLaws.{found-is, found_none, none_found, found-records}
+use Rattle.machine.proofs.Laws.AgreementFacts.{occupied-lt}
+use Rattle.machine.proofs.Laws.FoundLaws.{found-is, found_none, none_found, found-records}
 use Rattle.machine.specs.Moves.{plain}
 use Rattle.machine.specs.Naming.{current_word, named, named_by_resident}
-use Rattle.machine.specs.Laws.Ready.{Kept}
+use Rattle.machine.proofs.Laws.Ready.{Kept}
 use Rattle.residents.specs.Residents.{Residents, in_table}
 use Rattle.residents.specs.ResidentLaws.{ResidentNames, names_of, of-names, table-in, not-in-table}
 use Rattle.naming.specs.Stored.{in_store, Stored, stored_of, of-stored}

@@ -9,7 +9,7 @@ use Rattle.rules.specs.Tests.{◌or◌, every}
 use Rattle.rules.specs.TestLaws.{true-every, every-ext}
 use Rattle.machine.specs.Machine.{State, state}
 use Rattle.machine.specs.Naming.{named, named_by_resident, loadable}
-use Rattle.machine.specs.Laws.Ready.{Kept}
+use Rattle.machine.proofs.Laws.Ready.{Kept}
 use Rattle.seen.specs.Among.{has_word, no_word}
 use Rattle.seen.specs.Seen.{Seen, noted, fresh}
 use Rattle.seen.specs.SeenLaws.{fresh-zero, fresh-ext}

@@ -9,7 +9,7 @@ use Rattle.machine.specs.Machine.{State, state}
 use Rattle.machine.specs.Answers.{Answer, refused, done, handle, payload, number, frame, nowhere, done_answer, Out, out}
 use Rattle.machine.specs.Calls.{decide, page_rules, find_call}
 use Rattle.machine.specs.ByChain.{without_count, find_by_frames}
-use Rattle.machine.specs.Laws.FindByChain.{as-by-frames}
+use Rattle.machine.proofs.Laws.FindByChain.{as-by-frames}
 use Rattle.machine.specs.History.{Call, root, fix, unfix, write, link, unlink, evict, settle, find, row}
 use Rattle.machine.specs.LockedPages.{without_mark}
 use Rattle.recording.specs.declared.lines.Line.{Line}

@@ -12,7 +12,7 @@ use Rattle.machine.specs.Moves.{settled, evicted, loaded}
 use Rattle.machine.specs.Calls.{decide, pool_rules, handle_rules, page_rules, root_rules, write_rules, link_rules, unlink_rules, evict_rules, miss_out, root_call, fix_call, unfix_call, write_call, link_call, unlink_call, evict_call, settle_call, find_call}
 use Rattle.machine.specs.History.{Call, Point, accepted, row}
 use Rattle.machine.specs.Demand3.{Holds}
-use Rattle.machine.specs.Laws.Outcomes.{lacks, answers-as, one-refusal, never-by, found-accepted}
+use Rattle.machine.proofs.Laws.Outcomes.{lacks, answers-as, one-refusal, never-by, found-accepted}
 use Rattle.recording.specs.Listing.{page_in_record, handle_in, parent_in, slot_in, offset_in, data_in, call_of, rule17, record_out}
 use Rattle.recording.specs.ListingLaws.{record-refused, record-runs}
 

@@ -14,13 +14,13 @@ use Rattle.machine.specs.Machine.{State, state, with_pool, blank, unpinned, reco
 use Rattle.chains.specs.Chain.{directory_size, opened_directory}
 use Rattle.machine.specs.Soundness.{sound}
 use Rattle.machine.specs.Sweep.{standing}
-use Rattle.machine.specs.Laws.Standings.{open-childless, stay_number, none_stays, stays-first}
+use Rattle.machine.proofs.Laws.Standings.{open-childless, stay_number, none_stays, stays-first}
 use Rattle.machine.specs.Moves.{evicted}
 use Rattle.machine.specs.Answers.{Out, out, done_answer}
 use Rattle.machine.specs.Rules.{lengths_fit, stores_fit, directory_fits, frames_in, pages_of_each, rule11}
 use Rattle.machine.specs.Calls.{change_record, root_frames, open_call, handle_rules, unfix_call, page_rules, stay_rules, evict_call}
-use Rattle.machine.specs.Laws.Ready.{of-directory, not-directory, ready}
-use Rattle.machine.specs.Laws.RuleLaws.{done-no, done-yes, HandleKept, handle-kept, page-passes}
+use Rattle.machine.proofs.Laws.Ready.{of-directory, not-directory, ready}
+use Rattle.machine.proofs.Laws.RuleLaws.{done-no, done-yes, HandleKept, handle-kept, page-passes}
 use Rattle.seen.specs.Seen.{Seen}
 use Rattle.residents.specs.Residents.{key_of}
 use Rattle.residents.specs.Handed.{Handed}

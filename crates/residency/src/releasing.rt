@@ -5,7 +5,7 @@ ghost use Rattle.machine.specs.Machine.{state};
 ghost use Rattle.machine.specs.Answers.{out, done_answer};
 ghost use Rattle.machine.specs.Calls.{unfix_call, evict_call};
 ghost use Rattle.machine.specs.Sweep.{standing};
-ghost use Rattle.machine.specs.Laws.Standings.{stay_number};
+ghost use Rattle.machine.proofs.Laws.Standings.{stay_number};
 
 use machine::{Done, FrameRecord, Handle, Pool, Standing};
 use page::{FrameIndex, PageNumber, StoreNumber};

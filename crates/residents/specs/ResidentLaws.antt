@@ -17,10 +17,10 @@ use Rattle.rules.specs.Tests.{◌and◌, ◌or◌}
 use Rattle.rules.specs.TestLaws.{clash, case, on, off, same, both, and_yes, and-true, or_left, or_right, or-second, some-true, true-some}
 use Rattle.machine.specs.Machine.{State, page_in, store_in, occupied, held}
 use Rattle.machine.specs.Agreement.{parent_of, parent_slot_of, is_blank}
-use Rattle.machine.specs.Laws.AgreementFacts.{occupied-lt, Points, Agreed}
+use Rattle.machine.proofs.Laws.AgreementFacts.{occupied-lt, Points, Agreed}
 use Rattle.machine.specs.Moves.{plain}
 use Rattle.machine.specs.Naming.{named_by_resident}
-use Rattle.machine.specs.Laws.PlainLaws.{plain-low, plain-high}
+use Rattle.machine.proofs.Laws.PlainLaws.{plain-low, plain-high}
 use Rattle.seen.specs.Among.{among, is_among, among-is}
 use Rattle.residents.specs.Residents.{key_of, key_by, page_by, store_by, Residents, in_table, holds_page, holds_of, held_by, in_frames}
 

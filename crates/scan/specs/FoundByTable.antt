@@ -14,11 +14,11 @@ use Rattle.rules.specs.Tests.{pick, ◌and◌, first_broken}
 use Rattle.rules.specs.TestLaws.{case, on, off, both, and_yes, and_no, or-none, pick_yes}
 use Rattle.machine.specs.Machine.{State, is_used, record_at, page_in, store_in, place_in, occupied, found_from, found_in}
 use Rattle.machine.specs.Sweep.{after, empty_from, first_empty}
-use Rattle.machine.specs.Laws.SweepLaws.{after-in}
-use Rattle.machine.specs.Laws.AgreementFacts.{occupied-used}
+use Rattle.machine.proofs.Laws.SweepLaws.{after-in}
+use Rattle.machine.proofs.Laws.AgreementFacts.{occupied-used}
 use Rattle.machine.specs.Calls.{page_rules}
-use Rattle.machine.specs.Laws.Ready.{Kept}
-use Rattle.machine.specs.Laws.RuleLaws.{PageKept, page-kept}
+use Rattle.machine.proofs.Laws.Ready.{Kept}
+use Rattle.machine.proofs.Laws.RuleLaws.{PageKept, page-kept}
 use Rattle.seen.specs.Seen.{Seen}
 use Rattle.residents.specs.Residents.{key_of, key_by, holds_page}
 use Rattle.residents.specs.ResidentLaws.{key-place, holds-page}

@@ -14,7 +14,7 @@ use Rattle.rules.specs.Tests.{pick, ◌and◌}
 use Rattle.rules.specs.TestLaws.{and_yes, and_no, pick_yes, pick_no, pick_two}
 use Rattle.machine.specs.Machine.{blank, frame_index, with_usage, record_at, is_of, at_ceiling}
 use Rattle.machine.specs.Sweep.{Class, rest, warm, yield, Kind, class_of, kind, kind_for, standing, Swept, after, look_leaves, look_takes, most_looks, sweep_from, sweep}
-use Rattle.machine.specs.Laws.SweepLaws.{after-in, Cooler, UsageBlind, looked, looked-cooler, looked-here, looked-other, for-usage-blind, cooled-from}
+use Rattle.machine.proofs.Laws.SweepLaws.{after-in, Cooler, UsageBlind, looked, looked-cooler, looked-here, looked-other, for-usage-blind, cooled-from}
 use Rattle.scan.specs.declared.Walk.{Walk}
 
 -- what a sweep sees of a frame, in one number: its class, and its usage in the lower two bits

@@ -15,11 +15,11 @@ use Rattle.machine.specs.Calls.{decide, pool_rules, open_rules, opened, open_cal
 use Rattle.machine.specs.Soundness.{words_below, words_once, sound_store, sound}
 use Rattle.machine.specs.History.{Call, Point, row, start, next, run, AllBytes}
 use Rattle.machine.specs.LockedPages.{Unmarked}
-use Rattle.machine.specs.Laws.Outcomes.{answers-as}
-use Rattle.machine.specs.Theorem.Invariant.{Invariant}
-use Rattle.machine.specs.Theorem.Steps.{step_keeps}
-use Rattle.machine.specs.Theorem.Demand3Holds.{holds, invariant-along}
-use Rattle.machine.specs.Theorem.NeverLockedHolds.{unmarked-locks, step-leaves}
+use Rattle.machine.proofs.Laws.Outcomes.{answers-as}
+use Rattle.machine.proofs.Theorem.Invariant.{Invariant}
+use Rattle.machine.proofs.Theorem.Steps.{step_keeps}
+use Rattle.machine.proofs.Theorem.Demand3Holds.{holds, invariant-along}
+use Rattle.machine.proofs.Theorem.NeverLockedHolds.{unmarked-locks, step-leaves}
 use Rattle.recording.specs.Listing.{listing_ceilings, call_of, record_out, length_in, data_in}
 use Rattle.recording.specs.ListingLaws.{listed-unmarked}
 use Rattle.recording.specs.OneStore.{same-stores, never-15-listed}

@@ -4,7 +4,7 @@ use native.Mathlib.Omega.{arith}
 use Rattle.page.specs.Word.{marked}
 use Rattle.machine.specs.Machine.{State, state, record_at}
 use Rattle.machine.specs.Calls.{link_call}
-use Rattle.machine.specs.Laws.RuleLaws.{EditKept, done-no}
+use Rattle.machine.proofs.Laws.RuleLaws.{EditKept, done-no}
 use Rattle.changes.specs.Changed.{linkable, link-done}
 use borrow.Author.Rules.{rules}
 use Rattle.changes.proofs.link.Statement.{statement}

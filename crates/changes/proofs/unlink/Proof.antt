@@ -3,7 +3,7 @@ use mathlib.Core.Path.{refl, ap}
 use native.Mathlib.Omega.{arith}
 use Rattle.machine.specs.Machine.{State, state, record_at}
 use Rattle.machine.specs.Calls.{unlink_call}
-use Rattle.machine.specs.Laws.RuleLaws.{EditKept, done-no}
+use Rattle.machine.proofs.Laws.RuleLaws.{EditKept, done-no}
 use Rattle.changes.specs.Changed.{unlinkable, unlink-done}
 use borrow.Author.Rules.{rules}
 use Rattle.changes.proofs.unlink.Statement.{statement}

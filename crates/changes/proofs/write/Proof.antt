@@ -4,7 +4,7 @@ use native.Mathlib.Omega.{arith}
 use lib.ListN.{length}
 use Rattle.machine.specs.Machine.{State, state, record_at}
 use Rattle.machine.specs.Calls.{write_call}
-use Rattle.machine.specs.Laws.RuleLaws.{done-no}
+use Rattle.machine.proofs.Laws.RuleLaws.{done-no}
 use Rattle.changes.specs.Changed.{WriteKept, write_kept, put_back, write-nothing, write_bytes}
 use borrow.Author.Rules.{rules}
 use Rattle.changes.proofs.write.Statement.{statement}

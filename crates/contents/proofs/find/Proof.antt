@@ -2,7 +2,7 @@
 use mathlib.Core.Path.{refl}
 use native.Mathlib.Omega.{arith}
 use Rattle.machine.specs.Calls.{find_call}
-use Rattle.machine.specs.Laws.RuleLaws.{answer-no}
+use Rattle.machine.proofs.Laws.RuleLaws.{answer-no}
 use Rattle.contents.specs.Lookup.{seekable, compared-few, frame-few, find_at, find_absent}
 use borrow.Author.Rules.{rules}
 use Rattle.contents.proofs.find.Statement.{statement}

@@ -5,7 +5,7 @@ use native.Mathlib.Omega.{arith}
 use Rattle.page.specs.StorePlaces.{store_place}
 use Rattle.machine.specs.Answers.{place_of}
 use Rattle.machine.specs.Calls.{peek_call}
-use Rattle.machine.specs.Laws.RuleLaws.{answer-no}
+use Rattle.machine.proofs.Laws.RuleLaws.{answer-no}
 use Rattle.guard.specs.Held.{number-tested, pages-tested}
 use Rattle.contents.specs.Lookup.{seekable, placeable, frame-few, peek-in-frame, peek-in-store}
 use borrow.Author.Rules.{rules}

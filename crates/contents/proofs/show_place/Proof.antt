@@ -3,7 +3,7 @@ use mathlib.Core.Path.{refl, ap, ◌∙◌}
 use Rattle.machine.specs.Answers.{place_of}
 use Rattle.machine.specs.Machine.{record_at}
 use Rattle.machine.specs.Calls.{show_call}
-use Rattle.machine.specs.Laws.RuleLaws.{answer-no, answer-yes}
+use Rattle.machine.proofs.Laws.RuleLaws.{answer-no, answer-yes}
 use borrow.Author.Rules.{rules}
 use Rattle.contents.proofs.show_place.Statement.{statement}
 use Rattle.contents.proofs.show_place.Tie as tie

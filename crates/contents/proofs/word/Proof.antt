@@ -4,7 +4,7 @@ use native.Mathlib.Omega.{arith}
 use Rattle.page.specs.Word.{is_marked, name_of}
 use Rattle.machine.specs.Machine.{State, state, record_at}
 use Rattle.machine.specs.Calls.{word_call}
-use Rattle.machine.specs.Laws.RuleLaws.{answer-no}
+use Rattle.machine.proofs.Laws.RuleLaws.{answer-no}
 use Rattle.contents.specs.Words.{slot-within, resolvable, word-names}
 use borrow.Author.Rules.{rules}
 use Rattle.contents.proofs.word.Statement.{statement}

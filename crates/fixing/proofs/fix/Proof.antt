@@ -4,7 +4,7 @@ use Prim.Native.Nat.{◌<◌}
 use native.Mathlib.Omega.{arith}
 use Rattle.page.specs.Figures.{most_frames}
 use Rattle.machine.specs.Machine.{state, record_at}
-use Rattle.machine.specs.Laws.RuleLaws.{SlotKept, slot_kept}
+use Rattle.machine.proofs.Laws.RuleLaws.{SlotKept, slot_kept}
 use Rattle.fixing.specs.FixSteps.{pin_decided}
 use Rattle.fixing.specs.StepLaws.{pin-denied, pin-given, fix-denied, fix-nothing, fix-missed, fix-pinned, number-below, frame_below}
 use borrow.Author.Rules.{rules}

@@ -6,7 +6,7 @@ use native.Mathlib.Omega.{arith}
 use Rattle.rules.specs.TestLaws.{kept_then, broken-here, none-broken}
 use Rattle.machine.specs.Machine.{State, state}
 use Rattle.machine.specs.Rules.{locked, rule26}
-use Rattle.machine.specs.Laws.RuleLaws.{SlotKept, slot_kept, slot-stops, slot-passes}
+use Rattle.machine.proofs.Laws.RuleLaws.{SlotKept, slot_kept, slot-stops, slot-passes}
 use Rattle.guard.specs.Held.{parent-within, is-locked}
 use Rattle.guard.proofs.edit_refusal.Statement.{statement}
 use Rattle.guard.proofs.edit_refusal.Tie as tie

@@ -5,7 +5,7 @@ use native.Mathlib.Omega.{arith}
 use Rattle.rules.specs.TestLaws.{call-no, call-yes, kept_then, broken-here, none-broken}
 use Rattle.machine.specs.Machine.{State, state}
 use Rattle.machine.specs.Rules.{rule3}
-use Rattle.machine.specs.Laws.RuleLaws.{store_kept, store-stops, store-passes}
+use Rattle.machine.proofs.Laws.RuleLaws.{store_kept, store-stops, store-passes}
 use Rattle.guard.specs.Held.{is_held}
 use borrow.Author.Rules.{rules}
 use Rattle.guard.proofs.handle_refusal.Statement.{statement}

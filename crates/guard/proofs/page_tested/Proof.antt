@@ -6,7 +6,7 @@ use borrow.Author.Tests.{lt-ltb, le-ltb}
 use Rattle.rules.specs.TestLaws.{kept_then, broken-here, none-broken}
 use Rattle.machine.specs.Machine.{State, state}
 use Rattle.machine.specs.Rules.{rule6}
-use Rattle.machine.specs.Laws.RuleLaws.{store-stops, store-passes}
+use Rattle.machine.proofs.Laws.RuleLaws.{store-stops, store-passes}
 use Rattle.guard.specs.Held.{number-tested, numbered-as, pages-tested}
 use borrow.Author.Rules.{rules}
 use Rattle.guard.proofs.page_tested.Statement.{statement}

@@ -9,8 +9,8 @@ use Rattle.machine.specs.Machine.{State, state}
 use Rattle.machine.specs.Agreement.{agree}
 use Rattle.machine.specs.Directory.{chains_agree}
 use Rattle.machine.specs.Rules.{lengths_fit, stores_fit, directory_fits}
-use Rattle.machine.specs.Laws.AgreementFacts.{facts}
-use Rattle.machine.specs.Laws.Ready.{Sized, Ceiled, lengths-of, stores-of, of-directory, not-directory}
+use Rattle.machine.proofs.Laws.AgreementFacts.{facts}
+use Rattle.machine.proofs.Laws.Ready.{Sized, Ceiled, lengths-of, stores-of, of-directory, not-directory}
 use Rattle.directory.specs.Homes.{decides-agree}
 use borrow.Author.Rules.{rules}
 use Rattle.guard.proofs.pool_refusal.Statement.{statement}

@@ -6,7 +6,7 @@ use borrow.Author.Tests.{lt-ltb, le-ltb}
 use Rattle.rules.specs.TestLaws.{kept_then, broken-here, none-broken}
 use Rattle.machine.specs.Machine.{State, state}
 use Rattle.machine.specs.Rules.{rule4}
-use Rattle.machine.specs.Laws.RuleLaws.{handle-stops, handle-passes}
+use Rattle.machine.proofs.Laws.RuleLaws.{handle-stops, handle-passes}
 use Rattle.guard.proofs.slot_refusal.Statement.{statement}
 use Rattle.guard.proofs.slot_refusal.Tie as tie
 

@@ -13,7 +13,7 @@ use Rattle.machine.specs.Machine.{State, state}
 use Rattle.machine.specs.Naming.{named}
 use Rattle.machine.specs.Rules.{word_of, rule6-link, rule8, rule9}
 use Rattle.machine.specs.Calls.{link_rules}
-use Rattle.machine.specs.Laws.RuleLaws.{EditKept, edit-kept, edit-stops, edit-passes}
+use Rattle.machine.proofs.Laws.RuleLaws.{EditKept, edit-kept, edit-stops, edit-passes}
 use Rattle.seen.specs.Seen.{Seen}
 use Rattle.residents.specs.Handed.{Handed}
 use Rattle.naming.specs.NamedByTables.{named_by, named-by-tables}

@@ -11,7 +11,7 @@ use Rattle.rules.specs.TestLaws.{call-no, call-yes, kept_then, broken-here, none
 use Rattle.machine.specs.Machine.{State, state}
 use Rattle.machine.specs.Rules.{word_of, rule7, rule10}
 use Rattle.machine.specs.Calls.{unlink_rules}
-use Rattle.machine.specs.Laws.RuleLaws.{EditKept, edit-kept, edit-stops, edit-passes}
+use Rattle.machine.proofs.Laws.RuleLaws.{EditKept, edit-kept, edit-stops, edit-passes}
 use borrow.Author.Rules.{rules}
 use Rattle.changes.proofs.refusals.unlink_refusal.Statement.{statement}
 use Rattle.changes.proofs.refusals.unlink_refusal.Tie as tie

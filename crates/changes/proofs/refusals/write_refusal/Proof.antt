@@ -8,7 +8,7 @@ use Rattle.rules.specs.TestLaws.{call-no, call-yes, kept_then, broken-here, none
 use Rattle.machine.specs.Machine.{State, state}
 use Rattle.machine.specs.Rules.{locked, rule5, rule26}
 use Rattle.machine.specs.Calls.{write_rules}
-use Rattle.machine.specs.Laws.RuleLaws.{HandleKept, handle-kept, handle-stops, handle-passes}
+use Rattle.machine.proofs.Laws.RuleLaws.{HandleKept, handle-kept, handle-stops, handle-passes}
 use Rattle.guard.specs.Held.{parent-within, is-locked}
 use borrow.Author.Rules.{rules}
 use Rattle.changes.proofs.refusals.write_refusal.Statement.{statement}

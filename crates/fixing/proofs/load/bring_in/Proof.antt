@@ -13,7 +13,7 @@ use Rattle.machine.specs.Machine.{State, state, ceiling_of, at_ceiling}
 use Rattle.machine.specs.Sweep.{kind_for, first_empty}
 use Rattle.machine.specs.Naming.{loadable}
 use Rattle.machine.specs.Answers.{Out}
-use Rattle.machine.specs.Laws.Ready.{ready}
+use Rattle.machine.proofs.Laws.Ready.{ready}
 use Rattle.scan.specs.Walk.{Sees, sees-none, sees-next, sight-for}
 use Rattle.moves.specs.InAndOut.{followed, fitting}
 use Rattle.fixing.specs.FixSteps.{miss_decided, swept_decided}

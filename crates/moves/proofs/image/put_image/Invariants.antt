@@ -9,7 +9,7 @@ use Rattle.page.specs.Figures.{page_size, slot_count, word_size, most_frames}
 use Rattle.page.specs.Word.{word_at, name_of, put_word, put_word-length, frame_word}
 use Rattle.page.specs.Page.{slot-first, put_slot-first}
 use Rattle.machine.specs.Moves.{imaged, image_to}
-use Rattle.machine.specs.Laws.MoveLaws.{image-suc, image-zero}
+use Rattle.machine.proofs.Laws.MoveLaws.{image-suc, image-zero}
 use Rattle.residents.specs.Residents.{page_by}
 use Rattle.moves.specs.WriteOut.{Named}
 use Rattle.moves.proofs.image.put_image.Given as goal

@@ -4,7 +4,7 @@ use mathlib.Core.Bool.{true}
 use native.Mathlib.Omega.{arith}
 use Rattle.rules.specs.TestLaws.{call-no, call-yes}
 use Rattle.machine.specs.Rules.{lengths_fit, stores_fit, frames_in, pages_of_each}
-use Rattle.machine.specs.Laws.Ready.{Lengths, Stores, lengths-of, stores-of}
+use Rattle.machine.proofs.Laws.Ready.{Lengths, Stores, lengths-of, stores-of}
 use Rattle.residency.specs.CallLaws.{open-no-stores, open-unfit, open-no-directory, open-unsound, open_done}
 use borrow.Author.Rules.{rules}
 use Rattle.residency.proofs.opening.open.Statement.{statement}

@@ -2,7 +2,7 @@
 use mathlib.Core.Path.{refl}
 use native.Mathlib.Omega.{arith}
 use Rattle.machine.specs.Calls.{evict_call}
-use Rattle.machine.specs.Laws.RuleLaws.{page-stops, done-no}
+use Rattle.machine.proofs.Laws.RuleLaws.{page-stops, done-no}
 use Rattle.scan.specs.FoundByTable.{few-frames, sought-fits}
 use Rattle.residency.specs.CallLaws.{evict-absent, evict-stays, evict-removable, evict-done}
 use borrow.Author.Rules.{rules}

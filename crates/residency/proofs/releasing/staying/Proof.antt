@@ -1,7 +1,7 @@
 -- `residency::releasing::staying` meets its contract. Assumes nothing.
 use mathlib.Core.Path.{ap, sym, ◌∙◌}
 use borrow.Author.Rules.{rules}
-use Rattle.machine.specs.Laws.Standings.{stay_number}
+use Rattle.machine.proofs.Laws.Standings.{stay_number}
 use Rattle.residency.proofs.releasing.staying.Statement.{statement}
 use Rattle.residency.proofs.releasing.staying.Tie as tie
 

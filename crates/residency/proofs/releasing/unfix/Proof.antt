@@ -2,7 +2,7 @@
 use mathlib.Core.Path.{refl, ap}
 use Rattle.machine.specs.Machine.{record_at}
 use Rattle.machine.specs.Calls.{unfix_call}
-use Rattle.machine.specs.Laws.RuleLaws.{done-no}
+use Rattle.machine.proofs.Laws.RuleLaws.{done-no}
 use Rattle.residency.specs.CallLaws.{unfix-pinned, unfix-done}
 use borrow.Author.Rules.{rules}
 use Rattle.residency.proofs.releasing.unfix.Statement.{statement}

@@ -2,8 +2,8 @@
 use mathlib.Core.Path.{sym, ◌∙◌}
 use mathlib.Core.List.{[]}
 use Rattle.machine.specs.Calls.{settle_call}
-use Rattle.machine.specs.Laws.Ready.{rules-kept, ready}
-use Rattle.machine.specs.Laws.RuleLaws.{done-no, done-yes}
+use Rattle.machine.proofs.Laws.Ready.{rules-kept, ready}
+use Rattle.machine.proofs.Laws.RuleLaws.{done-no, done-yes}
 use Rattle.moves.specs.MoveSteps.{ready_with}
 use borrow.Author.Rules.{rules}
 use Rattle.residency.proofs.settling.settle.Statement.{statement}
