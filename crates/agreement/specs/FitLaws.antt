@@ -15,7 +15,6 @@ use Rattle.page.specs.Figures.{slot_count, page_size, word_size, most_pages}
 use Rattle.page.specs.Word.{word_at}
 use Rattle.page.specs.Page.{slot}
 use Rattle.machine.specs.declared.FrameRecord.{FrameRecord}
-use Rattle.rules.specs.Tests.{◌and◌}
 use Rattle.rules.specs.TestLaws.{case, on, off, pick_yes, pick_no, both, and-true, and_yes, and_no, clash}
 use Rattle.machine.specs.Machine.{is_used, record_at, page_in, store_in}
 use Rattle.machine.specs.Agreement.{is_blank}

@@ -10,7 +10,6 @@ use Rattle.page.specs.Word.{name_of, frame_in, frame_word, Number, Swizzled, hig
 use Rattle.page.specs.Page.{name}
 use Rattle.machine.specs.declared.FrameRecord.{FrameRecord}
 use Rattle.machine.specs.declared.Pool.{Pool}
-use Rattle.rules.specs.Tests.{◌and◌}
 use Rattle.rules.specs.TestLaws.{clash, case, on, off, is-off, both, and-true}
 use Rattle.chains.specs.Chain.{tally}
 use Rattle.machine.specs.Machine.{is_used, is_of, record_at, page_in, store_in, place_in, occupied, held, ceiling_of}
