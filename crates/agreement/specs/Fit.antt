@@ -9,7 +9,7 @@ use Rattle.rules.specs.Tests.{pick, ◌and◌}
 use Rattle.chains.specs.Chain.{tally}
 use Rattle.machine.specs.Machine.{is_used, is_of, record_at, page_in, store_in}
 use Rattle.machine.specs.Agreement.{agree}
-use Rattle.machine.specs.Laws.Parents.{climb}
+use Rattle.machine.proofs.Laws.Parents.{climb}
 use Rattle.seen.specs.Seen.{Seen, OneStore, WithinStore}
 use Rattle.residents.specs.Residents.{key_of, store_by, Residents, holds_page, held_by}
 use Rattle.residents.specs.Handed.{Handed}

@@ -8,7 +8,7 @@ use Rattle.machine.specs.declared.Pool.{Pool}
 use Rattle.rules.specs.Tests.{◌or◌}
 use Rattle.rules.specs.TestLaws.{case, on, off, same, or_left, or_right, or-second}
 use Rattle.machine.specs.Machine.{State, state, page_in, store_in, occupied}
-use Rattle.machine.specs.Laws.AgreementFacts.{occupied-lt, occupied-used, Agreed, facts}
+use Rattle.machine.proofs.Laws.AgreementFacts.{occupied-lt, occupied-used, Agreed, facts}
 use Rattle.machine.specs.Naming.{named_by_resident}
 use Rattle.seen.specs.Among.{among, is_among, among-is}
 use Rattle.seen.specs.Seen.{Seen}

@@ -2,7 +2,7 @@
 use Rattle.std.specs.Prelude.{ℕ, zero, suc, ◌+◌, ◌-◌, ◌<◌, ◌≤◌, ◌≡◌, refl, ◌≢◌, Bool, true, false, List, length, set}
 use Rattle.std.proofs.Common.{sym, ◌∙◌, ap, arith, length-set, get_or-set_same, get_or-set_other}
 use Rattle.std.proofs.Math.Decide.{ℕ_discrete}
-use Rattle.machine.specs.Laws.Parents.{climb, climb-add, climb-below, climb-more, climb-few}
+use Rattle.machine.proofs.Laws.Parents.{climb, climb-add, climb-below, climb-more, climb-few}
 use Rattle.rules.specs.Deciding.{Decides, decided, decide-flag}
 use Rattle.agreement.specs.Fit.{entry, AllLead}
 

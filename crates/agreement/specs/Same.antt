@@ -14,8 +14,8 @@ use Rattle.rules.specs.TestLaws.{clash, case, on, off, is-off, both, and-true}
 use Rattle.chains.specs.Chain.{tally}
 use Rattle.machine.specs.Machine.{is_used, is_of, record_at, page_in, store_in, place_in, occupied, held, ceiling_of}
 use Rattle.machine.specs.Agreement.{parent_of, parent_slot_of, agree}
-use Rattle.machine.specs.Laws.AgreementFacts.{occupied-lt, occupied-used, make-occupied, InRange, Points, Agreed, facts, tests}
-use Rattle.machine.specs.Laws.Parents.{climb, climb-zero, climb-suc, climb-add, climb-reach, reach-climb}
+use Rattle.machine.proofs.Laws.AgreementFacts.{occupied-lt, occupied-used, make-occupied, InRange, Points, Agreed, facts, tests}
+use Rattle.machine.proofs.Laws.Parents.{climb, climb-zero, climb-suc, climb-add, climb-reach, reach-climb}
 use Rattle.seen.specs.Seen.{Seen}
 use Rattle.residents.specs.Residents.{key_of, held_by}
 use Rattle.agreement.specs.Sizes.{Sizes}
