@@ -1,0 +1,20 @@
+-- `guard::is_locked` meets its contract: a root, and then the mark of the parent's word. Assumes nothing.
+use mathlib.Core.Path.{ap, ◌∙◌}
+use mathlib.Core.Bool.{not}
+use borrow.Author.Tests.{lt-ltb, le-ltb}
+use Rattle.page.specs.Word.{is_marked}
+use Rattle.page.specs.Page.{slot}
+use Rattle.rules.specs.TestLaws.{and_yes, and_no}
+use Rattle.guard.specs.Held.{held_locked}
+use borrow.Author.Rules.{rules}
+use Rattle.guard.proofs.is_locked.Goals as goal
+
+-- a root
+pub returns-then-frame-stores : goal.returns-then-frame-stores
+unfolding held_locked
+returns-then-frame-stores c = and_no _ (ap not (lt-ltb _ _ c.if-frame-stores.true))
+
+-- by the mark
+pub returns : goal.returns
+unfolding held_locked
+returns c = and_yes (ap not (le-ltb _ _ c.if-frame-stores.false)) (c.is_marked.ensures ∙ ap is_marked (c.slot_word.ensures ∙ ap (slot _ _) c.from_u8-slot.ensures))
