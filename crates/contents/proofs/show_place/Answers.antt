@@ -8,7 +8,7 @@ use borrow.Author.Rules.{rules}
 use Rattle.contents.proofs.show_place.Goals as goal
 
 pub handle_refusal-refusal-requires : goal.handle_refusal-refusal-requires
-handle_refusal-refusal-requires c = (ap (record_at c.args.t1.records) c.record_place-at.ensures, record { no_page = refl; none_seen = refl })
+handle_refusal-refusal-requires c = (ap (record_at c.args.pool.records) c.record_place-at.ensures, record { no_page = refl; none_seen = refl })
 
 pub returns-then-refusal-ne0 : goal.returns-then-refusal-ne0
 unfolding show_call
