@@ -19,7 +19,7 @@ returns-then-refusal-ne0 c = done-no _ _ _ c.link_refusal-refusal.ensures c.if-r
 
 pub marked-word-requires : goal.marked-word-requires
 marked-word-requires c =
-    let page-in-bits = c.well-formed.1.1.1.1.1.1.0 in
+    let page-in-bits = c.well_formed.1.1.1.1.1.1.0 in
     omega (arith, c.word.ensures, page-in-bits)
 
 pub put_in_slot-requires : goal.put_in_slot-requires

@@ -36,11 +36,11 @@ returns-then-refusal-ne0 c = edit-stops ((state c.args.pool c.args.frames.now c.
 
 -- rule 6: page 0
 pub returns-then-page-eq0 : goal.returns-then-page-eq0
-returns-then-page-eq0 c = passed c (sym (broken-here 6 _ (no-page _ _ c.if-page-eq0.true)))
+returns-then-page-eq0 c = (edit-passes ((state c.args.pool c.args.frames.now c.args.store.now c.args.directory.now)) c.args.handle c.args.slot ((rule6-link ((state c.args.pool c.args.frames.now c.args.store.now c.args.directory.now)) c.args.page.0 ∷ (let s = (state c.args.pool c.args.frames.now c.args.store.now c.args.directory.now) in rule9 s c.args.handle.store.0 c.args.page.0 ∷ rule8 (word_of s c.args.handle c.args.slot) ∷ []))) c.edit_refusal-refusal.ensures.0 c.if-refusal-ne0.false) (sym (broken-here 6 _ (no-page _ _ c.if-page-eq0.true)))
 
 -- rule 6: a page from N on
 pub returns-then-pages-page : goal.returns-then-pages-page
-returns-then-pages-page c = passed c (sym (broken-here 6 _ (past-pages _ _ c.if-page-eq0.false (omega (arith, c.requires.2, c.if-pages-page.true)))))
+returns-then-pages-page c = (edit-passes ((state c.args.pool c.args.frames.now c.args.store.now c.args.directory.now)) c.args.handle c.args.slot ((rule6-link ((state c.args.pool c.args.frames.now c.args.store.now c.args.directory.now)) c.args.page.0 ∷ (let s = (state c.args.pool c.args.frames.now c.args.store.now c.args.directory.now) in rule9 s c.args.handle.store.0 c.args.page.0 ∷ rule8 (word_of s c.args.handle c.args.slot) ∷ []))) c.edit_refusal-refusal.ensures.0 c.if-refusal-ne0.false) (sym (broken-here 6 _ (past-pages _ _ c.if-page-eq0.false (omega (arith, c.requires.2, c.if-pages-page.true)))))
 
 pub is_named-requires : goal.is_named-requires
 is_named-requires c =
@@ -51,7 +51,11 @@ is_named-requires c =
 
 -- rule 9
 pub returns-then-is_named : goal.returns-then-is_named
-returns-then-is_named c = passed-number c (sym (broken-here 9 _ (ap not (sym ((c.is_named.ensures ∙ told c (c.edit_refusal-refusal.ensures.1 c.if-refusal-ne0.left))) ∙ c.if-is_named.true))))
+returns-then-is_named c =
+    ((edit-passes ((state c.args.pool c.args.frames.now c.args.store.now c.args.directory.now)) c.args.handle c.args.slot ((rule6-link ((state c.args.pool c.args.frames.now c.args.store.now c.args.directory.now)) c.args.page.0 ∷ (let s = (state c.args.pool c.args.frames.now c.args.store.now c.args.directory.now) in rule9 s c.args.handle.store.0 c.args.page.0 ∷ rule8 (word_of s c.args.handle c.args.slot) ∷ []))) c.edit_refusal-refusal.ensures.0 c.if-refusal-ne0.false) ((sym (broken-here 9 _ (ap not (sym ((let it : c.is_named.result ≡ named ((state c.args.pool c.args.frames.now c.args.store.now c.args.directory.now)) c.args.handle.store.0 c.args.page.0 = c.is_named.ensures ∙ (let z = c.if-page-eq0.false in
+    let k = (edit-kept ((state c.args.pool c.args.frames.now c.args.store.now c.args.directory.now)) c.args.handle c.args.slot (sym c.edit_refusal-refusal.ensures.0 ∙ c.if-refusal-ne0.false)) in
+    ap (λ (n : ℕ). named_by c.edit_refusal-refusal.new.residents c.edit_refusal-refusal.new.seen c.args.store.now n c.args.handle.store.0 c.args.page.0) c.requires.2
+    ∙ named-by-tables ((state c.args.pool c.args.frames.now c.args.store.now c.args.directory.now)) k.kept (c.edit_refusal-refusal.ensures.1 c.if-refusal-ne0.false) c.args.handle.store.0 k.store c.args.page.0 (omega arith) ((let it : c.args.page.0 < c.args.pool.pages = omega (arith, c.requires.2, c.if-pages-page.false) in it))) in it)) ∙ c.if-is_named.true)))) ∙ sym (kept_then 6 _ ((let it : (ltb 0 c.args.page.0 and ltb c.args.page.0 c.args.pool.pages) ≡ true = a-page _ _ c.if-page-eq0.false ((let it : c.args.page.0 < c.args.pool.pages = omega (arith, c.requires.2, c.if-pages-page.false) in it)) in it)))))
 
 pub slot_name-requires : goal.slot_name-requires
 slot_name-requires c = let k = (edit-kept ((state c.args.pool c.args.frames.now c.args.store.now c.args.directory.now)) c.args.handle c.args.slot (sym c.edit_refusal-refusal.ensures.0 ∙ c.if-refusal-ne0.false)) in (omega arith, k.slot)
@@ -59,11 +63,15 @@ slot_name-requires c = let k = (edit-kept ((state c.args.pool c.args.frames.now 
 -- rule 8
 pub returns-then-slot_name-ne-NOTHING : goal.returns-then-slot_name-ne-NOTHING
 returns-then-slot_name-ne-NOTHING c =
-    passed-number c
-    (sym (kept_then 9 _ (ap not (sym ((c.is_named.ensures ∙ told c (c.edit_refusal-refusal.ensures.1 c.if-refusal-ne0.left))) ∙ c.if-is_named.false)) ∙ broken-here 8 [] (ne_eqb _ 0 (λ z. c.if-slot_name-ne-NOTHING.true (c.slot_name.ensures ∙ z)))))
+    ((edit-passes ((state c.args.pool c.args.frames.now c.args.store.now c.args.directory.now)) c.args.handle c.args.slot ((rule6-link ((state c.args.pool c.args.frames.now c.args.store.now c.args.directory.now)) c.args.page.0 ∷ (let s = (state c.args.pool c.args.frames.now c.args.store.now c.args.directory.now) in rule9 s c.args.handle.store.0 c.args.page.0 ∷ rule8 (word_of s c.args.handle c.args.slot) ∷ []))) c.edit_refusal-refusal.ensures.0 c.if-refusal-ne0.false) ((sym (kept_then 9 _ (ap not (sym ((let it : c.is_named.result ≡ named ((state c.args.pool c.args.frames.now c.args.store.now c.args.directory.now)) c.args.handle.store.0 c.args.page.0 = c.is_named.ensures ∙ (let z = c.if-page-eq0.false in
+    let k = (edit-kept ((state c.args.pool c.args.frames.now c.args.store.now c.args.directory.now)) c.args.handle c.args.slot (sym c.edit_refusal-refusal.ensures.0 ∙ c.if-refusal-ne0.false)) in
+    ap (λ (n : ℕ). named_by c.edit_refusal-refusal.new.residents c.edit_refusal-refusal.new.seen c.args.store.now n c.args.handle.store.0 c.args.page.0) c.requires.2
+    ∙ named-by-tables ((state c.args.pool c.args.frames.now c.args.store.now c.args.directory.now)) k.kept (c.edit_refusal-refusal.ensures.1 c.if-refusal-ne0.false) c.args.handle.store.0 k.store c.args.page.0 (omega arith) ((let it : c.args.page.0 < c.args.pool.pages = omega (arith, c.requires.2, c.if-pages-page.false) in it))) in it)) ∙ c.if-is_named.false)) ∙ broken-here 8 [] (ne_eqb _ 0 (λ z. c.if-slot_name-ne-NOTHING.true (c.slot_name.ensures ∙ z))))) ∙ sym (kept_then 6 _ ((let it : (ltb 0 c.args.page.0 and ltb c.args.page.0 c.args.pool.pages) ≡ true = a-page _ _ c.if-page-eq0.false ((let it : c.args.page.0 < c.args.pool.pages = omega (arith, c.requires.2, c.if-pages-page.false) in it)) in it)))))
 
 -- no rule is broken
 pub returns : goal.returns
 returns c =
-    passed-number c
-    (sym (kept_then 9 _ (ap not (sym ((c.is_named.ensures ∙ told c (c.edit_refusal-refusal.ensures.1 c.if-refusal-ne0.left))) ∙ c.if-is_named.false)) ∙ kept_then 8 [] (eq-eqb _ 0 (sym c.slot_name.ensures ∙ c.if-slot_name-ne-NOTHING.false)) ∙ none-broken))
+    ((edit-passes ((state c.args.pool c.args.frames.now c.args.store.now c.args.directory.now)) c.args.handle c.args.slot ((rule6-link ((state c.args.pool c.args.frames.now c.args.store.now c.args.directory.now)) c.args.page.0 ∷ (let s = (state c.args.pool c.args.frames.now c.args.store.now c.args.directory.now) in rule9 s c.args.handle.store.0 c.args.page.0 ∷ rule8 (word_of s c.args.handle c.args.slot) ∷ []))) c.edit_refusal-refusal.ensures.0 c.if-refusal-ne0.false) ((sym (kept_then 9 _ (ap not (sym ((let it : c.is_named.result ≡ named ((state c.args.pool c.args.frames.now c.args.store.now c.args.directory.now)) c.args.handle.store.0 c.args.page.0 = c.is_named.ensures ∙ (let z = c.if-page-eq0.false in
+    let k = (edit-kept ((state c.args.pool c.args.frames.now c.args.store.now c.args.directory.now)) c.args.handle c.args.slot (sym c.edit_refusal-refusal.ensures.0 ∙ c.if-refusal-ne0.false)) in
+    ap (λ (n : ℕ). named_by c.edit_refusal-refusal.new.residents c.edit_refusal-refusal.new.seen c.args.store.now n c.args.handle.store.0 c.args.page.0) c.requires.2
+    ∙ named-by-tables ((state c.args.pool c.args.frames.now c.args.store.now c.args.directory.now)) k.kept (c.edit_refusal-refusal.ensures.1 c.if-refusal-ne0.false) c.args.handle.store.0 k.store c.args.page.0 (omega arith) ((let it : c.args.page.0 < c.args.pool.pages = omega (arith, c.requires.2, c.if-pages-page.false) in it))) in it)) ∙ c.if-is_named.false)) ∙ kept_then 8 [] (eq-eqb _ 0 (sym c.slot_name.ensures ∙ c.if-slot_name-ne-NOTHING.false)) ∙ none-broken)) ∙ sym (kept_then 6 _ ((let it : (ltb 0 c.args.page.0 and ltb c.args.page.0 c.args.pool.pages) ≡ true = a-page _ _ c.if-page-eq0.false ((let it : c.args.page.0 < c.args.pool.pages = omega (arith, c.requires.2, c.if-pages-page.false) in it)) in it)))))

@@ -24,16 +24,16 @@ slot_name-name-requires c = let k = (edit-kept ((state c.args.pool c.args.frames
 
 -- rule 7
 pub returns-then-name-eq-NOTHING : goal.returns-then-name-eq-NOTHING
-returns-then-name-eq-NOTHING c = passed c (sym (broken-here 7 _ (ap not (eq-eqb _ 0 (sym c.slot_name-name.ensures ∙ c.if-name-eq-NOTHING.true)))))
+returns-then-name-eq-NOTHING c = (edit-passes ((state c.args.pool c.args.frames.now c.args.store.now c.args.directory.now)) c.args.handle c.args.slot ((let w = word_of ((state c.args.pool c.args.frames.now c.args.store.now c.args.directory.now)) c.args.handle c.args.slot in rule7 w ∷ rule10 w ∷ [])) c.edit_refusal-refusal.ensures.0 c.if-refusal-ne0.false) (sym (broken-here 7 _ (ap not (eq-eqb _ 0 (sym c.slot_name-name.ensures ∙ c.if-name-eq-NOTHING.true)))))
 
 -- rule 10
 pub returns-then-not-is_number : goal.returns-then-not-is_number
 returns-then-not-is_number c =
-    passed c
+    (edit-passes ((state c.args.pool c.args.frames.now c.args.store.now c.args.directory.now)) c.args.handle c.args.slot ((let w = word_of ((state c.args.pool c.args.frames.now c.args.store.now c.args.directory.now)) c.args.handle c.args.slot in rule7 w ∷ rule10 w ∷ [])) c.edit_refusal-refusal.ensures.0 c.if-refusal-ne0.false)
     (sym (kept_then 7 _ (ap not (ne_eqb _ 0 (λ z. c.if-name-eq-NOTHING.false (c.slot_name-name.ensures ∙ z)))) ∙ broken-here 10 [] (sym (c.is_number.ensures ∙ ap is_number c.slot_name-name.ensures) ∙ c.if-not-is_number.true)))
 
 -- no rule is broken
 pub returns : goal.returns
 returns c =
-    passed c
+    (edit-passes ((state c.args.pool c.args.frames.now c.args.store.now c.args.directory.now)) c.args.handle c.args.slot ((let w = word_of ((state c.args.pool c.args.frames.now c.args.store.now c.args.directory.now)) c.args.handle c.args.slot in rule7 w ∷ rule10 w ∷ [])) c.edit_refusal-refusal.ensures.0 c.if-refusal-ne0.false)
     (sym (kept_then 7 _ (ap not (ne_eqb _ 0 (λ z. c.if-name-eq-NOTHING.false (c.slot_name-name.ensures ∙ z)))) ∙ kept_then 10 [] (sym (c.is_number.ensures ∙ ap is_number c.slot_name-name.ensures) ∙ c.if-not-is_number.false) ∙ none-broken))

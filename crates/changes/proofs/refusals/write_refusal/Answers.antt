@@ -19,7 +19,7 @@ returns-then-refusal-ne0 c = handle-stops ((state c.args.pool c.args.frames.now 
 
 -- rule 5
 pub returns-then-not-range_fits : goal.returns-then-not-range_fits
-returns-then-not-range_fits c = passed c (sym (broken-here 5 _ (sym c.range_fits.ensures ∙ c.if-not-range_fits.true)))
+returns-then-not-range_fits c = (handle-passes ((state c.args.pool c.args.frames.now c.args.store.now c.args.directory.now)) c.args.handle ((rule5 c.args.offset c.args.n ∷ rule26 ((state c.args.pool c.args.frames.now c.args.store.now c.args.directory.now)) c.args.handle ∷ [])) c.handle_refusal-refusal.ensures.0 c.if-refusal-ne0.false) (sym (broken-here 5 _ (sym c.range_fits.ensures ∙ c.if-not-range_fits.true)))
 
 pub is_locked-requires : goal.is_locked-requires
 is_locked-requires c =
@@ -29,11 +29,11 @@ is_locked-requires c =
 -- rule 26
 pub returns-then-is_locked : goal.returns-then-is_locked
 returns-then-is_locked c =
-    passed-range c (sym (broken-here 26 [] (ap not (sym ((let k = (handle-kept ((state c.args.pool c.args.frames.now c.args.store.now c.args.directory.now)) c.args.handle (sym c.handle_refusal-refusal.ensures.0 ∙ c.if-refusal-ne0.false)) in
-    is-locked ((state c.args.pool c.args.frames.now c.args.store.now c.args.directory.now)) c.args.handle k.kept k.held c.requires.0 c.requires.1 c.is_locked.ensures)) ∙ c.if-is_locked.true))))
+    ((handle-passes ((state c.args.pool c.args.frames.now c.args.store.now c.args.directory.now)) c.args.handle ((rule5 c.args.offset c.args.n ∷ rule26 ((state c.args.pool c.args.frames.now c.args.store.now c.args.directory.now)) c.args.handle ∷ [])) c.handle_refusal-refusal.ensures.0 c.if-refusal-ne0.false) ((sym (broken-here 26 [] (ap not (sym ((let k = (handle-kept ((state c.args.pool c.args.frames.now c.args.store.now c.args.directory.now)) c.args.handle (sym c.handle_refusal-refusal.ensures.0 ∙ c.if-refusal-ne0.false)) in
+    is-locked ((state c.args.pool c.args.frames.now c.args.store.now c.args.directory.now)) c.args.handle k.kept k.held c.requires.0 c.requires.1 c.is_locked.ensures)) ∙ c.if-is_locked.true)))) ∙ sym (kept_then 5 _ (sym c.range_fits.ensures ∙ c.if-not-range_fits.false))))
 
 -- no rule is broken
 pub returns : goal.returns
 returns c =
-    passed-range c (sym (kept_then 26 [] (ap not (sym ((let k = (handle-kept ((state c.args.pool c.args.frames.now c.args.store.now c.args.directory.now)) c.args.handle (sym c.handle_refusal-refusal.ensures.0 ∙ c.if-refusal-ne0.false)) in
-    is-locked ((state c.args.pool c.args.frames.now c.args.store.now c.args.directory.now)) c.args.handle k.kept k.held c.requires.0 c.requires.1 c.is_locked.ensures)) ∙ c.if-is_locked.false)) ∙ none-broken))
+    ((handle-passes ((state c.args.pool c.args.frames.now c.args.store.now c.args.directory.now)) c.args.handle ((rule5 c.args.offset c.args.n ∷ rule26 ((state c.args.pool c.args.frames.now c.args.store.now c.args.directory.now)) c.args.handle ∷ [])) c.handle_refusal-refusal.ensures.0 c.if-refusal-ne0.false) ((sym (kept_then 26 [] (ap not (sym ((let k = (handle-kept ((state c.args.pool c.args.frames.now c.args.store.now c.args.directory.now)) c.args.handle (sym c.handle_refusal-refusal.ensures.0 ∙ c.if-refusal-ne0.false)) in
+    is-locked ((state c.args.pool c.args.frames.now c.args.store.now c.args.directory.now)) c.args.handle k.kept k.held c.requires.0 c.requires.1 c.is_locked.ensures)) ∙ c.if-is_locked.false)) ∙ none-broken)) ∙ sym (kept_then 5 _ (sym c.range_fits.ensures ∙ c.if-not-range_fits.false))))
