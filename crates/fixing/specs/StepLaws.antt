@@ -129,7 +129,7 @@ module _ (s : State) {t : ℕ} {r : Walk} {m : Pool} (T : Took s t r m) where
   swept = with_pool s (with_swept s.pool ended)
 
   ready-still : Ready swept
-  ready-still = rw T.swept (swept-ready s t T.ready)
+  ready-still = subst (λ (x : Swept). Ready (with_pool s (with_swept s.pool x))) (sym T.swept) (swept-ready s t T.ready)
 
   victim-open : (r.frame.0 < s.pool.count) × (childless s.frames r.frame.0 ≡ true)
   victim-open =

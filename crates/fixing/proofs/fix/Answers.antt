@@ -35,17 +35,17 @@ pub returns-then-is_number : goal.returns-then-is_number
 returns-then-is_number c = fix-missed _ _ _ c.slot_refusal-refusal.ensures.0 c.if-refusal-ne0.false c.slot_name-name.ensures c.if-name-eq-NOTHING.false (sym c.is_number.ensures ∙ c.if-is_number.true) c.bring_in.ensures
 
 pub bounds-next-g : goal.bounds-next-g
-bounds-next-g c = (let b = frame_below _ _ _ ((slot_kept _ _ _ (sym c.slot_refusal-refusal.ensures.0 ∙ c.if-refusal-ne0.false))) c.slot_name-name.ensures (sym c.is_number.ensures ∙ c.if-is_number.false) in let e = c.frame_in-g.ensures in omega arith)
+bounds-next-g c = (let it : c.frame_in-g.result < most_frames = let b = frame_below _ _ _ ((slot_kept _ _ _ (sym c.slot_refusal-refusal.ensures.0 ∙ c.if-refusal-ne0.false))) c.slot_name-name.ensures (sym c.is_number.ensures ∙ c.if-is_number.false) in let e = c.frame_in-g.ensures in omega arith in it)
 
 -- 13: it is resident, and has no pin left to give
 pub returns-then-child : goal.returns-then-child
 returns-then-child c = fix-pinned _ _ _ c.slot_refusal-refusal.ensures.0 c.if-refusal-ne0.false c.slot_name-name.ensures c.if-name-eq-NOTHING.false (sym c.is_number.ensures ∙ c.if-is_number.false) (pin-denied _ _ c.if-child.true c.refused-then-child.ensures ∙ ap (pin_decided _) c.frame_in-g.ensures)
 
 pub bounds-next-g-2 : goal.bounds-next-g-2
-bounds-next-g-2 c = (let b = frame_below _ _ _ ((slot_kept _ _ _ (sym c.slot_refusal-refusal.ensures.0 ∙ c.if-refusal-ne0.false))) c.slot_name-name.ensures (sym c.is_number.ensures ∙ c.if-is_number.false) in let e = c.frame_in-g.ensures in omega arith)
+bounds-next-g-2 c = (let it : c.frame_in-g.result < most_frames = let b = frame_below _ _ _ ((slot_kept _ _ _ (sym c.slot_refusal-refusal.ensures.0 ∙ c.if-refusal-ne0.false))) c.slot_name-name.ensures (sym c.is_number.ensures ∙ c.if-is_number.false) in let e = c.frame_in-g.ensures in omega arith in it)
 
 pub overflow_cast-g : goal.overflow_cast-g
-overflow_cast-g c = let l = (let b = frame_below _ _ _ ((slot_kept _ _ _ (sym c.slot_refusal-refusal.ensures.0 ∙ c.if-refusal-ne0.false))) c.slot_name-name.ensures (sym c.is_number.ensures ∙ c.if-is_number.false) in let e = c.frame_in-g.ensures in omega arith) in omega arith
+overflow_cast-g c = let l = (let it : c.frame_in-g.result < most_frames = let b = frame_below _ _ _ ((slot_kept _ _ _ (sym c.slot_refusal-refusal.ensures.0 ∙ c.if-refusal-ne0.false))) c.slot_name-name.ensures (sym c.is_number.ensures ∙ c.if-is_number.false) in let e = c.frame_in-g.ensures in omega arith in it) in omega arith
 
 -- it is resident, and gains a pin
 pub returns : goal.returns

@@ -1,4 +1,6 @@
 -- `fixing::load::bring_in` meets its contract: the first f frames are seen, the sweep walks over what was seen, and the first g frames are left as it left them. Assumes nothing.
+use Rattle.std.proofs.Common.{le-leb}
+use Rattle.std.proofs.lemmas.Bool.{lt-leb}
 use Prim.Native.Nat.{◌<◌, ◌≤◌, ◌-◌}
 use mathlib.Core.Path.{◌≡◌, refl, sym, ◌∙◌, ap}
 use mathlib.Core.Bool.{Bool, true}
@@ -103,14 +105,14 @@ loop-f-preserved c =
 -- 27: the store is at its ceiling
 pub returns-then-at_ceiling : goal.returns-then-at_ceiling
 returns-then-at_ceiling c =
-    (λ x. miss-swept _ _ _ _ _ ((let h = c.requires in (sym (loadable-told _ h.0 h.1 _ _ h.4 c.is_loadable.ensures) ∙ c.if-not-is_loadable.false))) ((let h = c.requires in usable-told _ h.0 h.1 _ ((let h = c.requires in ceiling-told _ h.0 h.1 _ c.held.ensures)) c.usable_frame-empty.ensures)) c.if-empty-most.false) _ (own-denied _ _ (ready _ c.requires.0) ((let e : c.loop-f.f ≡ c.args.pool.count = omega arith in
-    rw e at c.loop-f.invariant.1)) c.sweep-walk.ensures _ _ _ (not-true _ c.if-not-taken.true) (sym ((let h = c.requires in ceiling-told _ h.0 h.1 _ c.held.ensures)) ∙ c.if-at_ceiling.true) c.refused-then-at_ceiling.ensures)
+    (miss-swept _ _ _ _ _ ((let h = c.requires in (sym (loadable-told _ h.0 h.1 _ _ h.4 c.is_loadable.ensures) ∙ c.if-not-is_loadable.false))) ((let h = c.requires in usable-told _ h.0 h.1 _ ((let h = c.requires in ceiling-told _ h.0 h.1 _ c.held.ensures)) c.usable_frame-empty.ensures)) c.if-empty-most.false) (own-denied _ _ (ready _ c.requires.0) ((let it : Sees (kind_for c.args.pool c.args.frames.now c.args.of_store.0) c.args.pool.records c.loop-f.sights c.args.pool.count = let e : c.loop-f.f ≡ c.args.pool.count = omega arith in
+    rw e at c.loop-f.invariant.1 in it)) c.sweep-walk.ensures _ _ _ c.if-not-taken.true (sym ((let h = c.requires in ceiling-told _ h.0 h.1 _ c.held.ensures)) ∙ le-leb _ _ c.if-at_ceiling.true) c.refused-then-at_ceiling.ensures)
 
 -- 15: it is below it
 pub returns-then-not-taken : goal.returns-then-not-taken
 returns-then-not-taken c =
-    (λ x. miss-swept _ _ _ _ _ ((let h = c.requires in (sym (loadable-told _ h.0 h.1 _ _ h.4 c.is_loadable.ensures) ∙ c.if-not-is_loadable.false))) ((let h = c.requires in usable-told _ h.0 h.1 _ ((let h = c.requires in ceiling-told _ h.0 h.1 _ c.held.ensures)) c.usable_frame-empty.ensures)) c.if-empty-most.false) _ (swept-denied _ _ (ready _ c.requires.0) ((let e : c.loop-f.f ≡ c.args.pool.count = omega arith in
-    rw e at c.loop-f.invariant.1)) c.sweep-walk.ensures _ _ _ (not-true _ c.if-not-taken.true) (sym ((let h = c.requires in ceiling-told _ h.0 h.1 _ c.held.ensures)) ∙ c.if-at_ceiling.false) c.refused-then-not-taken.ensures)
+    (miss-swept _ _ _ _ _ ((let h = c.requires in (sym (loadable-told _ h.0 h.1 _ _ h.4 c.is_loadable.ensures) ∙ c.if-not-is_loadable.false))) ((let h = c.requires in usable-told _ h.0 h.1 _ ((let h = c.requires in ceiling-told _ h.0 h.1 _ c.held.ensures)) c.usable_frame-empty.ensures)) c.if-empty-most.false) (swept-denied _ _ (ready _ c.requires.0) ((let it : Sees (kind_for c.args.pool c.args.frames.now c.args.of_store.0) c.args.pool.records c.loop-f.sights c.args.pool.count = let e : c.loop-f.f ≡ c.args.pool.count = omega arith in
+    rw e at c.loop-f.invariant.1 in it)) c.sweep-walk.ensures _ _ _ c.if-not-taken.true (sym ((let h = c.requires in ceiling-told _ h.0 h.1 _ c.held.ensures)) ∙ lt-leb _ _ c.if-at_ceiling.false) c.refused-then-not-taken.ensures)
 
 pub loop-g-init : goal.loop-g-init
 loop-g-init c = (omega arith, cooling-none _ _)
@@ -128,40 +130,40 @@ offset_bounds-next-g c =
 pub bounds-next-g : goal.bounds-next-g
 bounds-next-g c =
     let z = c.requires.0.sized.most in
-    (omega arith, tt)
+    omega arith
 
 pub loop-g-preserved : goal.loop-g-preserved
 loop-g-preserved c = (omega arith, cooling-next c.loop-g.invariant.1 c.usage_left.ensures)
 
 pub bounds-next-v : goal.bounds-next-v
 bounds-next-v c =
-    victim-below _ ((let e : c.loop-g.g ≡ c.args.pool.count = omega arith in
-    took _ _ (ready _ c.requires.0) ((let e : c.loop-f.f ≡ c.args.pool.count = omega arith in
-    rw e at c.loop-f.invariant.1)) c.sweep-walk.ensures (followed _ c.requires.0) (not-false _ c.if-not-taken.false) (rw e at c.loop-g.invariant.1)))
+    victim-below _ ((let it : Took ((state c.args.pool c.args.frames.now c.args.store.now c.args.directory.now)) c.args.of_store.0 c.sweep-walk.result c.loop-g.next = let e : c.loop-g.g ≡ c.args.pool.count = omega arith in
+    took _ _ (ready _ c.requires.0) ((let it : Sees (kind_for c.args.pool c.args.frames.now c.args.of_store.0) c.args.pool.records c.loop-f.sights c.args.pool.count = let e : c.loop-f.f ≡ c.args.pool.count = omega arith in
+    rw e at c.loop-f.invariant.1 in it)) c.sweep-walk.ensures (followed _ c.requires.0) c.if-not-taken.false (rw e at c.loop-g.invariant.1) in it))
 
 pub take_out-requires : goal.take_out-requires
 take_out-requires c =
-    victim-removable _ ((let e : c.loop-g.g ≡ c.args.pool.count = omega arith in
-    took _ _ (ready _ c.requires.0) ((let e : c.loop-f.f ≡ c.args.pool.count = omega arith in
-    rw e at c.loop-f.invariant.1)) c.sweep-walk.ensures (followed _ c.requires.0) (not-false _ c.if-not-taken.false) (rw e at c.loop-g.invariant.1)))
+    victim-removable _ ((let it : Took ((state c.args.pool c.args.frames.now c.args.store.now c.args.directory.now)) c.args.of_store.0 c.sweep-walk.result c.loop-g.next = let e : c.loop-g.g ≡ c.args.pool.count = omega arith in
+    took _ _ (ready _ c.requires.0) ((let it : Sees (kind_for c.args.pool c.args.frames.now c.args.of_store.0) c.args.pool.records c.loop-f.sights c.args.pool.count = let e : c.loop-f.f ≡ c.args.pool.count = omega arith in
+    rw e at c.loop-f.invariant.1 in it)) c.sweep-walk.ensures (followed _ c.requires.0) c.if-not-taken.false (rw e at c.loop-g.invariant.1) in it))
 
 pub load_page-requires-2 : goal.load_page-requires-2
 load_page-requires-2 c =
     let h = c.requires in
-    victim-fitting _ ((let e : c.loop-g.g ≡ c.args.pool.count = omega arith in
-    took _ _ (ready _ c.requires.0) ((let e : c.loop-f.f ≡ c.args.pool.count = omega arith in
-    rw e at c.loop-f.invariant.1)) c.sweep-walk.ensures (followed _ c.requires.0) (not-false _ c.if-not-taken.false) (rw e at c.loop-g.invariant.1))) c.take_out.ensures h.2 h.3 h.4 h.5
+    victim-fitting _ ((let it : Took ((state c.args.pool c.args.frames.now c.args.store.now c.args.directory.now)) c.args.of_store.0 c.sweep-walk.result c.loop-g.next = let e : c.loop-g.g ≡ c.args.pool.count = omega arith in
+    took _ _ (ready _ c.requires.0) ((let it : Sees (kind_for c.args.pool c.args.frames.now c.args.of_store.0) c.args.pool.records c.loop-f.sights c.args.pool.count = let e : c.loop-f.f ≡ c.args.pool.count = omega arith in
+    rw e at c.loop-f.invariant.1 in it)) c.sweep-walk.ensures (followed _ c.requires.0) c.if-not-taken.false (rw e at c.loop-g.invariant.1) in it)) c.take_out.ensures h.2 h.3 h.4 h.5
 
 pub bounds-next-v-2 : goal.bounds-next-v-2
 bounds-next-v-2 c =
-    victim-below _ ((let e : c.loop-g.g ≡ c.args.pool.count = omega arith in
-    took _ _ (ready _ c.requires.0) ((let e : c.loop-f.f ≡ c.args.pool.count = omega arith in
-    rw e at c.loop-f.invariant.1)) c.sweep-walk.ensures (followed _ c.requires.0) (not-false _ c.if-not-taken.false) (rw e at c.loop-g.invariant.1)))
+    victim-below _ ((let it : Took ((state c.args.pool c.args.frames.now c.args.store.now c.args.directory.now)) c.args.of_store.0 c.sweep-walk.result c.loop-g.next = let e : c.loop-g.g ≡ c.args.pool.count = omega arith in
+    took _ _ (ready _ c.requires.0) ((let it : Sees (kind_for c.args.pool c.args.frames.now c.args.of_store.0) c.args.pool.records c.loop-f.sights c.args.pool.count = let e : c.loop-f.f ≡ c.args.pool.count = omega arith in
+    rw e at c.loop-f.invariant.1 in it)) c.sweep-walk.ensures (followed _ c.requires.0) c.if-not-taken.false (rw e at c.loop-g.invariant.1) in it))
 
 -- into the frame that the sweep took
 pub returns : goal.returns
 returns c =
     let loaded = c.load_page-2.ensures in
-    (λ x. miss-swept _ _ _ _ _ ((let h = c.requires in (sym (loadable-told _ h.0 h.1 _ _ h.4 c.is_loadable.ensures) ∙ c.if-not-is_loadable.false))) ((let h = c.requires in usable-told _ h.0 h.1 _ ((let h = c.requires in ceiling-told _ h.0 h.1 _ c.held.ensures)) c.usable_frame-empty.ensures)) c.if-empty-most.false) _ (swept-given _ ((let e : c.loop-g.g ≡ c.args.pool.count = omega arith in
-    took _ _ (ready _ c.requires.0) ((let e : c.loop-f.f ≡ c.args.pool.count = omega arith in
-    rw e at c.loop-f.invariant.1)) c.sweep-walk.ensures (followed _ c.requires.0) (not-false _ c.if-not-taken.false) (rw e at c.loop-g.invariant.1))) c.take_out.ensures _ _ _ loaded.0 loaded.1 loaded.2 c.given-2.ensures)
+    (miss-swept _ _ _ _ _ ((let h = c.requires in (sym (loadable-told _ h.0 h.1 _ _ h.4 c.is_loadable.ensures) ∙ c.if-not-is_loadable.false))) ((let h = c.requires in usable-told _ h.0 h.1 _ ((let h = c.requires in ceiling-told _ h.0 h.1 _ c.held.ensures)) c.usable_frame-empty.ensures)) c.if-empty-most.false) (swept-given _ ((let it : Took ((state c.args.pool c.args.frames.now c.args.store.now c.args.directory.now)) c.args.of_store.0 c.sweep-walk.result c.loop-g.next = let e : c.loop-g.g ≡ c.args.pool.count = omega arith in
+    took _ _ (ready _ c.requires.0) ((let it : Sees (kind_for c.args.pool c.args.frames.now c.args.of_store.0) c.args.pool.records c.loop-f.sights c.args.pool.count = let e : c.loop-f.f ≡ c.args.pool.count = omega arith in
+    rw e at c.loop-f.invariant.1 in it)) c.sweep-walk.ensures (followed _ c.requires.0) c.if-not-taken.false (rw e at c.loop-g.invariant.1) in it)) c.take_out.ensures _ _ _ loaded.0 loaded.1 loaded.2 c.given-2.ensures)

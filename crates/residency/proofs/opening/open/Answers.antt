@@ -42,7 +42,7 @@ bring_roots-requires c =
     let t = (stores-of _ _ _ (sym c.stores_fit.ensures ∙ c.if-not-stores_fit.false)) in (t.most, z.some, z.pages, omega (arith, t.below, z.frames), z.store)
 
 pub start-requires : goal.start-requires
-start-requires c = (c.if-directory-ne-SIZE.left, ((stores-of _ _ _ (sym c.stores_fit.ensures ∙ c.if-not-stores_fit.false))).most)
+start-requires c = (c.if-directory-ne-SIZE.false, ((stores-of _ _ _ (sym c.stores_fit.ensures ∙ c.if-not-stores_fit.false))).most)
 
 pub overflow_cast-count : goal.overflow_cast-count
 overflow_cast-count c = let z = (lengths-of _ _ _ _ _ (sym c.lengths_fit.ensures ∙ c.if-not-lengths_fit.false)) in omega (arith, z.most)
@@ -52,4 +52,4 @@ pool_with-requires c = ((stores-of _ _ _ (sym c.stores_fit.ensures ∙ c.if-not-
 
 -- the roots are in their frames, and alone in the directory
 pub returns : goal.returns
-returns c = open_done _ _ _ _ _ ((sym c.stores_fit.ensures ∙ c.if-not-stores_fit.false)) ((sym c.lengths_fit.ensures ∙ c.if-not-lengths_fit.false)) c.if-directory-ne-SIZE.left (call-yes c.is_sound.ensures c.if-not-is_sound.left) c.pool_with.ensures c.bring_roots.ensures c.start.ensures
+returns c = open_done _ _ _ _ _ ((sym c.stores_fit.ensures ∙ c.if-not-stores_fit.false)) ((sym c.lengths_fit.ensures ∙ c.if-not-lengths_fit.false)) c.if-directory-ne-SIZE.false (sym c.is_sound.ensures ∙ c.if-not-is_sound.false) c.pool_with.ensures c.bring_roots.ensures c.start.ensures
