@@ -1,4 +1,4 @@
--- What the code tests for rule 2, in the order of its one pass over the frames. specs/Same proves that all of it together is `agree`.
+-- What the code tests for rule 2, in the order of its one pass over the frames. proofs/Same proves that all of it together is `agree`.
 use Rattle.std.specs.Prelude.{ℕ, zero, suc, ◌+◌, ◌*◌, ◌-◌, ◌/◌, ◌%◌, ◌<◌, ◌≤◌, ◌≡◌, ◌≢◌, Bool, true, false, List, eqb, ltb, leb, length, get_or, set}
 use Rattle.page.specs.Figures.{page_size, slot_count, most_frames, most_stores, record_count, max_usage, max_pins, word_size}
 use Rattle.page.specs.Word.{word_at, is_marked, is_marked_number, name_of, frame_word}

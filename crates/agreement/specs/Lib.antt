@@ -7,5 +7,3 @@ pub mod NumberNotes
 pub mod MarkedNumbers
 pub mod PassLaws
 pub mod ParentSteps
-pub mod Same
-pub mod Hands

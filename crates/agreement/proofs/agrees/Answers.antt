@@ -11,8 +11,8 @@ use Rattle.seen.specs.Seen.{Seen}
 use Rattle.agreement.specs.Fit.{Fits, above_of, AllMarks, Settled}
 use Rattle.agreement.specs.FitLaws.{page-below, fitting-store, gathers}
 use Rattle.agreement.specs.PassLaws.{before-first, before-few, stands-twice, before_more, stores-few, held-alone, marks-twice, frames-even, settle, rest-none, rest_more}
-use Rattle.agreement.specs.Same.{end-hand, end_rest, end-frames, end-ceilings, frames-least, table_below, table-root}
-use Rattle.agreement.specs.Hands.{end-all}
+use Rattle.agreement.proofs.Same.{end-hand, end_rest, end-frames, end-ceilings, frames-least, table_below, table-root}
+use Rattle.agreement.proofs.Hands.{end-all}
 use Rattle.agreement.proofs.agrees.Goals as goal
 
 -- the hand isn't below F

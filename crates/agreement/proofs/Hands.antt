@@ -21,7 +21,7 @@ use Rattle.rules.specs.Deciding.{Decides}
 use Rattle.agreement.specs.Twice.{keyed, keyed-some, keyed-is, PassedRow}
 use Rattle.agreement.specs.Fit.{per_frame, numbers_in_frames, entry, AllLead, UnderCeilings, Settled, Decided}
 use Rattle.agreement.specs.FitLaws.{below-low, numbers-page, numbers-word}
-use Rattle.agreement.specs.Same.{nothing, page, loose, stands_at, end-lead}
+use Rattle.agreement.proofs.Same.{nothing, page, loose, stands_at, end-lead}
 
 module _ (p : Pool) (fs : List ℕ) (S : Sizes p.count p.pages p.stores fs) (A : Agreed p fs) (residents : List ℕ) (R : Residents p.records residents)
     (seen : Seen) (P : PassedRow (numbers_in_frames name_of p.records fs p.pages) (per_frame * p.count) seen) where
