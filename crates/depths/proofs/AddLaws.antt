@@ -1,7 +1,7 @@
 -- What the rules of add say where none is broken, and what add then leaves. Assumes nothing.
 use Rattle.std.specs.Prelude.{ℕ, zero, suc, ◌*◌, ◌<◌, ◌≤◌, ◌≡◌, true, List, [], ◌∷◌, leb, ltb, length, get_or}
 use Rattle.std.proofs.Common.{arith, eqb-true, leb-true, ltb-true, le-leb, eq-eqb}
-use Rattle.rules.specs.Tests.{◌and◌, first_broken}
+use Rattle.rules.specs.Tests.{first_broken}
 use Rattle.rules.specs.TestLaws.{both, and-true, first-kept}
 use Rattle.depths.specs.declared.Tally.{Tally}
 use Rattle.depths.specs.Tallying.{most_references, depth_count, last_page, most_recordings, total, counters_fit, length_fits, is_room_left, sizes_fit, tally_fits, pages_fit, add_rules}

@@ -8,15 +8,15 @@ use Rattle.std.proofs.lemmas.List.{length-replicate, length-map}
 use native.Mathlib.Omega.{arith}
 use Rattle.std.proofs.Math.Decide.{ℕ_discrete, dec_lt}
 use Rattle.std.proofs.lemmas.Bool.{lt-leb}
-use Rattle.rules.specs.Tests.{pick, ◌and◌, first_broken}
+use Rattle.rules.specs.Tests.{pick, first_broken}
 use Rattle.rules.specs.TestLaws.{both, on, off, case, kept_then, broken-here, none-broken, verdict-no, verdict-yes}
 use Rattle.depths.specs.declared.Tally.{Tally}
 use Rattle.depths.specs.Depths.{depth, depths_after, depths, depths_at, is_up_to, depths_up_to, hits_of}
-use Rattle.depths.specs.Tallying.{most_references, depth_count, most_recordings, total, within, counters_fit, length_fits, is_room_left, sizes_fit, tally_fits, pages_fit, add_rules, Left, nothing_added, recording_added, add_out, ReportRow, report_row, rising, report_of, tally_of, accepted_of}
-use Rattle.depths.specs.PageListLaws.{bit, bit-on, bit-off, bit_le, picked, passed}
-use Rattle.depths.specs.TallyLaws.{AtMost, depths-at-most, length-all, within_all, within-next, within-whole, within-zeros}
-use Rattle.depths.specs.AddLaws.{AddKept, add_kept, LengthKept, length-fits, counters-fit}
-use Rattle.depths.specs.Recency.{for-every-size}
+use Rattle.depths.specs.Tallying.{most_references, depth_count, most_recordings, total, within, length_fits, is_room_left, sizes_fit, tally_fits, pages_fit, add_rules, Left, nothing_added, recording_added, add_out, ReportRow, report_row, rising, report_of, tally_of, accepted_of}
+use Rattle.depths.proofs.PageListLaws.{bit, bit-on, bit-off, bit_le, picked, passed}
+use Rattle.depths.proofs.TallyLaws.{AtMost, depths-at-most, length-all, within_all, within-next, within-whole, within-zeros}
+use Rattle.depths.proofs.AddLaws.{AddKept, add_kept, LengthKept, length-fits, counters-fit}
+use Rattle.depths.proofs.Recency.{for-every-size}
 use Rattle.depths.specs.HowMany.{over, ForAnyRecordings, Rises}
 
 -- ---- what add answers and leaves, by the first broken rule

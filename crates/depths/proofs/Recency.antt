@@ -7,7 +7,7 @@ use Rattle.std.proofs.Math.Decide.{ℕ_discrete, dec_lt}
 use Rattle.rules.specs.Tests.{pick, ◌and◌}
 use Rattle.rules.specs.TestLaws.{clash, on, off, case, and_yes, and_no, and-off}
 use Rattle.depths.specs.Depths.{is_in, since, different, depth, depths_after, is_up_to, depths_up_to, without_page, without_last, replaced, after_use, cache, hits_after, recency, last_use}
-use Rattle.depths.specs.PageListLaws.{bit, bits-join, picked, passed, in-nil, in-here, in-there, since-nil, since-here, since-there, without-nil, without-here, without-there, length_without, without-none, in_without, since-without, nothing-in, different-nil, different-cons, last-here, last-there, last-le}
+use Rattle.depths.proofs.PageListLaws.{bit, bits-join, picked, passed, in-nil, in-here, in-there, since-nil, since-here, since-there, without-nil, without-here, without-there, length_without, without-none, in_without, since-without, nothing-in, different-nil, different-cons, last-here, last-there, last-le}
 use Rattle.depths.specs.HowMany.{ForEverySize}
 
 -- ---- a reference takes the first f of what was used last

@@ -7,7 +7,7 @@ use Rattle.std.proofs.Math.Decide.{ℕ_discrete, dec_lt}
 use Rattle.std.proofs.lemmas.Bool.{lt-leb}
 use Rattle.rules.specs.TestLaws.{on, off, case}
 use Rattle.depths.specs.Depths.{is_in, since, different, depth, depths_after, is_up_to, depths_up_to}
-use Rattle.depths.specs.PageListLaws.{bit, bit-on, bit-off, bits-join, picked, passed, nothing-in, different-cons, different-nil, since-here, since-there, in-there}
+use Rattle.depths.proofs.PageListLaws.{bit, bit-on, bit-off, bits-join, picked, passed, nothing-in, different-cons, different-nil, since-here, since-there, in-there}
 use Rattle.depths.specs.Tallying.{one_counted, all_counted, total, within}
 
 -- ---- a depth is at most the count of earlier references
