@@ -1,7 +1,7 @@
 -- `checksum::with_byte` meets its contract. The invariant: with the bits left shifted out, it is the check with the byte. Assumes nothing.
 use Rattle.std.proofs.Common.{sym, ap, ◌∙◌, arith}
 use Rattle.checksum.specs.Checksum.{shifted_out}
-use Rattle.checksum.specs.ChecksumLaws.{byte-in, one_out, none_out}
+use Rattle.checksum.proofs.ChecksumLaws.{byte-in, one_out, none_out}
 use Rattle.checksum.proofs.with_byte.Goals as goal
 
 pub loop-bits-init : goal.loop-bits-init

@@ -1,7 +1,7 @@
 -- `checksum::with_bytes` meets its contract. The invariant: with the bytes left, it is the check with all of them. Assumes nothing.
 use Rattle.std.proofs.Common.{◌+◌, drop, sym, refl, ap, ◌∙◌}
 use Rattle.checksum.specs.Checksum.{with_bytes}
-use Rattle.checksum.specs.ChecksumLaws.{one_in, none_in}
+use Rattle.checksum.proofs.ChecksumLaws.{one_in, none_in}
 use Rattle.checksum.proofs.with_bytes.Goals as goal
 
 pub loop-i-init : goal.loop-i-init

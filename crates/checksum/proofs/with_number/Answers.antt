@@ -1,7 +1,7 @@
 -- `checksum::with_number` meets its contract. The invariant: with the bytes of what is left of the number, it is the check with all of them. Assumes nothing.
 use Rattle.std.proofs.Common.{◌/◌, sym, refl, ap, ◌∙◌, arith}
 use Rattle.checksum.specs.Checksum.{with_bytes, octets}
-use Rattle.checksum.specs.ChecksumLaws.{octet-in, no-octet}
+use Rattle.checksum.proofs.ChecksumLaws.{octet-in, no-octet}
 use Rattle.checksum.proofs.with_number.Goals as goal
 
 pub loop-n-init : goal.loop-n-init
