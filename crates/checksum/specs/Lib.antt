@@ -1,4 +1,3 @@
 pub mod Checksum
 pub mod ChecksumRows
-pub mod ChecksumLaws
 pub mod Parts

@@ -2,7 +2,7 @@
 use Rattle.std.specs.Prelude.{◌≡◌, ℕ, ◌+◌, ◌%◌, ◌^◌, ◌<◌, List, [], ◌∷◌, ◌++◌, length, refl}
 use Rattle.std.proofs.Common.{sym, ◌∙◌, ap, ap₂, mod-eq_of_lt, length-append}
 use Rattle.checksum.specs.declared.Sum.{Sum}
-use Rattle.checksum.specs.Checksum.{with_bytes, octets, complement, cksum}
+use Rattle.checksum.specs.Checksum.{with_byte, with_bytes, octets, complement, cksum}
 
 -- the sum of no part
 abbrev pub empty_sum : Sum
@@ -28,7 +28,7 @@ empty-over = record { check = refl; count = refl }
 parts-joined : (c : ℕ) (a b : List ℕ) → with_bytes c (a ++ b) ≡ with_bytes (with_bytes c a) b
 unfolding with_bytes
 parts-joined c [] b = refl
-parts-joined c (x ∷ a) b = parts-joined _ a b
+parts-joined c (x ∷ a) b = parts-joined (with_byte c x) a b
 
 pub added-over : {s : Sum} {bs : List ℕ} (p : List ℕ) → Over s bs → length bs + length p < 2 ^ 64 → Over (added s p) (bs ++ p)
 unfolding added

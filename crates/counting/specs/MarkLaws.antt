@@ -3,7 +3,7 @@ use Rattle.std.specs.Prelude.{ℕ, zero, suc, ◌+◌, ◌*◌, ◌<◌, ◌≤�
 use Rattle.std.proofs.Common.{sym, ap, ◌∙◌, suc-mul, arith, eq-eqb, ne_eqb, lt-ltb, le-ltb}
 use Rattle.std.proofs.Math.Decide.{ℕ_discrete, dec_lt}
 use Rattle.depths.specs.Depths.{is_in, since, different, depth, last_use}
-use Rattle.depths.specs.PageListLaws.{bit, bit-on, bit-off, bits-join, picked, passed, in-nil, in-here, in-there, since-here, since-there, different-nil, different-cons, last-nil, last-here, last-there, last-le}
+use Rattle.depths.proofs.PageListLaws.{bit, bit-on, bit-off, bits-join, picked, passed, in-nil, in-here, in-there, since-here, since-there, different-nil, different-cons, last-nil, last-here, last-there, last-le}
 use Rattle.counting.specs.Marks.{lowered, raised, mark, sum_of}
 
 -- ---- one mark less, one mark more

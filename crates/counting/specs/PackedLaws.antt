@@ -5,7 +5,7 @@ use Rattle.std.proofs.Math.Pow.{high}
 use Rattle.std.specs.Int.Count.{ones}
 use Rattle.std.proofs.lemmas.Nat.{ones_cat}
 use Rattle.std.proofs.Math.Decide.{ℕ_discrete}
-use Rattle.counting.specs.Marks.{lowered, raised, mark, sum_of, packed, block_size, Blocks}
+use Rattle.counting.specs.Marks.{lowered, raised, sum_of, packed, block_size, Blocks}
 use Rattle.counting.specs.MarkLaws.{lowered-here, lowered-other, raised-here, raised-other, sum-zero, sum-suc, sum-ext, sum-split, sum-le}
 
 -- ---- digits

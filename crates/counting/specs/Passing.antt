@@ -9,8 +9,8 @@ use Rattle.std.proofs.Math.Numerals.{add-one}
 use Rattle.std.proofs.Math.Decide.{ℕ_discrete, dec_lt}
 use Rattle.depths.specs.Depths.{depth, depths_after, depths, last_use}
 use Rattle.depths.specs.Tallying.{depth_count, one_counted, all_counted}
-use Rattle.depths.specs.PageListLaws.{picked, passed, last-le}
-use Rattle.depths.specs.TallyLaws.{depth_le, length-counted}
+use Rattle.depths.proofs.PageListLaws.{picked, passed, last-le}
+use Rattle.depths.proofs.TallyLaws.{depth_le, length-counted}
 use Rattle.counting.specs.Marks.{lowered, mark, sum_of, lower_block, lower_count, raise_block, raise_count, table_depth, Tables, past}
 use Rattle.counting.specs.MarkLaws.{sum-zero, sum-suc, mark-last}
 use Rattle.counting.specs.PackedLaws.{block-has, block_room, marks-le}

@@ -14,9 +14,9 @@ use Rattle.depths.specs.declared.Tally.{Tally}
 use Rattle.depths.specs.declared.Share.{Share}
 use Rattle.depths.specs.Depths.{depths}
 use Rattle.depths.specs.Tallying.{most_references, depth_count, last_page, most_recordings, all_counted, total, within, counters_fit, length_fits, is_room_left, sizes_fit, tally_fits, pages_fit, add_rules, Left, nothing_added, recording_added, add_out, no_share, share_out, Reported, hits_of_all, not_reported, report_out}
-use Rattle.depths.specs.TallyLaws.{within-whole, counter-le}
-use Rattle.depths.specs.AddLaws.{AddKept, TallyKept, LengthKept, counters-are, counters-fit, page-kept-at}
-use Rattle.depths.specs.Exact.{add-accepts, add-refuses}
+use Rattle.depths.proofs.TallyLaws.{within-whole, counter-le}
+use Rattle.depths.proofs.AddLaws.{AddKept, TallyKept, LengthKept, counters-are, counters-fit, page-kept-at}
+use Rattle.depths.proofs.Exact.{add-accepts, add-refuses}
 use Rattle.counting.specs.Passing.{CanCount}
 
 -- ---- rule 1

@@ -4,8 +4,8 @@ use Rattle.std.proofs.Common.{sym, ap, ◌∙◌, length-set, get_or-set_same, g
 use Rattle.std.proofs.lemmas.List.{length-map}
 use Rattle.std.proofs.Math.Decide.{ℕ_discrete}
 use Rattle.depths.specs.Tallying.{depth_count, within, ReportRow, report_of, hits_of_all}
-use Rattle.depths.specs.TallyLaws.{within-next}
-use Rattle.depths.specs.Exact.{rises}
+use Rattle.depths.proofs.TallyLaws.{within-next}
+use Rattle.depths.proofs.Exact.{rises}
 
 -- one counter more
 pub sum_goes : (c : List ℕ) (n x y : ℕ) → x ≡ within n c → y ≡ get_or c n 0 → x + y ≡ within (n + 1) c

@@ -9,7 +9,7 @@ use Rattle.std.specs.Int.Count.{ones}
 use native.Mathlib.Omega.{arith}
 use Rattle.std.proofs.Math.Decide.{ℕ_discrete}
 use Rattle.depths.specs.Depths.{depth, last_use}
-use Rattle.depths.specs.PageListLaws.{picked, passed, last-nil, last-here, last-there, last-le}
+use Rattle.depths.proofs.PageListLaws.{picked, passed, last-nil, last-here, last-there, last-le}
 use Rattle.counting.specs.Marks.{lowered, raised, mark, sum_of, block_size, lower_block, lower_count, raise_block, raise_count, table_depth, Blocks, Tables}
 use Rattle.counting.specs.MarkLaws.{lowered-here, lowered-other, raised-here, raised-other, mark-nil, mark-cons, mark-le, mark-ahead, mark-last, sum-split, sum-none, depth-first, depth-again}
 use Rattle.counting.specs.PackedLaws.{Digits, packed_none, blocks-ext, blocks-raise, blocks-lower, rest-ones, blocks-sum}

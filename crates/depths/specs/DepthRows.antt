@@ -1,5 +1,5 @@
 -- Depths, caches, tallies, shares and reports, computed from the definitions. Assumes nothing.
-use Rattle.std.specs.Prelude.{ℕ, ◌≡◌, refl, List, [], ◌∷◌, map, length, replicate}
+use Rattle.std.specs.Prelude.{ℕ, ◌≡◌, refl, List, [], ◌∷◌, map, replicate}
 use Rattle.rules.specs.Tests.{pick, ◌and◌, ◌or◌, first_broken}
 use Rattle.depths.specs.declared.Tally.{Tally}
 use Rattle.depths.specs.Depths.{is_in, since, different, depth, depths_after, depths, is_up_to, depths_up_to, without_page, without_last, replaced, after_use, cache, hits_after, hits_of, last_use, recency}

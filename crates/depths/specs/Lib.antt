@@ -2,10 +2,5 @@
 pub mod Depths
 pub mod Tallying
 pub mod HowMany
--- Cases computed from them, laws of them, and the proof of the claims.
+-- Cases computed from them.
 pub mod DepthRows
-pub mod PageListLaws
-pub mod Recency
-pub mod TallyLaws
-pub mod AddLaws
-pub mod Exact

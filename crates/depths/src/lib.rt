@@ -5,7 +5,7 @@
 // The head of a tally: the recordings that were added, and all their references. The counters, one for each depth from 1 on, are
 // lent.
 #[repr(C)]
-#[derive(Drop)]
+#[derive(Clone, Copy)]
 pub struct Tally {
     pub recordings: u16,
     pub references: u32,
@@ -25,7 +25,7 @@ impl Tally {
 
 // The answer of add: the refusal's number, 0 where the recording was accepted, and the head to go on with.
 #[repr(C)]
-#[derive(Drop)]
+#[derive(Clone, Copy)]
 pub struct Added {
     pub refusal: u8,
     pub tally: Tally,
@@ -33,7 +33,7 @@ pub struct Added {
 
 // The share at or below a size: those references, and all. Both are 0 beside a refusal.
 #[repr(C)]
-#[derive(Drop)]
+#[derive(Clone, Copy)]
 pub struct Share {
     pub refusal: u8,
     pub within: u64,

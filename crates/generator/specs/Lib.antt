@@ -1,5 +1,4 @@
 pub mod Generator
 pub mod GeneratorRows
 pub mod ShiftLaws
-pub mod UndoneLaws
 pub mod SeedLaws

@@ -1,0 +1,2 @@
+-- The definition in steps, as loops take them.
+pub mod ChecksumLaws

@@ -1,0 +1,2 @@
+-- The number before a draw, and that it is the only one.
+pub mod UndoneLaws
