@@ -159,6 +159,6 @@ fn main(rt: HostRuntime) {
         message::unwritten(&rt);
         return;
     }
-    let sum = turn.sum;
-    message::summed(&rt, checksum::value(sum), sum.length, order.count);
+    let bytes = turn.sum.length;
+    message::summed(&rt, checksum::value(turn.sum), bytes, order.count);
 }
