@@ -1,7 +1,7 @@
 -- `workload::run_all` meets its contract: block by block. Assumes nothing.
 use Rattle.std.proofs.Common.{arith}
 use Rattle.machine.specs.Machine.{state}
-use Rattle.workload.specs.Blocks.{none-reached, block-reached}
+use Rattle.workload.proofs.Blocks.{none-reached, block-reached}
 use Rattle.workload.proofs.run_all.Goals as goal
 
 pub loop-left-init : goal.loop-left-init

@@ -2,7 +2,7 @@
 use Rattle.std.specs.Prelude.{◌-◌, ◌≤◌}
 use Rattle.machine.specs.Machine.{state}
 use Rattle.workload.specs.Workload.{summed}
-use Rattle.workload.specs.Blocks.{Reached}
+use Rattle.workload.proofs.Blocks.{Reached}
 use Rattle.workload.proofs.run_all.Given as goal
 
 abbrev pub invariant-loop-left : goal.invariant-loop-left

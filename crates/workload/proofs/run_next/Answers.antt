@@ -1,6 +1,6 @@
 -- `workload::run_next` meets its contract. Assumes nothing.
 use Rattle.machine.specs.Machine.{state}
-use Rattle.workload.specs.WorkloadLaws.{block-summed}
+use Rattle.workload.proofs.WorkloadLaws.{block-summed}
 use Rattle.workload.proofs.run_next.Goals as goal
 
 pub returns : goal.returns

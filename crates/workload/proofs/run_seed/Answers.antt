@@ -1,5 +1,5 @@
 -- `workload::run_seed` meets its contract: the pool is the one that open gives, and the generator that of the seed. Assumes nothing.
-use Rattle.workload.specs.WorkloadLaws.{from-seed}
+use Rattle.workload.proofs.WorkloadLaws.{from-seed}
 use Rattle.workload.proofs.run_seed.Goals as goal
 
 pub returns : goal.returns

@@ -3,7 +3,7 @@ use Rattle.std.specs.Prelude.{◌≡◌, ◌*◌, take}
 use Rattle.std.proofs.Common.{sym, ◌∙◌, arith, rules}
 use Rattle.machine.specs.Machine.{state}
 use Rattle.printing.specs.PrintingLaws.{one-printed}
-use Rattle.workload.specs.WorkloadLaws.{none-worked, one-worked, next-entry, all-entries}
+use Rattle.workload.proofs.WorkloadLaws.{none-worked, one-worked, next-entry, all-entries}
 use Rattle.workload.proofs.block.run_records.Goals as goal
 
 pub loop-i-preserved : goal.loop-i-preserved
