@@ -91,7 +91,7 @@ fn list_next<R: Read>(
 
 // Lists on a pool just opened over zero pages. Nothing says that the input ends, so the turns are counted down from a number that no input reaches.
 fn main(rt: HostRuntime) {
-    let mut input = rt.reader();
+    let mut input = rt.stdin();
     let mut frames = [0u8; FRAMES];
     let mut store = [0u8; STORE];
     let mut directory = [0u8; DIRECTORY];

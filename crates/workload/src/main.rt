@@ -149,7 +149,7 @@ fn run_seed(rt: &impl Print, seed: u32, count: u32, as_records: bool) -> Turn
 
 // Runs what the order says.
 fn main(rt: HostRuntime) {
-    let order = order::read(&mut rt.reader());
+    let order = order::read(&mut rt.stdin());
     if !order.is_whole {
         message::no_order(&rt);
         return;
