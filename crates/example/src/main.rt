@@ -4,6 +4,7 @@
 mod print;
 
 use pool::{FixAnswer, Handle, PageNumber, Pool, StoreNumber};
+use std::io;
 
 // 4 frames, two stores of 8 pages each, and the directory.
 const FRAMES: usize = 4 * PageNumber::SIZE;
@@ -32,91 +33,109 @@ const NEXT_PAGE: PageNumber = PageNumber(6);
 const NEXT_SLOT: usize = 4;
 
 // Show hands back a part of the frames, and puts its number into one that is lent.
-fn show<'a>(pool: Pool, frames: &'a [u8], store: &'a [u8], directory: &[u8], handle: Handle) {
+fn show(
+    rt: &impl Print,
+    pool: Pool,
+    frames: &[u8],
+    store: &[u8],
+    directory: &[u8],
+    handle: Handle,
+) -> io::Result<()> {
     let mut refusal = 0;
     let part = pool::show(pool, frames, store, directory, handle, &mut refusal);
-    print::payload(b"show", refusal, part);
+    print::payload(rt, "show", refusal, part)
 }
 
 // Peek needs no handle; its part is one of the frames where the page is resident, otherwise one of the stores. The two stores' pages of one number share a chain of the directory.
-fn peek<'a>(pool: Pool, frames: &'a [u8], store: &'a [u8], directory: &[u8]) {
+fn peek(
+    rt: &impl Print,
+    pool: Pool,
+    frames: &[u8],
+    store: &[u8],
+    directory: &[u8],
+) -> io::Result<()> {
     print::found(
-        b"find",
+        rt,
+        "find",
         pool::find(pool, frames, store, directory, SECOND, PAGE),
-    );
+    )?;
     print::found(
-        b"find in store 0",
+        rt,
+        "find in store 0",
         pool::find(pool, frames, store, directory, FIRST, PAGE),
-    );
+    )?;
     let mut refusal = 0;
     let part = pool::peek(pool, frames, store, directory, SECOND, PAGE, &mut refusal);
-    print::payload(b"peek", refusal, part);
+    print::payload(rt, "peek", refusal, part)
 }
 
 // The page is shown and peeked at; without its pin it can leave its frame. Its handle is then stale, and peek finds it in the store.
 fn leave(
+    rt: &impl Print,
     pool: Pool,
     frames: &mut [u8; FRAMES],
     store: &mut [u8; STORE],
     directory: &mut [u8; DIRECTORY],
     handle: Handle,
-) {
-    show(pool, frames, store, directory, handle);
-    peek(pool, frames, store, directory);
+) -> io::Result<()> {
+    show(rt, pool, frames, store, directory, handle)?;
+    peek(rt, pool, frames, store, directory)?;
     let unfixed = pool::unfix(pool, frames, store, directory, handle);
-    print::done(b"unfix", unfixed.refusal);
+    print::done(rt, "unfix", unfixed.refusal)?;
 
     let pool = unfixed.pool;
     let evicted = pool::evict(pool, frames, store, directory, SECOND, PAGE);
-    print::done(b"evict", evicted.refusal);
+    print::done(rt, "evict", evicted.refusal)?;
 
     let pool = evicted.pool;
-    show(pool, frames, store, directory, handle);
-    peek(pool, frames, store, directory);
+    show(rt, pool, frames, store, directory, handle)?;
+    peek(rt, pool, frames, store, directory)?;
     let settled = pool::settle(pool, frames, store, directory);
-    print::done(b"settle", settled.refusal);
+    print::done(rt, "settle", settled.refusal)
 }
 
 // The store is at its ceiling: while its page is pinned, no further one comes in, though a frame is empty.
 fn crowd(
+    rt: &impl Print,
     pool: Pool,
     frames: &mut [u8; FRAMES],
     store: &mut [u8; STORE],
     directory: &mut [u8; DIRECTORY],
     root: Handle,
     child: Handle,
-) {
+) -> io::Result<()> {
     let linked = pool::link(
         pool, frames, store, directory, root, NEXT_SLOT, NEXT_PAGE, false,
     );
-    print::done(b"link", linked.refusal);
+    print::done(rt, "link", linked.refusal)?;
 
     let pool = linked.pool;
     let denied = pool::fix(pool, frames, store, directory, root, NEXT_SLOT);
     let answer = denied.answer;
-    print::fixed(b"fix", answer);
+    print::fixed(rt, "fix", answer)?;
 
     let pool = denied.pool;
-    leave(pool, frames, store, directory, child);
+    leave(rt, pool, frames, store, directory, child)
 }
 
 // The page comes under the root, and is written.
 fn come(
+    rt: &impl Print,
     pool: Pool,
     frames: &mut [u8; FRAMES],
     store: &mut [u8; STORE],
     directory: &mut [u8; DIRECTORY],
     root: Handle,
-) {
+) -> io::Result<()> {
     let linked = pool::link(pool, frames, store, directory, root, SLOT, PAGE, false);
-    print::done(b"link", linked.refusal);
+    print::done(rt, "link", linked.refusal)?;
 
     let pool = linked.pool;
     let fixed = pool::fix(pool, frames, store, directory, root, SLOT);
     let answer = fixed.answer;
-    print::fixed(b"fix", answer);
+    print::fixed(rt, "fix", answer)?;
     let FixAnswer::Fixed(child, _) = answer else {
-        return;
+        return Ok(());
     };
 
     let pool = fixed.pool;
@@ -129,27 +148,27 @@ fn come(
         0,
         b"a page under the root",
     );
-    print::done(b"write", written.refusal);
+    print::done(rt, "write", written.refusal)?;
 
     let pool = written.pool;
-    crowd(pool, frames, store, directory, root, child);
+    crowd(rt, pool, frames, store, directory, root, child)
 }
 
-fn main() {
+fn main(rt: HostRuntime) -> io::Result<()> {
     let mut frames = [0u8; FRAMES];
     let mut store = [0u8; STORE];
     let mut directory = [0u8; DIRECTORY];
     let opened = pool::open(&mut frames, &store, &mut directory, STORES, CEILINGS);
-    print::done(b"open", opened.refusal);
+    print::done(&rt, "open", opened.refusal)?;
 
     let pool = opened.pool;
     let rooted = pool::root(pool, &frames, &store, &directory, SECOND);
     let answer = rooted.answer;
-    print::fixed(b"root", answer);
+    print::fixed(&rt, "root", answer)?;
     let FixAnswer::Fixed(root, _) = answer else {
-        return;
+        return Ok(());
     };
 
     let pool = rooted.pool;
-    come(pool, &mut frames, &mut store, &mut directory, root);
+    come(&rt, pool, &mut frames, &mut store, &mut directory, root)
 }

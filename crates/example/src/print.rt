@@ -1,80 +1,47 @@
 // The lines of the example.
 ghost use Rattle.io.specs.Counts.{IsPrefixLen};
 
-use libc::STDOUT_FILENO;
 use pool::{FindAnswer, FixAnswer};
+use std::io;
 
-fn text(bytes: &[u8]) {
-    io::write_all(STDOUT_FILENO, bytes);
-}
-
-fn number(n: u16) {
-    io::print_decimal(STDOUT_FILENO, n as u64);
-}
-
-fn refused(call: &[u8], refusal: u8) {
-    text(call);
-    text(b": refused by rule ");
-    number(refusal as u16);
-    text(b"\n");
-}
-
-// Ends a line with a number of looks.
-fn after(looks: u16) {
-    text(b" after ");
-    number(looks);
-    text(b" looks\n");
-}
-
-// Ends a line with the entries compared.
-fn compared(entries: u16) {
-    text(b", entries compared: ");
-    number(entries);
-    text(b"\n");
+fn refused(rt: &impl Print, call: &str, refusal: u8) -> io::Result<()> {
+    println!(rt; "{call}: refused by rule {refusal}")
 }
 
 // A call without an answer of its own.
-pub fn done(call: &[u8], refusal: u8) {
+pub fn done(rt: &impl Print, call: &str, refusal: u8) -> io::Result<()> {
     if refusal != 0 {
-        refused(call, refusal);
-        return;
+        return refused(rt, call, refusal);
     }
-    text(call);
-    text(b": done\n");
+    println!(rt; "{call}: done")
 }
 
 // Root and fix.
-pub fn fixed(call: &[u8], answer: FixAnswer) {
+pub fn fixed(rt: &impl Print, call: &str, answer: FixAnswer) -> io::Result<()> {
     match answer {
         FixAnswer::Fixed(handle, looks) => {
-            text(call);
-            text(b": page ");
-            number(handle.page.0);
-            text(b" of store ");
-            number(handle.store.0 as u16);
-            text(b" in frame ");
-            number(handle.frame.0 as u16);
-            after(looks);
+            let page = handle.page.0;
+            let of_store = handle.store.0;
+            let frame = handle.frame.0;
+            println!(rt;
+                "{call}: page {page} of store {of_store} in frame {frame} after {looks} looks"
+            )
         }
-        FixAnswer::Refused(refusal) => refused(call, refusal),
+        FixAnswer::Refused(refusal) => refused(rt, call, refusal),
     }
 }
 
-// Find.
-pub fn found(call: &[u8], answer: FindAnswer) {
+// Find, with the entries compared.
+pub fn found(rt: &impl Print, call: &str, answer: FindAnswer) -> io::Result<()> {
     match answer {
-        FindAnswer::At(frame, entries) => {
-            text(call);
-            text(b": in frame ");
-            number(frame.0 as u16);
-            compared(entries);
+        FindAnswer::At(place, entries) => {
+            let frame = place.0;
+            println!(rt; "{call}: in frame {frame}, entries compared: {entries}")
         }
         FindAnswer::Absent(entries) => {
-            text(call);
-            text(b": absent");
-            compared(entries);
+            println!(rt; "{call}: absent, entries compared: {entries}")
         }
-        FindAnswer::Refused(refusal) => refused(call, refusal),
+        FindAnswer::Refused(refusal) => refused(rt, call, refusal),
     }
 }
 
@@ -93,14 +60,12 @@ fn text_end(part: &[u8]) -> usize
 }
 
 // Show and peek: the payload up to its first zero byte.
-pub fn payload(call: &[u8], refusal: u8, part: &[u8]) {
+pub fn payload(rt: &impl Print, call: &str, refusal: u8, part: &[u8]) -> io::Result<()> {
     if refusal != 0 {
-        refused(call, refusal);
-        return;
+        return refused(rt, call, refusal);
     }
     let end = text_end(part);
-    text(call);
-    text(b": ");
-    text(&part[..end]);
-    text(b"\n");
+    print!(rt; "{call}: ")?;
+    rt.write_all(&part[..end])?;
+    rt.println("")
 }

@@ -42,14 +42,14 @@ pub fn list_records(
     let count = block.len() / RECORD;
     let mut pool = pool;
     let mut end = 0;
-    let mut odd = 0;
+    let mut odd = 0u64;
     let mut i = 0;
     while i < count {
         let mut entry = [0u8; RECORD];
         let at = RECORD * i;
         copy::copy_into(&mut entry, &block[at..at + RECORD]);
         let line = recording::list_record(pool, frames, store, directory, &entry);
-        odd = std::num::wrapping_add_u64(odd, oddity(line.refusal));
+        odd = odd.wrapping_add(oddity(line.refusal));
         end = printing::put_line(text, end, line);
         pool = line.pool;
         i += 1;

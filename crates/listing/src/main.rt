@@ -6,9 +6,9 @@ mod message;
 
 ghost use Rattle.std.specs.Prelude.{◌≤◌};
 
-use libc::{STDIN_FILENO, STDOUT_FILENO};
 use page::PageNumber;
 use pool::Pool;
+use std::io::Read;
 
 // 4 frames, a store of 16 pages, and the directory.
 const FRAMES: usize = recording::FRAMES * PageNumber::SIZE;
@@ -47,7 +47,9 @@ fn last(turn: Turn) -> Turn
 }
 
 // Reads what is there after the part record, lists it and writes its lines.
-fn list_next(
+fn list_next<R: Read>(
+    rt: &(impl Print + Eprint),
+    input: &mut R,
     turn: Turn,
     frames: &mut [u8; FRAMES],
     store: &mut [u8; STORE],
@@ -59,14 +61,12 @@ fn list_next(
 {
     let bytes: &mut [u8] = block;
     let part = turn.part;
-    let got = libc::read(STDIN_FILENO, &mut bytes[part..]);
-    if got < 0 {
-        message::unread();
+    let Ok(n) = input.read(&mut bytes[part..]) else {
+        message::unread(rt);
         return last(turn);
-    }
-    let n = io::count(got, &bytes[part..]);
+    };
     if n == 0 {
-        message::ended(part, turn.records, turn.odd);
+        message::ended(rt, part, turn.records, turn.odd);
         return last(turn);
     }
     let end = part + n;
@@ -74,8 +74,8 @@ fn list_next(
     let pool = turn.pool;
     let run = block::list_records(pool, frames, store, directory, &bytes[..end], &mut text);
     let to = run.end;
-    if !io::write_all(STDOUT_FILENO, &text[..to]) {
-        message::unwritten();
+    if rt.write_all(&text[..to]).is_err() {
+        message::unwritten(rt);
         return last(turn);
     }
     let rest = block::keep_rest(bytes, end);
@@ -84,13 +84,14 @@ fn list_next(
         more: true,
         pool: next,
         part: rest,
-        records: std::num::wrapping_add_u64(turn.records, (end / block::RECORD) as u64),
-        odd: std::num::wrapping_add_u64(turn.odd, run.odd),
+        records: turn.records.wrapping_add((end / block::RECORD) as u64),
+        odd: turn.odd.wrapping_add(run.odd),
     }
 }
 
 // Lists on a pool just opened over zero pages. Nothing says that the input ends, so the turns are counted down from a number that no input reaches.
-fn main() {
+fn main(rt: HostRuntime) {
+    let mut input = rt.stdin();
     let mut frames = [0u8; FRAMES];
     let mut store = [0u8; STORE];
     let mut directory = [0u8; DIRECTORY];
@@ -106,7 +107,15 @@ fn main() {
     };
     let mut turns = u64::MAX;
     while turns > 0 {
-        turn = list_next(turn, &mut frames, &mut store, &mut directory, &mut block);
+        turn = list_next(
+            &rt,
+            &mut input,
+            turn,
+            &mut frames,
+            &mut store,
+            &mut directory,
+            &mut block,
+        );
         if !turn.more {
             return;
         }

@@ -1,28 +1,26 @@
-// What the program says on standard error. Lines that begin with 'lost' tell the command ./listing that lines are missing, since a program has no exit status.
-use libc::STDERR_FILENO;
-
-fn say(text: &[u8]) {
-    io::write_all(STDERR_FILENO, text);
-}
+// What the program says on standard error. Lines that begin with 'lost' tell the command ./listing that lines are missing, since the program always ends with status 0.
+// Where standard error takes nothing there is no other place to say it, so that error is let go.
 
 // Lines could not be written.
-pub fn unwritten() {
-    say(b"lost: the lines could not all be written\n");
+pub fn unwritten(rt: &impl Eprint) {
+    let _ = rt.eprintln("lost: the lines could not all be written");
 }
 
 // The input could not be read.
-pub fn unread() {
-    say(b"lost: the input could not be read to its end\n");
+pub fn unread(rt: &impl Eprint) {
+    let _ = rt.eprintln("lost: the input could not be read to its end");
 }
 
 // Hints at the end of the input, where it looks like no recording: bytes after the last whole record, and most records no calls.
-pub fn ended(part: usize, records: u64, odd: u64) {
+pub fn ended(rt: &impl Eprint, part: usize, records: u64, odd: u64) {
     if 0 < part {
-        say(b"a part record of ");
-        io::print_decimal(STDERR_FILENO, part as u64);
-        say(b" bytes at the end is left out; is this a recording?\n");
+        let _ = eprintln!(rt;
+            "a part record of {part} bytes at the end is left out; is this a recording?"
+        );
     }
     if records / 2 < odd {
-        say(b"most records have a call outside 1 to 9 or a length above 9; is this a recording?\n");
+        let _ = rt.eprintln(
+            "most records have a call outside 1 to 9 or a length above 9; is this a recording?",
+        );
     }
 }

@@ -12,7 +12,6 @@ ghost use Rattle.workload.specs.Workload.{begun, worked_from, workload_of, summe
 
 use checksum::Sum;
 use generator::Generator;
-use libc::STDOUT_FILENO;
 use page::PageNumber;
 use pool::Pool;
 
@@ -51,6 +50,7 @@ fn next_count(left: u32) -> usize
 
 // Runs so many records, and writes their bytes or their lines.
 fn run_next(
+    rt: &impl Print,
     turn: Turn,
     frames: &mut [u8; FRAMES],
     store: &mut [u8; STORE],
@@ -80,9 +80,9 @@ fn run_next(
     let sum = checksum::add(so_far, &text[..end]);
     let size = block::RECORD * count;
     let written = if as_records {
-        io::write_all(STDOUT_FILENO, &entries[..size])
+        rt.write_all(&entries[..size]).is_ok()
     } else {
-        io::write_all(STDOUT_FILENO, &text[..end])
+        rt.write_all(&text[..end]).is_ok()
     };
     let next = run.pool;
     let after = run.generator;
@@ -96,6 +96,7 @@ fn run_next(
 
 // Runs all records. The sum is over all of their lines, unless output was lost.
 fn run_all(
+    rt: &impl Print,
     pool: Pool,
     frames: &mut [u8; FRAMES],
     store: &mut [u8; STORE],
@@ -115,7 +116,7 @@ fn run_all(
     let mut left = count;
     while left > 0 {
         let next = next_count(left);
-        turn = run_next(turn, frames, store, directory, next, as_records);
+        turn = run_next(rt, turn, frames, store, directory, next, as_records);
         if !turn.written {
             return turn;
         }
@@ -125,7 +126,7 @@ fn run_all(
 }
 
 // Runs the records of a seed, on a pool just opened over zero pages.
-fn run_seed(seed: u32, count: u32, as_records: bool) -> Turn
+fn run_seed(rt: &impl Print, seed: u32, count: u32, as_records: bool) -> Turn
     ensures { result.written ≡ true → Over result.sum (workload_of seed count).text }
 {
     let mut frames = [0u8; FRAMES];
@@ -135,6 +136,7 @@ fn run_seed(seed: u32, count: u32, as_records: bool) -> Turn
     let pool = opened.pool;
     let generator = generator::seeded(seed);
     run_all(
+        rt,
         pool,
         &mut frames,
         &mut store,
@@ -146,17 +148,17 @@ fn run_seed(seed: u32, count: u32, as_records: bool) -> Turn
 }
 
 // Runs what the order says.
-fn main() {
-    let order = order::read();
+fn main(rt: HostRuntime) {
+    let order = order::read(&mut rt.stdin());
     if !order.is_whole {
-        message::no_order();
+        message::no_order(&rt);
         return;
     }
-    let turn = run_seed(order.seed, order.count, order.as_records);
+    let turn = run_seed(&rt, order.seed, order.count, order.as_records);
     if !turn.written {
-        message::unwritten();
+        message::unwritten(&rt);
         return;
     }
-    let sum = turn.sum;
-    message::summed(checksum::value(sum), sum.length, order.count);
+    let bytes = turn.sum.length;
+    message::summed(&rt, checksum::value(turn.sum), bytes, order.count);
 }
