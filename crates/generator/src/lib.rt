@@ -6,7 +6,7 @@ ghost use Rattle.generator.specs.Generator.{number_after, seed_read};
 
 // A generator: the number that the next draw starts from.
 #[repr(C)]
-#[derive(Drop)]
+#[derive(Clone, Copy)]
 pub struct Generator {
     pub number: u32,
 }
