@@ -69,8 +69,8 @@ build_once() {
     exec 9>&-
 }
 
-# Runs the program, built first where it must be, and ends with its status. A program in Rattle has none: it says on standard error
-# what was lost, and that decides.
+# Runs the program, built first where it must be, and ends with its status. That of these programs is 0 where output was lost too: they
+# say on standard error what was lost, and that decides.
 run() {
     local said status
     is_built || build_once
