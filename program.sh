@@ -27,7 +27,7 @@ crates() {
             n = split(below[name], list, " ")
             for (i = 1; i <= n; i++) walk(list[i])
         }
-        !/^#/ { below[$1] = $2 }
+        !/^#/ { split($1, words, " "); below[words[1]] = $2 }
         END { walk(top) }' "$here/crates.txt"
 }
 
@@ -38,16 +38,19 @@ is_built() {
     [ -z "$(find "${sources[@]}" -type f -newer "$program" -print -quit)" ]
 }
 
-# Passes on what rt says of each crate and function, with the crates that are left; where it fails, all that it says.
+# Has rt prove and build the program, which it then runs once, on the input that stands beside its sources: rt has no command that
+# builds a program alone. Passes on what rt says of each crate and function, with the crates that are left; where it fails, all that it
+# says. A crate that stands proved is not told.
 build() {
     command -v rt > /dev/null || fail "the program is not built yet, and rt, which builds it, is not found"
     local report left status line
     report=$(mktemp) || fail "no temporary file"
     left=$(crates | wc -l)
-    echo "$name: builds the program first; crates to prove: $left" >&2
-    (cd "$here" && rt check "$name" 2>&1 < /dev/null) | tee "$report" | while IFS= read -r line; do
+    echo "$name: builds the program first; crates to prove: up to $left" >&2
+    (cd "$here/crates/$name" && rt run 2>&1 > /dev/null < stdin) | tee "$report" | while IFS= read -r line; do
         case $line in
-            "rt: "*" proved ("*) left=$((left - 1)) && echo "$line  [$left crates left]" ;;
+            "crate "*": modules loaded="*) left=$((left - 1)) && echo "$line  [up to $left left]" ;;
+            "rt: running "*) ;;
             "rt: "* | "fn "* | "struct "* | "enum "*) echo "$line" ;;
         esac
     done >&2
@@ -55,7 +58,7 @@ build() {
     [ "$status" -eq 0 ] || cat "$report" >&2
     rm -f "$report"
     [ "$status" -eq 0 ] || fail "the program could not be built"
-    touch "$program"
+    { mkdir -p "${program%/*}" && cp "$here/crates/$name/out/$name" "$program.new" && mv -f "$program.new" "$program"; } || fail "the program could not be put into target/bin/"
 }
 
 # Of several commands that find a program missing, one builds at a time, and the others wait.
@@ -66,8 +69,8 @@ build_once() {
     exec 9>&-
 }
 
-# Runs the program, built first where it must be, and ends with its status. A program in Rattle has none: it says on standard error
-# what was lost, and that decides.
+# Runs the program, built first where it must be, and ends with its status. That of these programs is 0 where output was lost too: they
+# say on standard error what was lost, and that decides.
 run() {
     local said status
     is_built || build_once

@@ -8,22 +8,29 @@ from shared import Copy, compare
 
 FILES = ["program.sh", "listing", "workload"]
 # all that the commands and the stand-in call; flock may be missing
-TOOLS = ["awk", "cat", "chmod", "dirname", "find", "flock", "mkdir", "mktemp", "rm", "sed", "sleep", "tee", "touch", "wc"]
-CRATES = "# NAME: the crates it knows\npage:\nother:\nprinting: page\nlisting: page printing io\nworkload: page printing other io\n"
-# says what rt says, and makes a program that reads its input and says what it is, but leaves one that is there, as rt does; fails where
-# a file asks for it
+TOOLS = ["awk", "cat", "chmod", "cp", "dirname", "find", "flock", "mkdir", "mktemp", "mv", "rm", "sed", "sleep", "tee", "wc"]
+CRATES = "# NAME: the crates it knows\npage:\nother:\nprinting: page\nlisting: page printing csv\nworkload status=0: page printing other csv\n"
+# says what rt run says in a crate's folder, makes a program that reads its input and says what it is, but leaves one that is there, as
+# rt does, and runs it; fails where a file asks for it
 RT = """#!/bin/bash
-echo "begins $2" >> log
+name=${PWD##*/}
+echo "begins $name" >> ../../log
 sleep 0.1
-echo "rt: page proved (1 s)"
-echo "fn page::word"
-echo "  a line of the report"
-echo "ends $2" >> log
-[ ! -e fails ] || exit 1
-[ ! -e "target/bin/$2" ] || exit 0
-mkdir -p target/bin
-printf '#!/bin/sh\\ncat > /dev/null\\necho %s\\n' "$2" > "target/bin/$2"
-chmod +x "target/bin/$2"
+{
+    echo "rt: chose --jobs 2 for page"
+    echo "fn page::word: proved"
+    echo "  a line of the report"
+    echo "crate page: modules loaded=2 checked=1"
+    echo "rt: running out/$name"
+} >&2
+echo "ends $name" >> ../../log
+[ ! -e ../../fails ] || exit 1
+if [ ! -e "out/$name" ]; then
+    mkdir -p out
+    printf '#!/bin/sh\\ncat > /dev/null\\necho %s\\n' "$name" > "out/$name"
+    chmod +x "out/$name"
+fi
+[ "$*" = run ] && [ "$(cat)" = "the input of $name" ] && "out/$name" < /dev/null
 """
 
 
@@ -35,6 +42,7 @@ class Folder(Copy):
         self.write("crates.txt", CRATES)
         for crate in ("page", "other", "printing", "listing", "workload"):
             self.write(f"crates/{crate}/src/lib.rt", "")
+            self.write(f"crates/{crate}/stdin", f"the input of {crate}\n")
         self.write("tools/rt", RT, 0o755)
 
     def environment(self):
@@ -61,7 +69,8 @@ def results():
     with tempfile.TemporaryDirectory() as path:
         folder = Folder(path)
         once, pair = ["begins workload", "ends workload"], ["begins listing", "begins workload", "ends listing", "ends workload"]
-        told = "workload: builds the program first; crates to prove: 4\nrt: page proved (1 s)  [3 crates left]\nfn page::word\n"
+        told = "workload: builds the program first; crates to prove: up to 4\nrt: chose --jobs 2 for page\nfn page::word: proved\n"
+        told += "crate page: modules loaded=2 checked=1  [up to 3 left]\n"
         yield compare("./workload, no program", folder.run("workload", "7", "1"), (0, "workload\n", told, once))
         yield compare("./workload, built", folder.run("workload", "7", "1"), (0, "workload\n", "", []))
         os.utime(folder.at("target/bin/workload"), (1, 1))
@@ -77,8 +86,9 @@ def results():
         os.utime(folder.at("target/bin/workload"), (2, 2))
         folder.write("fails", "")
         status, lines, said, built = folder.run("workload", "7", "1")
-        ends = "  a line of the report\nworkload: the program could not be built\n"
-        yield compare("./workload, rt fails", [status, lines, said.endswith(ends), built], [2, "", True, once])
+        ends = "\nrt: running out/workload\nworkload: the program could not be built\n"
+        found = [status, lines, "\n  a line of the report\n" in said, said.endswith(ends), built]
+        yield compare("./workload, rt fails", found, [2, "", True, True, once])
         os.remove(folder.at("fails"))
         for program in ("listing", "workload"):
             os.remove(folder.at(f"target/bin/{program}"))
