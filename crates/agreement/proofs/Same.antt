@@ -5,7 +5,8 @@ use Rattle.std.proofs.Common.{◌∙◌, le_refl, eqb-true, eq-eqb, le-leb, leb-
 use native.Mathlib.Omega.{arith}
 use Rattle.std.proofs.Math.Decide.{ℕ_discrete, dec_lt}
 use Rattle.page.specs.Figures.{slot_count, record_count}
-use Rattle.page.specs.StorePlaces.{store_place, place-inj}
+use Rattle.page.specs.StorePlaces.{store_place}
+use Rattle.page.proofs.StorePlaceLaws.{place-inj}
 use Rattle.page.specs.Word.{name_of, frame_in, frame_word, Number, Swizzled, high, low, reading}
 use Rattle.page.specs.Page.{name}
 use Rattle.machine.specs.declared.FrameRecord.{FrameRecord}

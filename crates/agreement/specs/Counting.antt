@@ -6,7 +6,7 @@ use Rattle.std.proofs.lemmas.Bool.{not-true}
 use mir.Val.{bool_byte}
 use Rattle.rules.specs.Tests.{◌and◌, some}
 use Rattle.chains.specs.Chain.{tally}
-use Rattle.chains.specs.FrameTally.{tally-zero, tally-on, tally-off}
+use Rattle.chains.proofs.FrameTally.{tally-zero, tally-on, tally-off}
 use Rattle.rules.specs.TestLaws.{clash, case, on, off, is-off, same, and_left, and-true, and-off, both, some-true, some-false}
 
 -- how many numbers below n pass

@@ -7,7 +7,8 @@ use Rattle.std.proofs.Math.Decide.{ℕ_discrete, dec_lt}
 use Rattle.std.proofs.lemmas.Bool.{lt-leb, eqb-false, not-true}
 use mir.Val.{bool_byte}
 use Rattle.page.specs.Figures.{slot_count, page_size, most_pages, most_stores}
-use Rattle.page.specs.Word.{is_marked, name_of, is_marked_number, plainly, markedly, says, marked-name, unmarked-name, marked-number-is, mark-swizzled}
+use Rattle.page.specs.Word.{is_marked, name_of, is_marked_number, plainly, markedly}
+use Rattle.page.proofs.NameLaws.{says, marked-name, unmarked-name, marked-number-is, mark-swizzled}
 use Rattle.page.specs.Page.{slot}
 use Rattle.machine.specs.declared.FrameRecord.{FrameRecord}
 use Rattle.machine.specs.Machine.{is_used, record_at, store_in}

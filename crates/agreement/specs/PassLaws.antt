@@ -13,7 +13,7 @@ use Rattle.machine.specs.declared.FrameRecord.{FrameRecord}
 use Rattle.rules.specs.Tests.{◌and◌}
 use Rattle.rules.specs.TestLaws.{clash, case, on, off, same, both, and_left, or_left, or_right, or_off}
 use Rattle.chains.specs.Chain.{tally}
-use Rattle.chains.specs.FrameTally.{tally-same}
+use Rattle.chains.proofs.FrameTally.{tally-same}
 use Rattle.machine.specs.Machine.{is_used, is_of, record_at, store_in}
 use Rattle.seen.specs.Seen.{Seen}
 use Rattle.seen.specs.SeenLaws.{none-alone}

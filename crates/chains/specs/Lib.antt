@@ -1,6 +1,4 @@
--- The directory of resident pages as bytes and chains, and what holds of them.
+-- The directory of resident pages as bytes and chains, and which frames a chain leads through.
 pub mod Chain
-pub mod FrameTally
-pub mod ChainLaws
-pub mod ChainFacts
+pub mod Links
 pub mod ChainRows

@@ -11,8 +11,9 @@ use Rattle.machine.specs.Machine.{State, place_in}
 use Rattle.chains.specs.Chain.{bucket_of, Sought, seek_in, sought_in}
 use Rattle.machine.specs.Answers.{payload, in_frames, in_store, frame, nowhere}
 use Rattle.machine.specs.Calls.{page_rules, sought, payload_place, peek_call, found_answer, find_call}
-use Rattle.chains.specs.ChainLaws.{seek-compared}
-use Rattle.chains.specs.ChainFacts.{Bucket, bucket-few, bucket-chain}
+use Rattle.chains.proofs.ChainLaws.{seek-compared}
+use Rattle.chains.proofs.ChainFacts.{bucket-few, bucket-chain}
+use Rattle.chains.specs.Links.{Bucket}
 use Rattle.machine.proofs.Laws.DirectoryFacts.{home_of, home-framed, bucket-lt}
 use Rattle.machine.proofs.Laws.Ready.{Kept}
 use Rattle.machine.proofs.Laws.RuleLaws.{PageKept, page-kept, answer-yes}

@@ -5,7 +5,7 @@ use Rattle.std.proofs.Math.Decide.{ℕ_discrete}
 use Rattle.page.specs.Figures.{most_frames}
 use Rattle.rules.specs.TestLaws.{clash}
 use Rattle.chains.specs.Chain.{directory_size, buckets, link_at}
-use Rattle.chains.specs.ChainFacts.{Chained}
+use Rattle.chains.specs.Links.{Chained}
 use Rattle.directory.specs.Pass.{met, Follows, follows-end, no-frame, stray, follows-step, awaited_count, awaited-met}
 
 abbrev pub row_size : ℕ

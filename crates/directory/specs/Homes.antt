@@ -12,8 +12,8 @@ use Rattle.machine.proofs.Laws.AgreementFacts.{Agreed, occupied-lt}
 use Rattle.chains.specs.Chain.{directory_size, buckets, bucket_of, link_at, seek_in, sought_in}
 use Rattle.machine.specs.Directory.{chains_agree}
 use Rattle.machine.specs.Calls.{sought}
-use Rattle.chains.specs.ChainLaws.{In, Chain}
-use Rattle.chains.specs.ChainFacts.{Bucket, Chained, Framed, chained-ext, bucket-chain}
+use Rattle.chains.specs.Links.{In, Chain, Bucket, Chained, Framed}
+use Rattle.chains.proofs.ChainFacts.{chained-ext, bucket-chain}
 use Rattle.machine.proofs.Laws.DirectoryFacts.{bucket-lt, home_of, home-on, home_off, home-framed, chains-facts, chains-tests}
 use Rattle.machine.proofs.Laws.Ready.{Kept}
 use Rattle.residents.specs.Residents.{key_of, key_by, page_by, Residents, holds_page}

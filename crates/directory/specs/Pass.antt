@@ -8,8 +8,9 @@ use Rattle.rules.specs.Tests.{pick}
 use Rattle.rules.specs.TestLaws.{clash, pick_yes, pick_no, pick-either}
 use Rattle.rules.specs.Deciding.{Decides}
 use Rattle.chains.specs.Chain.{directory_size, buckets, link_at}
-use Rattle.chains.specs.ChainLaws.{In, Single, Chain, in-none, in_head, in_tail, in_rest, in-apart, single-head, single-tail, single_more, chain-none, chain_more, chain-end, chain-step}
-use Rattle.chains.specs.ChainFacts.{Section, Chained, chained-ext}
+use Rattle.chains.proofs.ChainLaws.{in-none, in_head, in_tail, in_rest, in-apart, single-head, single-tail, single_more, chain-none, chain_more, chain-end, chain-step}
+use Rattle.chains.specs.Links.{In, Single, Chain, Section, Chained}
+use Rattle.chains.proofs.ChainFacts.{chained-ext}
 
 -- more than 67 and a byte together
 abbrev pub met : ℕ

@@ -3,7 +3,7 @@ use Rattle.std.specs.Prelude.{ℕ, zero, suc, ◌+◌, ◌<◌, ◌≤◌, ◌�
 use Rattle.std.proofs.Common.{◌∙◌, ap, arith, add-one, length-set, get_or-set_same, get_or-set_other}
 use Rattle.std.proofs.Math.Decide.{ℕ_discrete}
 use Rattle.chains.specs.Chain.{directory_size, bucket_of, entered, opened_directory}
-use Rattle.chains.specs.ChainLaws.{entered-length}
+use Rattle.chains.proofs.ChainLaws.{entered-length}
 
 -- the first n bytes are 0
 pub record Zeroed (d : List ℕ) (n : ℕ) : Type 0 where

@@ -4,7 +4,7 @@
 ghost use Rattle.std.specs.Prelude.{◌≡◌, true, ◌+◌, ◌%◌, ◌<◌, ◌≤◌, length, get_or, set};
 ghost use Rattle.page.specs.Figures.{most_frames, most_pages, most_stores};
 ghost use Rattle.chains.specs.Chain.{directory_size, buckets, bucket_of, opened_directory, entered, taken_out, sought_in};
-ghost use Rattle.chains.specs.ChainFacts.{Chained};
+ghost use Rattle.chains.specs.Links.{Chained};
 ghost use Rattle.residents.specs.Residents.{key_of, key_by};
 ghost use Rattle.rules.specs.Deciding.{Decides};
 ghost use Rattle.directory.specs.Homes.{home_by, Followed};

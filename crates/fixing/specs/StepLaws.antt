@@ -27,7 +27,7 @@ use Rattle.machine.proofs.Laws.RuleLaws.{SlotKept, held-occupied, store_kept, de
 use Rattle.machine.proofs.Laws.SweepLaws.{loose-of, sweep_sound, swept-ready}
 use Rattle.machine.proofs.Laws.Standings.{open-childless}
 use Rattle.machine.proofs.Laws.MoveLaws.{evicted-sized}
-use Rattle.chains.specs.ChainLaws.{taken-length}
+use Rattle.chains.proofs.ChainLaws.{taken-length}
 use Rattle.seen.specs.Seen.{Seen}
 use Rattle.residents.specs.Residents.{held_by}
 use Rattle.residents.specs.ResidentLaws.{held_by_lem}

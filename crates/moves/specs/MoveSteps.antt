@@ -3,7 +3,8 @@ use Rattle.std.specs.Prelude.{ℕ, ◌+◌, ◌*◌, ◌-◌, ◌<◌, ◌≤◌
 use Rattle.std.proofs.Common.{sym, ap, ◌∙◌, arith, add-one}
 use borrow.Rule.Slice.PartMut.{put_mid}
 use Rattle.page.specs.Figures.{page_size, slot_count}
-use Rattle.page.specs.StorePlaces.{store_place, place-lt}
+use Rattle.page.specs.StorePlaces.{store_place}
+use Rattle.page.proofs.StorePlaceLaws.{place-lt}
 use Rattle.page.specs.Word.{renamed, is_number, number-yes}
 use Rattle.page.specs.Octets.{Octets}
 use Rattle.page.specs.Page.{slot, name, page_of, put_slot, put_page, slot-page_of, page_of-whole, part-is-page, put-part}

@@ -7,7 +7,8 @@ use borrow.Author.Tests.{eq-eqb, eqb-true, lt-ltb, le-ltb}
 use Rattle.std.proofs.Math.Dec.{eqb}
 use Rattle.page.specs.Figures.{slot_count}
 use Rattle.page.specs.Page.{slot, page_words}
-use Rattle.page.specs.StorePlaces.{store_place, place-inj}
+use Rattle.page.specs.StorePlaces.{store_place}
+use Rattle.page.proofs.StorePlaceLaws.{place-inj}
 use Rattle.rules.specs.Tests.{◌or◌}
 use Rattle.rules.specs.TestLaws.{case, on, off, same, is-off, or_left, or_right, or-second, some-true, true-some, pick_yes, pick_no}
 use Rattle.machine.specs.Machine.{State, page_in, occupied, found, found_in}

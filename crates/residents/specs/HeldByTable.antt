@@ -9,7 +9,7 @@ use Rattle.page.specs.Figures.{most_pages}
 use Rattle.rules.specs.Tests.{◌and◌}
 use Rattle.rules.specs.TestLaws.{case, on, off, or_left, or-skip, and_yes}
 use Rattle.chains.specs.Chain.{tally}
-use Rattle.chains.specs.FrameTally.{tally-zero, tally-on, tally-off}
+use Rattle.chains.proofs.FrameTally.{tally-zero, tally-on, tally-off}
 use Rattle.seen.specs.Fold.{flag-and}
 use Rattle.residents.specs.Residents.{key_by, holds_page, holds_of}
 

@@ -10,9 +10,10 @@ use Rattle.std.proofs.Math.Dec.{eqb}
 use Rattle.page.specs.Figures.{slot_count, most_frames, most_pages}
 use Rattle.page.specs.Word.{frame_in, frame_word, reading, low, high}
 use Rattle.page.specs.Page.{slot, name, page_words, name-row}
-use Rattle.page.specs.StorePlaces.{store_place, place-inj}
+use Rattle.page.specs.StorePlaces.{store_place}
+use Rattle.page.proofs.StorePlaceLaws.{place-inj}
 use Rattle.machine.specs.declared.FrameRecord.{FrameRecord}
-use Rattle.chains.specs.FrameTally.{tally-same}
+use Rattle.chains.proofs.FrameTally.{tally-same}
 use Rattle.rules.specs.Tests.{◌and◌, ◌or◌}
 use Rattle.rules.specs.TestLaws.{clash, case, on, off, same, both, and_yes, and-true, or_left, or_right, or-second, some-true, true-some}
 use Rattle.machine.specs.Machine.{State, page_in, store_in, occupied, held}

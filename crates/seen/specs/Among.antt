@@ -4,7 +4,8 @@ use Rattle.std.proofs.Common.{sym, ◌∙◌, ap, add-one, arith}
 use borrow.Author.Tests.{eq-eqb, ne_eqb, eqb-true, eqb-false, not-false}
 use Rattle.std.proofs.Math.Dec.{eqb}
 use Rattle.page.specs.Figures.{slot_count, word_size}
-use Rattle.page.specs.Word.{word_at, half_radix, name-half}
+use Rattle.page.specs.Word.{word_at, half_radix}
+use Rattle.page.proofs.NameLaws.{name-half}
 use Rattle.page.specs.Page.{words_from}
 use Rattle.rules.specs.Tests.{some}
 use Rattle.rules.specs.TestLaws.{clash, is-off, some-zero, some-suc, true-some, some-true, some-false}

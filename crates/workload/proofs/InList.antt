@@ -2,7 +2,8 @@
 use Rattle.std.specs.Prelude.{ℕ, zero, suc, ◌<◌, ◌≡◌, refl, ◌≢◌, Bool, true, false, not, List, [], get_or, replicate}
 use Rattle.std.proofs.Common.{sym, ◌∙◌, ap, arith, lt-ltb}
 use Rattle.page.specs.Figures.{slot_count}
-use Rattle.page.specs.Word.{word_at-bytes, is_marked, name_of, names_nothing, low_word}
+use Rattle.page.specs.Word.{word_at-bytes, is_marked, name_of, names_nothing}
+use Rattle.page.proofs.NameLaws.{low_word}
 use Rattle.page.specs.Page.{slot, name, bytes_from}
 use Rattle.page.specs.Octets.{Octets}
 use Rattle.page.specs.StorePlaces.{store_place}

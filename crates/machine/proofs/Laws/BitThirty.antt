@@ -5,9 +5,11 @@ use Rattle.std.proofs.Math.Path.{ap}
 use Rattle.std.proofs.Math.Bool.{not}
 use Rattle.std.proofs.Math.Dec.{eqb, ltb}
 use Rattle.page.specs.Figures.{slot_count, most_pages, word_radix, swizzle_bit, lock_bit}
-use Rattle.page.specs.Word.{name_of, is_number, frame_in, names_nothing, says, plainly, markedly, bit-alone}
+use Rattle.page.specs.Word.{name_of, is_number, frame_in, names_nothing, plainly, markedly, bit-alone}
+use Rattle.page.proofs.NameLaws.{says}
 use Rattle.page.specs.Page.{slot, name}
-use Rattle.page.specs.StorePlaces.{store_place, place-lt}
+use Rattle.page.specs.StorePlaces.{store_place}
+use Rattle.page.proofs.StorePlaceLaws.{place-lt}
 use Rattle.machine.specs.declared.Handle.{Handle}
 use Rattle.rules.specs.Tests.{pick, ◌and◌, ◌⇒◌, every, Rule, first_broken, verdict}
 use Rattle.rules.specs.TestLaws.{clash, is-off, and_left, and_no, or_off, every-false, every-ext, pick_yes, pick_two, kept_then, broken-here, numbered}

@@ -17,8 +17,9 @@ use Rattle.machine.proofs.Laws.AgreementFacts.{occupied-lt}
 use Rattle.machine.proofs.Laws.FoundLaws.{found-le, found-holds, found_none, found-records}
 use Rattle.chains.specs.Chain.{buckets, bucket_of, chain_of, each_of, once, seek_in, sought_in}
 use Rattle.machine.specs.Directory.{belongs, chain_right, chains_right, chains_whole, others_zero, chains_agree, residents_of}
-use Rattle.chains.specs.ChainLaws.{In, Single, has_in, in-has, each_in, in-each, once-single, single-once, single-few, single-most, list-chain, seek_found, seek-none, seek-compared, seek-place, seek-whole}
-use Rattle.chains.specs.ChainFacts.{Bucket, Chained, Framed, bucket-chain}
+use Rattle.chains.proofs.ChainLaws.{has_in, in-has, each_in, in-each, once-single, single-once, single-few, single-most, list-chain, seek_found, seek-none, seek-compared, seek-place, seek-whole}
+use Rattle.chains.specs.Links.{In, Single, Bucket, Chained, Framed}
+use Rattle.chains.proofs.ChainFacts.{bucket-chain}
 
 -- ---- in a pool
 

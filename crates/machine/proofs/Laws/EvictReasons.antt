@@ -5,7 +5,8 @@ use Rattle.std.proofs.Common.{sym, ◌∙◌, ap, inl, inr, arith}
 use mathlib.Core.List.{List, [], ◌∷◌, ◌++◌}
 use borrow.Author.Tests.{ltb-true}
 use Rattle.page.specs.declared.PageNumber.{PageNumber}
-use Rattle.page.specs.StorePlaces.{store_place, place-inj}
+use Rattle.page.specs.StorePlaces.{store_place}
+use Rattle.page.proofs.StorePlaceLaws.{place-inj}
 use Rattle.machine.specs.declared.Standing.{Standing}
 use Rattle.rules.specs.Tests.{◌and◌, Rule, first_broken}
 use Rattle.machine.specs.Machine.{State, record_at, place_in, found, found_in}

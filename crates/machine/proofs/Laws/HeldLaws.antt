@@ -7,7 +7,7 @@ use Rattle.page.specs.Figures.{record_count}
 use Rattle.machine.specs.declared.FrameRecord.{FrameRecord}
 use Rattle.machine.specs.declared.Pool.{Pool}
 use Rattle.rules.specs.TestLaws.{clash, is-off, and-true, both}
-use Rattle.chains.specs.FrameTally.{tally-le, tally-same, tally-one-more, tally-all, tally-alone}
+use Rattle.chains.proofs.FrameTally.{tally-le, tally-same, tally-one-more, tally-all, tally-alone}
 use Rattle.machine.specs.Machine.{blank, root_record, is_used, record_at, with_record, opened_pool, is_of, held}
 use Rattle.machine.proofs.Laws.RootRecords.{root-record, other-record}
 

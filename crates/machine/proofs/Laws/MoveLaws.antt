@@ -7,7 +7,8 @@ use Rattle.std.proofs.Math.Decide.{dec_lt, ℕ_discrete}
 use Rattle.page.specs.Figures.{page_size, slot_count, payload_start, most_frames, word_radix}
 use Rattle.page.specs.Word.{is_number, frame_in, frame_word, put_word-before, put_word-after, Number, number-yes}
 use Rattle.page.specs.Page.{slot, name, byte, page_of, put_slot, put_page, put_slot-length, slot-put_slot-same, slot-put_slot-slot, byte-put_slot, page_of-length, put_page-length, slot-page_of, page_of-put_page, page_of-ext}
-use Rattle.page.specs.StorePlaces.{store_place, place-lt}
+use Rattle.page.specs.StorePlaces.{store_place}
+use Rattle.page.proofs.StorePlaceLaws.{place-lt}
 use Rattle.page.specs.Octets.{Octets, octets-put_slot, octets-page_of, slot_lt, buffer-ext}
 use Rattle.machine.specs.declared.FrameRecord.{FrameRecord}
 use Rattle.rules.specs.Tests.{pick}

@@ -2,7 +2,8 @@
 use Rattle.std.specs.Prelude.{◌≡◌, ℕ, ◌<◌}
 use Rattle.std.proofs.Common.{sym, ap, arith}
 use Rattle.page.specs.Figures.{most_pages, word_radix}
-use Rattle.page.specs.Word.{is_marked, name_of, Number, Swizzled, frame_in, frame_word, yes-number, no_number, name-renamed-number, mark-renamed-number, renamed-same, renamed-lt}
+use Rattle.page.specs.Word.{is_marked, name_of, Number, Swizzled, frame_in, frame_word, yes-number, no_number}
+use Rattle.page.proofs.NameLaws.{name-renamed-number, mark-renamed-number, renamed-same, renamed-lt}
 use Rattle.rules.specs.Tests.{pick}
 use Rattle.machine.specs.Moves.{plain, imaged}
 

@@ -4,7 +4,7 @@ use Rattle.std.proofs.Common.{sym, ◌∙◌, arith, eqb-true, leb-true, le-leb,
 use Rattle.page.specs.Figures.{page_size, slot_count, least_frames, most_frames, most_pages, most_stores}
 use Rattle.page.specs.Word.{frame_in, frame_word, high, low, reading}
 use Rattle.page.specs.Page.{name}
-use Rattle.page.specs.StorePlaces.{place-lt}
+use Rattle.page.proofs.StorePlaceLaws.{place-lt}
 use Rattle.machine.specs.declared.FrameRecord.{FrameRecord}
 use Rattle.rules.specs.Tests.{pick, ◌and◌, first_broken}
 use Rattle.rules.specs.TestLaws.{clash, and-true, both, first-kept, case, on, off, every_true, true-every, pick_yes, pick_no}
@@ -13,7 +13,7 @@ use Rattle.machine.specs.Agreement.{is_blank, agree}
 use Rattle.machine.proofs.Laws.AgreementFacts.{InRange, Points, Agreed, facts, make-occupied, occupied-lt, occupied-used}
 use Rattle.chains.specs.Chain.{directory_size}
 use Rattle.machine.specs.Directory.{chains_agree}
-use Rattle.chains.specs.ChainFacts.{Chained}
+use Rattle.chains.specs.Links.{Chained}
 use Rattle.machine.proofs.Laws.DirectoryFacts.{home_of, chains-facts}
 use Rattle.machine.specs.Rules.{lengths_fit, ceiling_fits, stores_fit, directory_fits}
 use Rattle.machine.specs.Calls.{pool_rules}

@@ -6,7 +6,7 @@ use Rattle.std.proofs.Common.{sym, ◌∙◌, length-take, length-drop, get_or-t
 use native.Mathlib.Omega.{arith}
 use Rattle.page.specs.Figures.{page_size, payload_start, payload_size}
 use Rattle.page.specs.Page.{name, lock, byte, page_of, bytes_from, payload_at, payload_of}
-use Rattle.page.specs.StorePlaces.{store-room, place-lt}
+use Rattle.page.proofs.StorePlaceLaws.{store-room, place-lt}
 use Rattle.machine.specs.declared.Handle.{Handle}
 use Rattle.machine.specs.Machine.{page_number}
 use Rattle.machine.specs.Answers.{Answer, refused, payload, in_frames, in_store, number, frame, Out, cut}

@@ -12,8 +12,9 @@ use Rattle.machine.specs.Machine.{blank, is_used, record_at, page_in, with_recor
 use Rattle.machine.proofs.Laws.AgreementFacts.{occupied-used, make-occupied}
 use Rattle.chains.specs.Chain.{directory_size, buckets, bucket_of, link_at, opened_directory, entered, taken_out}
 use Rattle.machine.specs.ByChain.{last_first, RootsAlone}
-use Rattle.chains.specs.ChainLaws.{In, Apart, Single, Chain, chain-none, chain-list, enter-head, entered-length}
-use Rattle.chains.specs.ChainFacts.{Framed, Chained, chained-ext, enter-chained, taken-chained}
+use Rattle.chains.proofs.ChainLaws.{chain-none, chain-list, enter-head, entered-length}
+use Rattle.chains.specs.Links.{In, Apart, Single, Chain, Framed, Chained}
+use Rattle.chains.proofs.ChainFacts.{chained-ext, enter-chained, taken-chained}
 use Rattle.machine.proofs.Laws.DirectoryFacts.{home_of, home_same, home-on, home_off, home-framed, bucket-lt}
 use Rattle.machine.proofs.Theorem.RecordChange.{SamePlaces, change-here, change-other}
 

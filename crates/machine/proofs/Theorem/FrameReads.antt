@@ -5,7 +5,8 @@ use Rattle.std.proofs.Math.Decide.{ℕ_discrete}
 use Rattle.page.specs.Figures.{slot_count}
 use Rattle.page.specs.Word.{frame_word, Number, reading, low, high}
 use Rattle.page.specs.Page.{name}
-use Rattle.page.specs.StorePlaces.{store_place, store-room, place-lt, place-store, place-inj}
+use Rattle.page.specs.StorePlaces.{store_place}
+use Rattle.page.proofs.StorePlaceLaws.{store-room, place-lt, place-store, place-inj}
 use Rattle.machine.specs.declared.FrameRecord.{FrameRecord}
 use Rattle.machine.specs.Machine.{State, page_in, store_in}
 use Rattle.machine.specs.Moves.{plain}

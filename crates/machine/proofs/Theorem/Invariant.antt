@@ -7,7 +7,7 @@ use Rattle.machine.specs.declared.FrameRecord.{FrameRecord}
 use Rattle.machine.specs.declared.Pool.{Pool}
 use Rattle.machine.specs.Machine.{State, blank, is_used, record_at, store_in, ceiling_of, held}
 use Rattle.chains.specs.Chain.{directory_size}
-use Rattle.chains.specs.ChainFacts.{Chained}
+use Rattle.chains.specs.Links.{Chained}
 use Rattle.machine.proofs.Laws.DirectoryFacts.{home_of}
 use Rattle.machine.proofs.Laws.Ready.{Sized, Ceiled}
 use Rattle.machine.proofs.Theorem.Lift.{lift}

@@ -9,7 +9,7 @@ use borrow.Author.Tests.{eqb-true, eqb-false, eq-eqb, lt-ltb, not-true}
 use Rattle.page.specs.Figures.{slot_count}
 use Rattle.page.specs.Word.{Number}
 use Rattle.page.specs.Page.{name}
-use Rattle.page.specs.StorePlaces.{place-lt}
+use Rattle.page.proofs.StorePlaceLaws.{place-lt}
 use Rattle.rules.specs.Tests.{Rule, first_broken}
 use Rattle.rules.specs.TestLaws.{case, on, off, is-off, and-true, both, or_left, or_right, true-every, some-true, some-false, false-some, pick_yes, pick_no, none-broken}
 use Rattle.machine.specs.Machine.{record_at, page_in, store_in, occupied, found, blank}

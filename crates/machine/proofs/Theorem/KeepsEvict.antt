@@ -4,7 +4,8 @@ use Rattle.std.proofs.Math.Path.{refl, sym, ap}
 use Rattle.std.proofs.Common.{◌∙◌, arith}
 use Rattle.std.proofs.Math.ListN.{length-set}
 use Rattle.page.specs.Figures.{slot_count, most_frames, most_pages}
-use Rattle.page.specs.Word.{Number, frame_word, is_marked, name-renamed-number, mark-renamed-number, name_of, number_word, renamed-lt}
+use Rattle.page.specs.Word.{Number, frame_word, is_marked, name_of, number_word}
+use Rattle.page.proofs.NameLaws.{name-renamed-number, mark-renamed-number, renamed-lt}
 use Rattle.page.specs.Page.{name, put_slot-length, slot-put_slot-same, slot-put_slot-page, byte-put_slot}
 use Rattle.page.specs.StorePlaces.{store_place}
 use Rattle.page.specs.Octets.{Octets, octets-put_slot}
@@ -23,7 +24,7 @@ use Rattle.machine.proofs.Laws.HeldLaws.{unused-of, held_kept, held-less}
 use Rattle.machine.proofs.Laws.MoveLaws.{written_out_by-length}
 use Rattle.machine.proofs.Theorem.ImageOut.{out-octets, out-slot_stays, out-byte_stays, out-word, out-mark, out-byte}
 use Rattle.machine.proofs.Theorem.SlotChange.{slot-put_slot-other, mark-put_slot}
-use Rattle.chains.specs.ChainLaws.{taken-length}
+use Rattle.chains.proofs.ChainLaws.{taken-length}
 use Rattle.machine.proofs.Theorem.Holders.{of-occupied}
 use Rattle.machine.proofs.Theorem.Chains.{evict-chained}
 use Rattle.machine.proofs.Theorem.RecordChange.{change-here, change-other, neat-blank, neat-change, lengths-kept}

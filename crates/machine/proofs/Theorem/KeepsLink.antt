@@ -4,7 +4,8 @@ use Rattle.std.proofs.Common.{sym, ap, ◌∙◌, arith, length-set}
 use Rattle.page.specs.Figures.{page_size, slot_count, word_radix}
 use Rattle.page.specs.Word.{Number, is_marked, name_of}
 use Rattle.page.specs.Page.{name, put_slot, put_slot-length, slot-put_slot-same, slot-put_slot-page, byte-put_slot}
-use Rattle.page.specs.StorePlaces.{store_place, store-room, place-inj, place-split}
+use Rattle.page.specs.StorePlaces.{store_place}
+use Rattle.page.proofs.StorePlaceLaws.{store-room, place-inj, place-split}
 use Rattle.page.specs.Octets.{octets-put_slot}
 use Rattle.machine.specs.declared.FrameRecord.{FrameRecord}
 use Rattle.machine.specs.Machine.{State, is_dirty, record_at, store_in, dirtied}

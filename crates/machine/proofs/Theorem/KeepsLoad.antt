@@ -5,9 +5,11 @@ use Rattle.std.proofs.Common.{◌∙◌, arith}
 use Rattle.std.proofs.Math.Decide.{ℕ_discrete}
 use Rattle.std.proofs.Math.ListN.{length-set}
 use Rattle.page.specs.Figures.{page_size, slot_count, most_frames}
-use Rattle.page.specs.Word.{Number, frame_word, is_marked, renamed, name-renamed-frame, mark-renamed-frame, name_of, renamed-lt}
+use Rattle.page.specs.Word.{Number, frame_word, is_marked, renamed, name_of}
+use Rattle.page.proofs.NameLaws.{name-renamed-frame, mark-renamed-frame, renamed-lt}
 use Rattle.page.specs.Page.{slot, name, lock, page_of, put_page, put_slot-length, slot-put_slot-same, slot-put_slot-page, byte-put_slot, page_of-length, put_page-length, slot-put_page-same, slot-put_page-other, byte-put_page-same, byte-put_page-other, slot-page_of, byte-page_of, byte-first}
-use Rattle.page.specs.StorePlaces.{store_place, store-room, place-lt, place-store}
+use Rattle.page.specs.StorePlaces.{store_place}
+use Rattle.page.proofs.StorePlaceLaws.{store-room, place-lt, place-store}
 use Rattle.page.specs.Octets.{octets-put_slot, octets-page_of, octets-put_page}
 use Rattle.machine.specs.declared.FrameRecord.{FrameRecord}
 use Rattle.rules.specs.TestLaws.{clash}
@@ -22,7 +24,7 @@ use Rattle.machine.proofs.Theorem.FrameReads.{store_below, up-store, word_below}
 use Rattle.machine.proofs.Theorem.LoadEffect.{Loaded, MayComeIn, absent-fits, empty-other, load-shape, load-content}
 use Rattle.machine.proofs.Theorem.PinsEffect.{pins-loaded}
 use Rattle.machine.proofs.Theorem.SlotChange.{slot-put_slot-other, mark-put_slot}
-use Rattle.chains.specs.ChainLaws.{entered-length}
+use Rattle.chains.proofs.ChainLaws.{entered-length}
 use Rattle.machine.proofs.Theorem.Chains.{load-chained}
 use Rattle.machine.proofs.Theorem.RecordChange.{change-here, change-other, neat-change, record-lt, lengths-kept}
 

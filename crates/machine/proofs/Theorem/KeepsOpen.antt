@@ -8,7 +8,8 @@ use Rattle.std.proofs.Math.ListN.{length}
 use Rattle.page.specs.Figures.{page_size, slot_count, record_count}
 use Rattle.page.specs.Word.{is_marked, name_of}
 use Rattle.page.specs.Page.{slot, name, lock, byte, page_of, page_of-length, put_page-length, slot-put_page-same, slot-put_page-other, byte-put_page-same, byte-put_page-other, slot-page_of, byte-page_of, byte-first}
-use Rattle.page.specs.StorePlaces.{store_place, store-room, place-lt, place-store, place-inj, place-split}
+use Rattle.page.specs.StorePlaces.{store_place}
+use Rattle.page.proofs.StorePlaceLaws.{store-room, place-lt, place-store, place-inj, place-split}
 use Rattle.page.specs.Octets.{Octets, octets-put_page, octets-page_of}
 use Rattle.machine.specs.declared.FrameRecord.{FrameRecord}
 use Rattle.rules.specs.TestLaws.{clash, and-true, use⇒, every_true}

@@ -5,7 +5,8 @@ use Rattle.std.proofs.Common.{◌∙◌, arith, le_refl, length-set}
 use Prim.Native.Nat.{ℕ, zero, suc, ◌*◌, ◌/◌, ◌≤◌, ◌<◌}
 use Rattle.std.proofs.Math.Decide.{ℕ_discrete, dec_lt}
 use Rattle.page.specs.Figures.{page_size, slot_count, payload_start, most_pages}
-use Rattle.page.specs.Word.{is_marked, name_of, word-ext}
+use Rattle.page.specs.Word.{is_marked, name_of}
+use Rattle.page.proofs.NameLaws.{word-ext}
 use Rattle.page.specs.Page.{slot, name, lock, byte}
 use Rattle.page.specs.StorePlaces.{store_place}
 use Rattle.page.specs.Octets.{Octets, buffer-ext}

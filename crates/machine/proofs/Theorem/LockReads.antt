@@ -3,9 +3,9 @@ use Rattle.std.specs.Prelude.{ℕ, ◌/◌, ◌<◌, ◌≤◌, ◌≡◌, ◌�
 use Rattle.std.proofs.Common.{sym, ◌∙◌, ap, arith, lt-ltb, le-ltb}
 use Rattle.std.proofs.Math.Decide.{ℕ_discrete, dec_lt}
 use Rattle.page.specs.Figures.{slot_count}
-use Rattle.page.specs.Word.{mark-names}
+use Rattle.page.proofs.NameLaws.{mark-names}
 use Rattle.page.specs.Page.{slot, name, lock}
-use Rattle.page.specs.StorePlaces.{store-room, place-split}
+use Rattle.page.proofs.StorePlaceLaws.{store-room, place-split}
 use Rattle.rules.specs.Tests.{◌and◌}
 use Rattle.rules.specs.TestLaws.{case, on, off}
 use Rattle.machine.specs.Rules.{locked}

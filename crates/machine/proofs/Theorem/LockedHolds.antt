@@ -8,9 +8,11 @@ use Rattle.std.proofs.Math.Decide.{dec_lt}
 use Rattle.std.proofs.lemmas.Bool.{not-false}
 use Rattle.page.specs.declared.PageNumber.{PageNumber}
 use Rattle.page.specs.Figures.{page_size, slot_count, payload_start, most_pages, word_radix}
-use Rattle.page.specs.Word.{is_marked, name_of, marked, number_word, mark-number, name-marked, mark-marked, marked-lt, mark-names, word-ext}
+use Rattle.page.specs.Word.{is_marked, name_of, marked, number_word}
+use Rattle.page.proofs.NameLaws.{mark-number, name-marked, mark-marked, marked-lt, mark-names, word-ext}
 use Rattle.page.specs.Page.{slot, name, lock, byte, page_of, put_slot, slot-put_slot-same, page_of-put_payload-other}
-use Rattle.page.specs.StorePlaces.{store_place, place-lt, place-store, place-inj}
+use Rattle.page.specs.StorePlaces.{store_place}
+use Rattle.page.proofs.StorePlaceLaws.{place-lt, place-store, place-inj}
 use Rattle.page.specs.Octets.{page-ext}
 use Rattle.machine.specs.declared.Handle.{Handle}
 use Rattle.rules.specs.Tests.{◌and◌, pick, first_broken}

@@ -5,9 +5,11 @@ use Rattle.std.proofs.Common.{sym, ◌∙◌, ap, inl, inr, arith}
 use mathlib.Core.List.{List}
 use Rattle.page.specs.declared.PageNumber.{PageNumber}
 use Rattle.page.specs.Figures.{slot_count, most_pages, word_radix}
-use Rattle.page.specs.Word.{is_marked, name_of, marked, number_word, name-marked, mark-marked, marked-lt, mark-number, mark-names}
+use Rattle.page.specs.Word.{is_marked, name_of, marked, number_word}
+use Rattle.page.proofs.NameLaws.{name-marked, mark-marked, marked-lt, mark-number, mark-names}
 use Rattle.page.specs.Page.{slot, name, put_slot, slot-put_payload}
-use Rattle.page.specs.StorePlaces.{store_place, place-inj}
+use Rattle.page.specs.StorePlaces.{store_place}
+use Rattle.page.proofs.StorePlaceLaws.{place-inj}
 use Rattle.machine.specs.declared.Handle.{Handle}
 use Rattle.rules.specs.Tests.{pick}
 use Rattle.rules.specs.TestLaws.{clash, pick_yes, pick_no, pick-by, pick-either}

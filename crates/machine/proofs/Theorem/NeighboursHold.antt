@@ -5,7 +5,8 @@ use Rattle.std.proofs.Common.{◌∙◌, arith, lt-ltb, ne_eqb}
 use mathlib.Core.List.{List, [], ◌∷◌}
 use Rattle.page.specs.Figures.{payload_size}
 use Rattle.page.specs.Page.{name, page_of, payload_at, payload_of}
-use Rattle.page.specs.StorePlaces.{store_place, place-inj}
+use Rattle.page.specs.StorePlaces.{store_place}
+use Rattle.page.proofs.StorePlaceLaws.{place-inj}
 use Rattle.machine.specs.declared.Handle.{Handle}
 use Rattle.rules.specs.Tests.{pick}
 use Rattle.rules.specs.TestLaws.{clash, case, on, off, kept_then, none-broken, pick_no, pick-either}

@@ -4,7 +4,8 @@ use Rattle.std.proofs.Common.{sym, ◌∙◌, arith}
 use Rattle.std.proofs.Math.Path.{ap}
 use borrow.Author.Tests.{not-true}
 use Rattle.page.specs.Figures.{slot_count, most_pages, word_radix}
-use Rattle.page.specs.Word.{is_marked, mark-number, mark-marked, marked-lt}
+use Rattle.page.specs.Word.{is_marked}
+use Rattle.page.proofs.NameLaws.{mark-number, mark-marked, marked-lt}
 use Rattle.page.specs.Page.{put_slot, slot-put_payload}
 use Rattle.machine.specs.declared.Handle.{Handle}
 use Rattle.rules.specs.Tests.{pick}

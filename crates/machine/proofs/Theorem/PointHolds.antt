@@ -3,9 +3,10 @@ use Rattle.std.specs.Prelude.{ℕ, ◌<◌, ◌≤◌, ◌≡◌, refl, ◌≢�
 use Rattle.std.proofs.Common.{sym, ◌∙◌, ap, arith}
 use Rattle.std.proofs.Math.Decide.{dec_lt}
 use Rattle.page.specs.Figures.{page_size, slot_count, payload_start}
-use Rattle.page.specs.Word.{is_number, frame_word, Number, yes-number, reading, low, high, number_word, renamed, renamed-same, marked}
+use Rattle.page.specs.Word.{is_number, frame_word, Number, yes-number, reading, low, high, number_word, renamed, marked}
+use Rattle.page.proofs.NameLaws.{renamed-same}
 use Rattle.page.specs.Page.{slot, name, byte}
-use Rattle.page.specs.StorePlaces.{place-lt}
+use Rattle.page.proofs.StorePlaceLaws.{place-lt}
 use Rattle.machine.specs.declared.FrameRecord.{FrameRecord}
 use Rattle.machine.specs.Machine.{record_at, page_in, store_in, occupied, blank, is_of}
 use Rattle.machine.specs.Moves.{plain}

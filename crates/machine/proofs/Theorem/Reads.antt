@@ -5,7 +5,8 @@ use Rattle.std.proofs.Math.Decide.{ℕ_discrete}
 use Rattle.page.specs.Figures.{page_size, slot_count, payload_start}
 use Rattle.page.specs.Word.{Number}
 use Rattle.page.specs.Page.{name, lock, byte}
-use Rattle.page.specs.StorePlaces.{store_place, store-room, place-lt, place-store, place-inj, place-split}
+use Rattle.page.specs.StorePlaces.{store_place}
+use Rattle.page.proofs.StorePlaceLaws.{store-room, place-lt, place-store, place-inj, place-split}
 use Rattle.machine.specs.declared.FrameRecord.{FrameRecord}
 use Rattle.machine.specs.Machine.{page_in, store_in}
 use Rattle.machine.specs.Moves.{plain}

@@ -1,7 +1,8 @@
 -- Demand 3's words for residence and pins, read by the invariant: the frame that find gives holds the page, and the balance is the records' pins. Assumes nothing.
 use Rattle.std.specs.Prelude.{ℕ, ◌+◌, ◌<◌, ◌≡◌, refl, ◌≢◌}
 use Rattle.std.proofs.Common.{sym, ◌∙◌, arith, lt-ltb, ltb-true}
-use Rattle.page.specs.StorePlaces.{store_place, place-inj}
+use Rattle.page.specs.StorePlaces.{store_place}
+use Rattle.page.proofs.StorePlaceLaws.{place-inj}
 use Rattle.machine.specs.declared.Handle.{Handle}
 use Rattle.machine.specs.Machine.{State, page_in, store_in, found}
 use Rattle.machine.specs.History.{Point}

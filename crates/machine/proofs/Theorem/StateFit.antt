@@ -7,7 +7,8 @@ use Rattle.std.proofs.Math.ListN.{get_or-eq_default}
 use Rattle.page.specs.Figures.{record_count, slot_count}
 use Rattle.page.specs.Word.{frame_in, frame_word, Number, Swizzled}
 use Rattle.page.specs.Page.{name}
-use Rattle.page.specs.StorePlaces.{store_place, store-room, place-lt, place-inj}
+use Rattle.page.specs.StorePlaces.{store_place}
+use Rattle.page.proofs.StorePlaceLaws.{store-room, place-lt, place-inj}
 use Rattle.page.specs.Octets.{Octets}
 use Rattle.machine.specs.declared.FrameRecord.{FrameRecord}
 use Rattle.rules.specs.Tests.{◌and◌, Rule, first_broken}

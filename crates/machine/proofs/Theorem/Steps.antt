@@ -3,7 +3,8 @@ use Rattle.std.specs.Prelude.{refl, ◌<◌}
 use Rattle.std.proofs.Common.{arith}
 use Rattle.std.proofs.Math.Bool.{false}
 use Rattle.page.specs.Figures.{most_pages}
-use Rattle.page.specs.Word.{marked, number_word, name-number, mark-number, name-marked, mark-marked, marked-lt}
+use Rattle.page.specs.Word.{marked, number_word}
+use Rattle.page.proofs.NameLaws.{name-number, mark-number, name-marked, mark-marked, marked-lt}
 use Rattle.page.specs.Octets.{Octets}
 use Rattle.rules.specs.Tests.{pick}
 use Rattle.machine.specs.Machine.{found_in}

@@ -4,7 +4,7 @@ use mathlib.Core.Path.{◌≡◌}
 use mathlib.Core.Logic.{⊎_elim}
 use native.Mathlib.Omega.{arith}
 use Rattle.chains.specs.Chain.{tally}
-use Rattle.chains.specs.FrameTally.{tally-le}
+use Rattle.chains.proofs.FrameTally.{tally-le}
 use Rattle.residents.specs.Residents.{held_by, holds_of}
 use Rattle.residents.specs.HeldByTable.{held_first, entry-counts, entry-passes}
 use Rattle.residents.proofs.held.Given as goal

@@ -7,7 +7,8 @@ use mathlib.Core.List.{List}
 use mathlib.Core.Logic.{⊎_elim}
 use native.Mathlib.Omega.{arith}
 use Rattle.page.specs.Figures.{most_pages}
-use Rattle.page.specs.Word.{word_at, name_of, name_at, name-number}
+use Rattle.page.specs.Word.{word_at, name_of, name_at}
+use Rattle.page.proofs.NameLaws.{name-number}
 use Rattle.page.specs.Page.{words_from}
 use Rattle.seen.specs.Seen.{MarksOn}
 use Rattle.seen.specs.SeenLaws.{mark-notes, notes-zero, marks-none, marks-more, marks-false}

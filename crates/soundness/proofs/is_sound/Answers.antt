@@ -5,7 +5,7 @@ use Prim.Native.Nat.{◌≤◌, ◌-◌}
 use mathlib.Core.Path.{◌≡◌, sym, ◌∙◌}
 use native.Mathlib.Omega.{arith}
 use native.Mathlib.Nat.{le_refl}
-use Rattle.page.specs.StorePlaces.{store-room}
+use Rattle.page.proofs.StorePlaceLaws.{store-room}
 use Rattle.soundness.specs.Pages.{PassedStores, passed-no-store, pass-store, fail-store, passed-stores}
 use Rattle.soundness.proofs.is_sound.Goals as goal
 

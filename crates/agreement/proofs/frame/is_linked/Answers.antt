@@ -1,7 +1,8 @@
 -- `is_linked` meets its contract. Assumes nothing.
 use mathlib.Core.Path.{sym, ◌∙◌, ap}
 use mathlib.Core.Bool.{true, false}
-use Rattle.page.specs.Word.{name_of, marked, frame-named, named-frame}
+use Rattle.page.specs.Word.{name_of, marked}
+use Rattle.page.proofs.NameLaws.{frame-named, named-frame}
 use Rattle.machine.specs.Machine.{is_used}
 use Rattle.rules.specs.TestLaws.{both, and-true}
 use Rattle.rules.specs.Deciding.{decide-equal}

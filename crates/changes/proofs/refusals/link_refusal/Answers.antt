@@ -6,7 +6,7 @@ use mathlib.Core.List.{List, [], ◌∷◌}
 use native.Mathlib.Omega.{arith}
 use borrow.Author.Tests.{lt-ltb, le-ltb, eq-eqb, ne_eqb}
 use lib.Dec.{ltb}
-use Rattle.page.specs.StorePlaces.{store-room}
+use Rattle.page.proofs.StorePlaceLaws.{store-room}
 use Rattle.rules.specs.Tests.{◌and◌, Rule, first_broken}
 use Rattle.rules.specs.TestLaws.{and_yes, and_no, kept_then, broken-here, none-broken}
 use Rattle.machine.specs.Machine.{State, state}

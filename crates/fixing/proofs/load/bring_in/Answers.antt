@@ -8,7 +8,7 @@ use native.Mathlib.Omega.{arith}
 use borrow.Author.Tests.{not-true, not-false}
 use lib.Dec.{leb}
 use Rattle.page.specs.Figures.{most_stores}
-use Rattle.page.specs.StorePlaces.{store-room}
+use Rattle.page.proofs.StorePlaceLaws.{store-room}
 use Rattle.rules.specs.Tests.{pick, ◌and◌}
 use Rattle.rules.specs.TestLaws.{call-no, call-yes}
 use Rattle.machine.specs.Machine.{State, state, ceiling_of, at_ceiling}

@@ -1,6 +1,7 @@
 -- `imaged_word` meets its contract: bit 31 of the word tells what it names. Assumes nothing.
 use mathlib.Core.Path.{sym, ap, ◌∙◌}
-use Rattle.page.specs.Word.{renamed, frame_in, number-yes, number-no, number-as-word}
+use Rattle.page.specs.Word.{renamed, frame_in, number-yes, number-no}
+use Rattle.page.proofs.NameLaws.{number-as-word}
 use Rattle.machine.proofs.Laws.PlainLaws.{imaged-low, plain-swizzled}
 use Rattle.residents.specs.Residents.{page_by}
 use borrow.Author.Rules.{rules}

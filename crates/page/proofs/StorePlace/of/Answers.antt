@@ -1,7 +1,7 @@
 -- `page::StorePlace::of` meets its contract. Assumes nothing.
 use borrow.Author.Rules.{rules}
 use native.Mathlib.Omega.{arith}
-use Rattle.page.specs.StorePlaces.{few-places}
+use Rattle.page.proofs.StorePlaceLaws.{few-places}
 use Rattle.page.proofs.StorePlace.of.Goals as goal
 
 pub overflow_mul-result : goal.overflow_mul-result

@@ -1,7 +1,7 @@
 -- `page::word::is_marked` meets its contract. Assumes nothing.
 use mathlib.Core.Path.{sym}
 use native.Mathlib.Omega.{arith}
-use Rattle.page.specs.Word.{unmarked-low, mark-above}
+use Rattle.page.proofs.NameLaws.{unmarked-low, mark-above}
 use Rattle.page.proofs.word.is_marked.Goals as goal
 
 pub returns-then-w-le-LOCK_BIT : goal.returns-then-w-le-LOCK_BIT

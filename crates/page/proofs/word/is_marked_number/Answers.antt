@@ -1,7 +1,7 @@
 -- `page::word::is_marked_number` meets its contract. Assumes nothing.
 use mathlib.Core.Path.{sym}
 use native.Mathlib.Omega.{arith}
-use Rattle.page.specs.Word.{marked-number, marked-no-number}
+use Rattle.page.proofs.NameLaws.{marked-number, marked-no-number}
 use Rattle.page.proofs.word.is_marked_number.Goals as goal
 
 pub returns-then-w-lt-SWIZZLE_BIT : goal.returns-then-w-lt-SWIZZLE_BIT

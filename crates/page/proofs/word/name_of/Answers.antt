@@ -1,7 +1,7 @@
 -- `page::word::name_of` meets its contract. Assumes nothing.
 use mathlib.Core.Path.{sym, ◌∙◌}
 use native.Mathlib.Omega.{arith}
-use Rattle.page.specs.Word.{marked-name, unmarked-name}
+use Rattle.page.proofs.NameLaws.{marked-name, unmarked-name}
 use borrow.Author.Rules.{rules}
 use Rattle.page.proofs.word.name_of.Goals as goal
 

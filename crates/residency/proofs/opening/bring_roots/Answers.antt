@@ -3,7 +3,7 @@ use Prim.Native.Nat.{◌≤◌, ◌-◌}
 use mathlib.Core.Path.{◌≡◌, refl, ◌∙◌}
 use native.Mathlib.Omega.{arith}
 use lib.ListN.{length}
-use Rattle.page.specs.StorePlaces.{store-room}
+use Rattle.page.proofs.StorePlaceLaws.{store-room}
 use Rattle.machine.specs.Calls.{root_frames}
 use Rattle.residency.specs.Opening.{no-root-copied, frames-next}
 use borrow.Author.Rules.{rules}

@@ -7,7 +7,8 @@ use mathlib.Core.List.{List}
 use native.Mathlib.Omega.{arith}
 use borrow.Author.Rules.{rules}
 use Rattle.page.specs.Figures.{slot_count}
-use Rattle.page.specs.Word.{name_at, is_number, number-as-word}
+use Rattle.page.specs.Word.{name_at, is_number}
+use Rattle.page.proofs.NameLaws.{number-as-word}
 use Rattle.page.specs.Page.{slot}
 use Rattle.rules.specs.TestLaws.{call-no, call-yes}
 use Rattle.machine.specs.Sweep.{childless}

@@ -7,7 +7,7 @@ use mathlib.Core.List.{List}
 use mathlib.Core.Logic.{⊎_elim}
 use native.Mathlib.Omega.{arith}
 use lib.Dec.{eqb}
-use Rattle.page.specs.Word.{name-nothing, nothing-named}
+use Rattle.page.proofs.NameLaws.{name-nothing, nothing-named}
 use Rattle.page.specs.Page.{words_from}
 use Rattle.seen.specs.Fold.{fold, fold-none, fold_more, some_of, some-fold, flag-set, flag-unset}
 use Rattle.seen.specs.Among.{has_any}

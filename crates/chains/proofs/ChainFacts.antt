@@ -6,29 +6,10 @@ use Rattle.std.proofs.Math.Logic.{inl, inr}
 use Rattle.std.proofs.Math.Decide.{ℕ_discrete}
 use Rattle.page.specs.Figures.{most_frames}
 use Rattle.chains.specs.Chain.{directory_size, buckets, link_at, chain_of, entered, taken_out}
-use Rattle.chains.specs.ChainLaws.{In, Apart, Single, Chain, dropped, apart_of, in_rest, in-dropped, dropped-in, single-dropped, single-most, chain-list, chain-kept, enter-head, enter-other, taken-chain, taken-keeps, taken-cleared}
+use Rattle.chains.specs.Links.{Bucket, Chained, Framed, In, Apart, Single, dropped}
+use Rattle.chains.proofs.ChainLaws.{apart_of, in_rest, in-dropped, dropped-in, single-dropped, single-most, chain-list, chain-kept, enter-head, enter-other, taken-chain, taken-keeps, taken-cleared}
 
--- ---- in which chain each frame belongs: `home f` is its number, 67 for none
-
--- the links from byte a on lead through the frames that belong in chain b, each once
-pub record Section (home : ℕ → ℕ) (d : List ℕ) (b a : ℕ) : Type 0 where
-  pub chain : List ℕ
-  pub links : Chain d a chain
-  pub single : Single chain
-  pub only : (f : ℕ) → In f chain → home f ≡ b
-  pub all : (f : ℕ) → home f ≡ b → In f chain
-
--- and so from its head, byte b, on
-abbrev pub Bucket : (ℕ → ℕ) → List ℕ → ℕ → Type 0
-Bucket home d b = Section home d b b
-
-pub record Chained (home : ℕ → ℕ) (d : List ℕ) : Type 0 where
-  pub at : (b : ℕ) → b < buckets → Bucket home d b
-  pub rest : (f : ℕ) → f < most_frames → buckets ≤ home f → get_or d (link_at f) 0 ≡ 0
-
--- only the 64 frames belong anywhere
-abbrev pub Framed : (ℕ → ℕ) → Type 0
-Framed home = (f : ℕ) → home f < buckets → f < most_frames
+-- ---- in which chain each frame belongs
 
 pub chained-ext : (home other : ℕ → ℕ) (d : List ℕ) → ((f : ℕ) → other f ≡ home f) → Chained home d → Chained other d
 chained-ext home other d e C = record {

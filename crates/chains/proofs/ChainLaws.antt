@@ -1,4 +1,4 @@
--- Lists of frames, and the links of the directory that lead through one. Assumes nothing.
+-- Laws of lists of frames, and of the links of the directory that lead through one. Assumes nothing.
 use Prim.Native.Nat.{ℕ, zero, suc, ◌+◌, ◌-◌, ◌≤◌, ◌<◌}
 use Rattle.std.specs.Prelude.{◌≡◌, ◌≢◌, ◌⊎◌, Bool, true, not, eqb, set}
 use Rattle.std.proofs.Math.Path.{refl, sym, ap, subst}
@@ -10,30 +10,12 @@ use Rattle.std.proofs.lemmas.Bool.{not-true}
 use Rattle.std.proofs.Math.ListN.{length, get_or}
 use Rattle.std.proofs.Math.Seq.{get_or-set_same, get_or-set_other}
 use Rattle.page.specs.Figures.{most_frames}
-use Rattle.rules.specs.Tests.{pick}
 use Rattle.rules.specs.TestLaws.{clash, case, on, off, is-off, both, and-true, or_left, or_right, or-second, pick_yes, pick_no, pick-either}
 use Rattle.chains.specs.Chain.{directory_size, buckets, link_at, entry_of, chain_from, has, each_of, once, entered, taken_from, Sought, seek_in, tally}
-use Rattle.chains.specs.FrameTally.{tally-le, tally-on, tally-more}
+use Rattle.chains.specs.Links.{In, Apart, Single, dropped, Chain}
+use Rattle.chains.proofs.FrameTally.{tally-le, tally-on, tally-more}
 
 -- ---- lists of frames
-
--- frame e is one of l; is none of l; each of l is in it once
-unfoldable pub In : ℕ → List ℕ → Type 0
-In e [] = ⊥
-In e (f ∷ l) = (f ≡ e) ⊎ In e l
-
-unfoldable pub Apart : ℕ → List ℕ → Type 0
-Apart e [] = Unit {0}
-Apart e (f ∷ l) = (e ≢ f) × Apart e l
-
-unfoldable pub Single : List ℕ → Type 0
-Single [] = Unit {0}
-Single (f ∷ l) = Apart f l × Single l
-
--- l without e, where that stands first
-unfoldable pub dropped : ℕ → List ℕ → List ℕ
-dropped e [] = []
-dropped e (f ∷ l) = pick (eqb f e) l (f ∷ dropped e l)
 
 pub in-apart : (e : ℕ) (l : List ℕ) → In e l → Apart e l → ⊥
 unfolding In Apart
@@ -197,11 +179,6 @@ single-most n l s h =
     omega arith
 
 -- ---- chains
-
--- the links from byte a on lead through the frames l, in that order, and end
-unfoldable pub Chain : List ℕ → ℕ → List ℕ → Type 0
-Chain d a [] = get_or d a 0 ≡ 0
-Chain d a (f ∷ l) = (get_or d a 0 ≡ suc f) × Chain d (link_at f) l
 
 pub chain-none : (d : List ℕ) (a : ℕ) → get_or d a 0 ≡ 0 → Chain d a []
 unfolding Chain

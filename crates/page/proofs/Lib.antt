@@ -1,0 +1,3 @@
+-- What holds of names and marks, and of places in the stores.
+pub mod NameLaws
+pub mod StorePlaceLaws
