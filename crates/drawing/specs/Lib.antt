@@ -1,6 +1,5 @@
 pub mod Drawing
-pub mod DrawingLaws
-pub mod Ranges
+pub mod ParentByTable
 pub mod Refusals
 pub mod DrawsInList
 pub mod DrawnRows

@@ -8,7 +8,7 @@ ghost use Rattle.std.specs.Prelude.{◌≡◌, ◌<◌};
 ghost use Rattle.page.specs.Figures.{most_frames};
 ghost use Rattle.machine.specs.Machine.{state, page_number};
 ghost use Rattle.drawing.specs.Drawing.{refused_draw, drawn_out};
-ghost use Rattle.drawing.specs.DrawingLaws.{parent_by};
+ghost use Rattle.drawing.specs.ParentByTable.{parent_by};
 
 use generator::Generator;
 use machine::Pool;

@@ -8,7 +8,7 @@ use Rattle.recording.specs.Listing.{listed}
 use Rattle.printing.specs.Printing.{printed, with_listed, record_in, listed_from}
 use Rattle.generator.specs.declared.Generator.{Generator}
 use Rattle.drawing.specs.Drawing.{drawn_out}
-use Rattle.drawing.specs.Ranges.{entry-size}
+use Rattle.drawing.proofs.Ranges.{entry-size}
 use Rattle.workload.specs.Workload.{Worked, begun, with_next, worked_from}
 
 -- records stay where they are, whatever is drawn after them

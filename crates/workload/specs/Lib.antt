@@ -1,1 +1,3 @@
 pub mod Workload
+pub mod WorkloadRows
+pub mod InList

@@ -1,7 +1,7 @@
 -- `drawing::draw_record` meets its contract: refused by rules 1 and 2, or drawn. Assumes nothing.
 use Rattle.std.proofs.Common.{◌∙◌}
 use Rattle.machine.specs.Machine.{state}
-use Rattle.drawing.specs.DrawingLaws.{draw-refused, counts-fit, frame-fits, draw-made}
+use Rattle.drawing.proofs.DrawingLaws.{draw-refused, counts-fit, frame-fits, draw-made}
 use Rattle.drawing.proofs.draw_record.Goals as goal
 
 -- refused

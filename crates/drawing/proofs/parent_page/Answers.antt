@@ -1,7 +1,7 @@
 -- `drawing::parent_page` meets its contract. Assumes nothing.
 use Rattle.std.proofs.Common.{◌∙◌, ap}
 use Rattle.machine.specs.Machine.{page_number}
-use Rattle.drawing.specs.DrawingLaws.{no-parent, parent-there}
+use Rattle.drawing.proofs.DrawingLaws.{no-parent, parent-there}
 use Rattle.drawing.proofs.parent_page.Goals as goal
 
 -- another call

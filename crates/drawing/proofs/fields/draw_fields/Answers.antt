@@ -1,5 +1,5 @@
 -- `drawing::fields::draw_fields` meets its contract: five draws, each from the number that the one before gave. Assumes nothing.
-use Rattle.drawing.specs.DrawingLaws.{fields_made}
+use Rattle.drawing.proofs.DrawingLaws.{fields_made}
 use Rattle.drawing.proofs.fields.draw_fields.Goals as goal
 
 pub returns : goal.returns

@@ -26,9 +26,12 @@ use Rattle.recording.specs.ListingLaws.{listed-unmarked}
 use Rattle.recording.specs.OneStore.{same-stores, never-15-listed}
 use Rattle.generator.specs.Generator.{seed_read}
 use Rattle.drawing.specs.Drawing.{drawn_out}
-use Rattle.drawing.specs.Ranges.{in-ranges}
-use Rattle.drawing.specs.Refusals.{MeetsThese, record-called, drawn-meets}
-use Rattle.drawing.specs.DrawsInList.{point-kept, DrawnThere, drawn-there}
+use Rattle.drawing.proofs.Ranges.{in-ranges}
+use Rattle.drawing.specs.Refusals.{MeetsThese}
+use Rattle.drawing.proofs.RefusalsHold.{record-called, drawn-meets}
+use Rattle.drawing.specs.DrawsInList.{DrawnThere}
+use Rattle.drawing.proofs.DrawsInListHolds.{point-kept, drawn-there}
+use Rattle.workload.specs.InList.{Works}
 use Rattle.workload.specs.Workload.{Worked, begun, with_next, worked_from, listing_pool, workload_of}
 
 -- ---- a record's call is no open, and one without a length hands over no bytes
@@ -131,17 +134,7 @@ listing-out = sym (verdict-yes {n = 0} _ (sym listing-kept) refl refl)
 pub listing-opens : listing_pool.answer ≡ done
 listing-opens = answers-as listing-out
 
--- ---- the claim: the record that comes after n of any seed is drawn in its ranges, and meets no refusal but those of can_meet, nor 14, nor 15, nor 26
-
-pub record Works (w : Worked) : Type 0 where
-  pub drawn : DrawnThere w.left w.generator
-  pub meets : MeetsThese (record_out w.left (drawn_out w.left w.generator).entry).answer
-  -- 14 is "only after outside alteration"
-  pub unaltered : (record_out w.left (drawn_out w.left w.generator).entry).answer ≢ refused 14
-  -- request A.11: with one store, a load that is denied a frame meets 27
-  pub single : (record_out w.left (drawn_out w.left w.generator).entry).answer ≢ refused 15
-  -- request A.8: no page is locked, since the listing's links take no mark
-  pub unlocked : (record_out w.left (drawn_out w.left w.generator).entry).answer ≢ refused 26
+-- ---- the claim
 
 works : (w : Worked) → AtPoint w.left → Works w
 works w a =

@@ -18,6 +18,7 @@ use Rattle.generator.specs.declared.Generator.{Generator}
 use Rattle.generator.specs.Generator.{number_after}
 use Rattle.drawing.specs.declared.Drawn.{Drawn}
 use Rattle.drawing.specs.declared.fields.Fields.{Fields}
+use Rattle.drawing.specs.ParentByTable.{parent_by}
 use Rattle.drawing.specs.Drawing.{fields_from, parent_page, entry_from, refused_draw, drawn_out}
 
 -- ---- five draws
@@ -37,9 +38,6 @@ fields_made F N x a b c d g ea eb ec ed eg =
     λ i. record { call = ea i % 9 + 1; frame = frame_index (fb i % F); page = page_number (fc i % N); slot = fd i % 16; offset = fg i % 193; generator = record { number = fg i } }
 
 -- ---- link's parent page by the table
-
-unfoldable pub parent_by : List ℕ → ℕ → ℕ → ℕ
-parent_by residents call f = pick (eqb call 5) (page_by residents f) 0
 
 module _ (residents : List ℕ) (call f : ℕ) where
   pub no-parent : call ≢ 5 → 0 ≡ parent_by residents call f
