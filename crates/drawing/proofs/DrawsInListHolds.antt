@@ -16,7 +16,6 @@ use Rattle.machine.proofs.Laws.Outcomes.{answers-as, refused-by}
 use Rattle.machine.proofs.Theorem.Demand3Holds.{demand3}
 use Rattle.generator.specs.declared.Generator.{Generator}
 use Rattle.drawing.specs.declared.Drawn.{Drawn}
-use Rattle.drawing.specs.Drawing.{drawn_out, InRanges}
 use Rattle.drawing.specs.DrawsInList.{DrawnThere}
 use Rattle.drawing.proofs.Ranges.{accepted-record, in-ranges}
 

@@ -1,5 +1,5 @@
 -- No refusal but these meets a record that is run on the pool that it was drawn on. Assumes nothing.
-use Rattle.std.specs.Prelude.{ℕ, ◌-◌, ◌<◌, ◌≤◌, ◌≡◌, ◌≢◌, Bool, true, false, eqb, leb, length}
+use Rattle.std.specs.Prelude.{ℕ, ◌-◌, ◌<◌, ◌≤◌, ◌≡◌, ◌≢◌, Bool, true, false, length}
 use Rattle.std.proofs.Math.Path.{refl}
 use Rattle.std.proofs.Common.{sym, ◌∙◌, subst, arith}
 use mathlib.Core.List.{List, [], ◌∷◌, ◌++◌}
@@ -12,7 +12,7 @@ use Rattle.machine.specs.declared.Handle.{Handle}
 use Rattle.rules.specs.Tests.{pick, ◌and◌, ◌or◌, Rule, first_broken}
 use Rattle.rules.specs.TestLaws.{and-true, or_off, both, pick-either, first-kept, case, on, off, clash}
 use Rattle.machine.specs.Machine.{State}
-use Rattle.machine.specs.Answers.{Answer, refused, Out}
+use Rattle.machine.specs.Answers.{Out}
 use Rattle.machine.specs.Rules.{range_fits, word_of, rule3, rule4, rule5, rule6, rule6-link, rule7, rule8, rule9, rule10, rule11, rule13, rule14, rule15, rule26, rule27, rule28}
 use Rattle.machine.specs.Calls.{decide, pool_rules, store_rules, handle_rules, word_rules, edit_rules, page_rules, root_rules, fix_entry_rules, fix_rules, write_rules, link_rules, unlink_rules, stay_rules, evict_rules, root_call, fix_call, unfix_call, write_call, link_call, unlink_call, evict_call, settle_call, find_call}
 use Rattle.machine.specs.History.{Call, accepted, row}

@@ -1,5 +1,5 @@
 -- Every record of a workload is drawn, lies in its ranges and is run as its call: from an open on, its calls are a list of demand 3, with one store. Assumes nothing.
-use Rattle.std.specs.Prelude.{ℕ, zero, suc, ◌<◌, ◌≡◌, refl, ◌≢◌, Bool, true, false, not, List, [], get_or, replicate}
+use Rattle.std.specs.Prelude.{ℕ, zero, suc, ◌<◌, ◌≡◌, refl, Bool, true, false, not, List, [], get_or, replicate}
 use Rattle.std.proofs.Common.{sym, ◌∙◌, ap, arith, lt-ltb}
 use Rattle.page.specs.Figures.{slot_count}
 use Rattle.page.specs.Word.{word_at-bytes, is_marked, name_of, names_nothing}
@@ -10,7 +10,7 @@ use Rattle.page.specs.StorePlaces.{store_place}
 use Rattle.rules.specs.Tests.{pick, ◌and◌, ◌⇒◌, every, first_broken}
 use Rattle.rules.specs.TestLaws.{both, true-every, pick-either, pick_no, verdict-yes, kept_then, none-broken}
 use Rattle.machine.specs.Machine.{State}
-use Rattle.machine.specs.Answers.{refused, done, Out, out}
+use Rattle.machine.specs.Answers.{done, Out, out}
 use Rattle.machine.specs.Rules.{lengths_fit, ceiling_fits, stores_fit, directory_fits}
 use Rattle.machine.specs.Calls.{decide, pool_rules, open_rules, opened, open_call}
 use Rattle.machine.specs.Soundness.{words_below, words_once, sound_store, sound}
@@ -27,9 +27,7 @@ use Rattle.recording.specs.OneStore.{same-stores, never-15-listed}
 use Rattle.generator.specs.Generator.{seed_read}
 use Rattle.drawing.specs.Drawing.{drawn_out}
 use Rattle.drawing.proofs.Ranges.{in-ranges}
-use Rattle.drawing.specs.Refusals.{MeetsThese}
 use Rattle.drawing.proofs.RefusalsHold.{record-called, drawn-meets}
-use Rattle.drawing.specs.DrawsInList.{DrawnThere}
 use Rattle.drawing.proofs.DrawsInListHolds.{point-kept, drawn-there}
 use Rattle.workload.specs.InList.{Works}
 use Rattle.workload.specs.Workload.{Worked, begun, with_next, worked_from, listing_pool, workload_of}
