@@ -5,7 +5,7 @@ use borrow.Author.Rules.{rules}
 use Rattle.moves.proofs.out.store_image.Goals as goal
 
 pub store_bytes-requires : goal.store_bytes-requires
-store_bytes-requires c = (c.requires.0, sym c.childless.ensures ∙ c.if-childless.true)
+store_bytes-requires c = (c.requires.0, sym c.childless.ensures ∙ search rules)
 
 -- no word is swizzled: the bytes
 pub returns-then-childless : goal.returns-then-childless
