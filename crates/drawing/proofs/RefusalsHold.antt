@@ -19,7 +19,7 @@ use Rattle.machine.specs.History.{Call, accepted, row}
 use Rattle.machine.proofs.Laws.Ready.{rules-kept}
 use Rattle.machine.proofs.Laws.Outcomes.{kept, broken, outcome, no-refusal, one-refusal, found-accepted, fix-accepted}
 use Rattle.recording.specs.Listing.{call_of, rule17, record_out, call_in, data_in}
-use Rattle.recording.specs.ListingLaws.{record-runs}
+use Rattle.recording.proofs.ListingLaws.{record-runs}
 use Rattle.generator.specs.declared.Generator.{Generator}
 use Rattle.drawing.specs.Drawing.{drawn_out, InRanges}
 use Rattle.drawing.specs.Refusals.{can_meet, MeetsThese}

@@ -1,4 +1,2 @@
 pub mod Lines
 pub mod Listing
-pub mod ListingLaws
-pub mod OneStore

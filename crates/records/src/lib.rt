@@ -3,7 +3,7 @@
 
 ghost use Rattle.std.specs.Prelude.{◌≡◌, ◌+◌, ◌<◌, min};
 ghost use Rattle.page.specs.Figures.{max_usage, max_pins};
-ghost use Rattle.machine.specs.Machine.{blank, root_record, loaded_record, pinned as onePinMore, unpinned as onePinLess, dirtied as nowDirty, cleaned as nowClean};
+ghost use Rattle.machine.specs.Machine.{blank, root_record, loaded_record, pinned as one_pin_more, unpinned as one_pin_less, dirtied as now_dirty, cleaned as now_clean};
 
 use machine::FrameRecord;
 use page::{FrameIndex, PageNumber, StoreNumber};
@@ -63,7 +63,7 @@ fn warmer(usage: u8) -> u8
 // One pin more, and one usage more.
 pub fn pinned(rec: FrameRecord) -> FrameRecord
     requires { rec.pins < max_pins }
-    ensures { result ≡ onePinMore rec }
+    ensures { result ≡ one_pin_more rec }
 {
     let mut next = rec;
     next.pins = rec.pins + 1;
@@ -74,7 +74,7 @@ pub fn pinned(rec: FrameRecord) -> FrameRecord
 // One pin off.
 pub fn unpinned(rec: FrameRecord) -> FrameRecord
     requires { 0 < rec.pins }
-    ensures { result ≡ onePinLess rec }
+    ensures { result ≡ one_pin_less rec }
 {
     let mut next = rec;
     next.pins -= 1;
@@ -83,7 +83,7 @@ pub fn unpinned(rec: FrameRecord) -> FrameRecord
 
 // Changed since it was loaded or settled.
 pub fn dirtied(rec: FrameRecord) -> FrameRecord
-    ensures { result ≡ nowDirty rec }
+    ensures { result ≡ now_dirty rec }
 {
     let mut next = rec;
     next.dirty = 1;
@@ -92,7 +92,7 @@ pub fn dirtied(rec: FrameRecord) -> FrameRecord
 
 // As it is in the store.
 pub fn cleaned(rec: FrameRecord) -> FrameRecord
-    ensures { result ≡ nowClean rec }
+    ensures { result ≡ now_clean rec }
 {
     let mut next = rec;
     next.dirty = 0;

@@ -22,8 +22,8 @@ use Rattle.machine.proofs.Theorem.Steps.{step_keeps}
 use Rattle.machine.proofs.Theorem.Demand3Holds.{holds, invariant-along}
 use Rattle.machine.proofs.Theorem.NeverLockedHolds.{unmarked-locks, step-leaves}
 use Rattle.recording.specs.Listing.{listing_ceilings, call_of, record_out, length_in, data_in}
-use Rattle.recording.specs.ListingLaws.{listed-unmarked}
-use Rattle.recording.specs.OneStore.{same-stores, never-15-listed}
+use Rattle.recording.proofs.ListingLaws.{listed-unmarked}
+use Rattle.recording.proofs.OneStore.{same-stores, never-15-listed}
 use Rattle.generator.specs.Generator.{seed_read}
 use Rattle.drawing.specs.Drawing.{drawn_out}
 use Rattle.drawing.proofs.Ranges.{in-ranges}

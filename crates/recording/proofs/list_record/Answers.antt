@@ -10,7 +10,7 @@ use Rattle.machine.specs.Answers.{refused}
 use Rattle.machine.specs.History.{Call, row}
 use Rattle.recording.specs.Listing.{call_of, rule17, listed}
 use Rattle.recording.specs.Lines.{line_for, listed_out}
-use Rattle.recording.specs.ListingLaws.{line-listed, record-refused, record-runs, Fields, fields-of, last-call, is-root, is-fix, is-unfix, is-write, is-link, is-unlink, is-evict, is-settle, is-find}
+use Rattle.recording.proofs.ListingLaws.{line-listed, record-refused, record-runs, Fields, fields-of, last-call, is-root, is-fix, is-unfix, is-write, is-link, is-unlink, is-evict, is-settle, is-find}
 use mathlib.Core.Path.{sym}
 use Rattle.recording.proofs.list_record.Goals as goal
 

@@ -1,6 +1,6 @@
 -- `recording::calls::find` meets its contract: the answer is find's, and all is left as it was. Assumes nothing.
 use Rattle.machine.specs.Machine.{State, state}
-use Rattle.recording.specs.ListingLaws.{line-listed, find-leaves}
+use Rattle.recording.proofs.ListingLaws.{line-listed, find-leaves}
 use borrow.Author.Rules.{rules}
 use Rattle.recording.proofs.calls.find.Goals as goal
 

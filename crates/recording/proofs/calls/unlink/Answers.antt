@@ -1,5 +1,5 @@
 -- `recording::calls::unlink` meets its contract. Assumes nothing.
-use Rattle.recording.specs.ListingLaws.{line-listed}
+use Rattle.recording.proofs.ListingLaws.{line-listed}
 use borrow.Author.Rules.{rules}
 use Rattle.recording.proofs.calls.unlink.Goals as goal
 

@@ -1,6 +1,6 @@
 -- `recording::lines::of_find` meets its contract: a frame, absent, or a refusal. Assumes nothing.
 use Rattle.recording.specs.Lines.{line_for}
-use Rattle.recording.specs.ListingLaws.{frame-line}
+use Rattle.recording.proofs.ListingLaws.{frame-line}
 use borrow.Author.Rules.{rules}
 use Rattle.recording.proofs.lines.of_find.Goals as goal
 

@@ -14,7 +14,7 @@ use Rattle.machine.specs.History.{Call, Point, accepted, row}
 use Rattle.machine.specs.Demand3.{Holds}
 use Rattle.machine.proofs.Laws.Outcomes.{lacks, answers-as, one-refusal, never-by, found-accepted}
 use Rattle.recording.specs.Listing.{page_in_record, handle_in, parent_in, slot_in, offset_in, data_in, call_of, rule17, record_out}
-use Rattle.recording.specs.ListingLaws.{record-refused, record-runs}
+use Rattle.recording.proofs.ListingLaws.{record-refused, record-runs}
 
 -- ---- T
 

@@ -1,0 +1,3 @@
+-- Laws of the listing, for the code.
+pub mod ListingLaws
+pub mod OneStore
