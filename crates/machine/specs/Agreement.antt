@@ -85,7 +85,7 @@ unfoldable pub reaches_root : Pool → ℕ → ℕ → Bool
 reaches_root p zero f = is_root p.stores f
 reaches_root p (suc n) f = is_root p.stores f or reaches_root p n (parent_of p f)
 
--- "Following parents from any occupied frame reaches frame 0.", or another root's: "one resident tree under each root". F steps are enough (specs/Laws/Parents).
+-- "Following parents from any occupied frame reaches frame 0.", or another root's: "one resident tree under each root". F steps are enough (proofs/Laws/Parents).
 unfoldable pub all_reach_root : Pool → Bool
 all_reach_root p = every p.count (λ f. occupied p f ⇒ reaches_root p p.count f)
 

@@ -1,4 +1,4 @@
--- Request A.3, "A directory of resident pages": what holds of the directory, and of find and peek, which go by it. First wherever rules 1 and 2 are kept, then at every point of every list of calls from an accepted open. The proofs stand in specs/Laws and specs/Theorem.
+-- Request A.3, "A directory of resident pages": what holds of the directory, and of find and peek, which go by it. First wherever rules 1 and 2 are kept, then at every point of every list of calls from an accepted open. The proofs stand in proofs/Laws and proofs/Theorem.
 use Rattle.std.specs.Prelude.{ℕ, zero, suc, ◌+◌, ◌≤◌, ◌<◌, ◌≡◌, ◌≢◌, ◌↔◌, true, List, ◌∷◌, ◌++◌, [], ltb, length, get_or}
 use Rattle.page.specs.declared.PageNumber.{PageNumber}
 use Rattle.page.specs.Figures.{payload_size}

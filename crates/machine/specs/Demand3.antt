@@ -1,4 +1,4 @@
--- Demand 3: what holds at every point of every list of calls from an accepted open. The proof stands in specs/Theorem.
+-- Demand 3: what holds at every point of every list of calls from an accepted open. The proof stands in proofs/Theorem.
 use Rattle.std.specs.Prelude.{ℕ, ◌+◌, ◌*◌, ◌≤◌, ◌<◌, ◌≡◌, ◌≢◌, ◌⊎◌, ◌↔◌, true, false, List, [], ◌∷◌, ◌++◌}
 use Rattle.page.specs.Figures.{page_size, slot_count, payload_start}
 use Rattle.page.specs.Word.{is_number, frame_word, number_word, renamed}

@@ -1,4 +1,4 @@
--- Request A.8, "Issued results must not be edited": what holds of locked pages, beside demand 3, at every point of every list of calls from an accepted open. The proof stands in specs/Theorem.
+-- Request A.8, "Issued results must not be edited": what holds of locked pages, beside demand 3, at every point of every list of calls from an accepted open. The proof stands in proofs/Theorem.
 use Rattle.std.specs.Prelude.{ℕ, ◌<◌, ◌≡◌, ◌≢◌, ◌⊎◌, ◌↔◌, Bool, true, false, not, List, [], ◌∷◌, ◌++◌, length}
 use Rattle.page.specs.declared.PageNumber.{PageNumber}
 use Rattle.page.specs.Figures.{slot_count}
