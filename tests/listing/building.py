@@ -9,7 +9,7 @@ from shared import Copy, compare
 FILES = ["program.sh", "listing", "workload"]
 # all that the commands and the stand-in call; flock may be missing
 TOOLS = ["awk", "cat", "chmod", "cp", "dirname", "find", "flock", "mkdir", "mktemp", "mv", "rm", "sed", "sleep", "tee", "wc"]
-CRATES = "# NAME: the crates it knows\npage:\nother:\nprinting: page\nlisting: page printing csv\nworkload status=0: page printing other csv\n"
+CRATES = "# NAME: the crates it knows\npage:\nother:\nprinting: page\nlisting: page printing io\nworkload: page printing other io\n"
 # says what rt run says in a crate's folder, makes a program that reads its input and says what it is, but leaves one that is there, as
 # rt does, and runs it; fails where a file asks for it
 RT = """#!/bin/bash
