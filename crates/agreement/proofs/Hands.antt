@@ -80,9 +80,9 @@ module _ (p : Pool) (fs : List ℕ) (S : Sizes p.count p.pages p.stores fs) (A :
   handed : Handed p fs residents seen
   handed = record { held = R; named = λ t l. tells-ext t seen _ _ (P.tells t l) (λ x a b. same _ _ (row_named t x a b) (named-row t x a b)) }
 
--- the last test gives the answer. The code has F as `count`.
-pub end-all : (p : Pool) (fs : List ℕ) (S : Sizes p.count p.pages p.stores fs) (count : ℕ) → count ≡ p.count → (seen : Seen) (t residents : List ℕ) → Settled p.records fs count p.pages p.stores seen t residents
-    → UnderCeilings residents count p.stores p.ceilings → (h : ℕ) → h ≡ p.hand.0 → h < count → (r : Bool) → Decides r (AllLead (entry t) count) → Decided p fs residents seen r
-end-all p fs S count e seen t residents Z under h q l r d =
-    let a = end-lead p fs S count e seen t residents Z under h q l r d in
-    (a, λ z. handed p fs S (facts p fs (sym a ∙ z)) residents Z.held seen (rw e at Z.passed))
+-- the last test gives the answer
+pub end-all : (p : Pool) (fs : List ℕ) (S : Sizes p.count p.pages p.stores fs) (seen : Seen) (t residents : List ℕ) → Settled p.records fs p.count p.pages p.stores seen t residents
+    → UnderCeilings residents p.count p.stores p.ceilings → (h : ℕ) → h ≡ p.hand.0 → h < p.count → (r : Bool) → Decides r (AllLead (entry t) p.count) → Decided p fs residents seen r
+end-all p fs S seen t residents Z under h q l r d =
+    let a = end-lead p fs S seen t residents Z under h q l r d in
+    (a, λ z. handed p fs S (facts p fs (sym a ∙ z)) residents Z.held seen Z.passed)

@@ -1,8 +1,7 @@
 -- What the code tests is `agree`: both ways, by the facts that `agree` tells. Assumes nothing.
 use Rattle.std.specs.Prelude.{ℕ, ◌+◌, ◌*◌, ◌-◌, ◌/◌, ◌%◌, ◌<◌, ◌≤◌, ◌≡◌, ◌≢◌, Bool, true, false, List, eqb}
 use Rattle.std.proofs.Math.Path.{sym, ap}
-use Rattle.std.proofs.Common.{◌∙◌, le_refl, eqb-true, eq-eqb, le-leb, leb-true}
-use native.Mathlib.Omega.{arith}
+use Rattle.std.proofs.Common.{arith, ◌∙◌, le_refl, eqb-true, eq-eqb, le-leb, leb-true}
 use Rattle.std.proofs.Math.Decide.{ℕ_discrete, dec_lt}
 use Rattle.page.specs.Figures.{slot_count, record_count}
 use Rattle.page.specs.StorePlaces.{store_place}
@@ -12,7 +11,6 @@ use Rattle.page.specs.Page.{name}
 use Rattle.machine.specs.declared.FrameRecord.{FrameRecord}
 use Rattle.machine.specs.declared.Pool.{Pool}
 use Rattle.rules.specs.TestLaws.{clash, case, on, off, is-off, both, and-true}
-use Rattle.chains.specs.Chain.{tally}
 use Rattle.machine.specs.Machine.{is_used, is_of, record_at, page_in, store_in, place_in, occupied, held, ceiling_of}
 use Rattle.machine.specs.Agreement.{parent_of, parent_slot_of, agree}
 use Rattle.machine.proofs.Laws.AgreementFacts.{occupied-lt, occupied-used, make-occupied, InRange, Points, Agreed, facts, tests}
@@ -23,7 +21,7 @@ use Rattle.agreement.specs.Sizes.{Sizes}
 use Rattle.rules.specs.Deciding.{Decides, decided, fails}
 use Rattle.agreement.specs.Counting.{count_if, beyond, beyond-of, of-beyond, count-beyond, Into, into-le, into-all}
 use Rattle.agreement.specs.Twice.{keyed, keyed-zero, keyed-some, keyed-apart}
-use Rattle.agreement.specs.Fit.{Blank, RootFits, ResidentFits, Linked, Fits, RestBlank, per_frame, numbers_in_frames, number_below, is_over, used_in, above_of, FramesFit, parent_at, entry, AllLead, UnderCeilings, Settled, Decided}
+use Rattle.agreement.specs.Fit.{Blank, RootFits, ResidentFits, Linked, RestBlank, per_frame, numbers_in_frames, number_below, is_over, used_in, above_of, FrameFits, FramesFit, parent_at, entry, AllLead, UnderCeilings, Settled, Decided}
 use Rattle.agreement.specs.FitLaws.{blank_of, of-blank, below-low, below-high, numbers-page, numbers-word, numbers-empty, page-below}
 use Rattle.agreement.specs.ParentSteps.{Below, climb-same}
 
@@ -49,7 +47,7 @@ module _ (p : Pool) (fs : List ℕ) (S : Sizes p.count p.pages p.stores fs) wher
   place_same t x u y e q = rw (e, q)
 
   -- each frame's record, and the word that names it
-  module _ (fits : (f : ℕ) → f < p.count → Fits fs p.count p.pages p.stores f (record_at p.records f) (above_of p.records (record_at p.records f))) where
+  module _ (fits : (f : ℕ) → f < p.count → FrameFits p fs f (record_at p.records f)) where
     root-fits : (t : ℕ) → t < p.stores → RootFits t (record_at p.records t)
     root-fits t l = (fits t (omega (arith, S.least))).root l
 
@@ -57,10 +55,7 @@ module _ (p : Pool) (fs : List ℕ) (S : Sizes p.count p.pages p.stores fs) wher
     resident f n l u = (fits f l).resident n u
 
     linked : (f : ℕ) → p.stores ≤ f → f < p.count → is_used (record_at p.records f) ≡ true → Linked fs f (record_at p.records f) (is_of (store_in p.records f) (record_at p.records (parent_of p f)))
-    linked f n l u =
-        let e : parent_of p f % record_count ≡ parent_of p f = omega (arith, (resident f n l u).parent, S.most) in
-        let k = (fits f l).linked n u in
-        record { occupied = sym (ap (λ (i : ℕ). is_of (store_in p.records f) (record_at p.records i)) e) ∙ k.occupied; word = k.word }
+    linked f n l u = (fits f l).linked n u
 
     -- its parent is occupied, by a page of its store
     parent-used : (f : ℕ) → p.stores ≤ f → f < p.count → is_used (record_at p.records f) ≡ true → (is_used (record_at p.records (parent_of p f)) ≡ true) × (store_in p.records f ≡ store_in p.records (parent_of p f))
@@ -275,10 +270,9 @@ module _ (p : Pool) (fs : List ℕ) (S : Sizes p.count p.pages p.stores fs) wher
 
     is-linked : (f : ℕ) → f < p.count → p.stores ≤ f → occupied p f ≡ true → Linked fs f (record_at p.records f) (above_of p.records (record_at p.records f))
     is-linked f l n o =
-        let e : parent_of p f % record_count ≡ parent_of p f = omega (arith, (is-resident f l n o).parent, S.most) in
-        record { occupied = ap (λ (i : ℕ). is_of (store_in p.records f) (record_at p.records i)) e ∙ both _ _ (occupied-used p _ (A.parent f o n)) (eq-eqb _ _ (sym (A.parent_store f o n))); word = A.parent_word f o n }
+        record { occupied = both _ _ (occupied-used p _ (A.parent f o n)) (eq-eqb _ _ (sym (A.parent_store f o n))); word = A.parent_word f o n }
 
-    is-fit : (f : ℕ) → f < p.count → Fits fs p.count p.pages p.stores f (record_at p.records f) (above_of p.records (record_at p.records f))
+    is-fit : (f : ℕ) → f < p.count → FrameFits p fs f (record_at p.records f)
     is-fit f l = record {
       root = is-root f;
       resident = λ n u. is-resident f l n (make-occupied p f l u);
@@ -394,57 +388,56 @@ module _ (p : Pool) (fs : List ℕ) (S : Sizes p.count p.pages p.stores fs) wher
         one-step : (g : ℕ) → climb (parent_of p) 1 g ≡ parent_of p g
         one-step g = climb-suc (parent_of p) 0 g ∙ climb-zero (parent_of p) (parent_of p g)
 
--- ================ how the code's tests, one after the other, come to rule 2. The code has F as `count`.
+-- ================ how the code's tests, one after the other, come to rule 2.
 module _ (p : Pool) (fs : List ℕ) (S : Sizes p.count p.pages p.stores fs) where
   disagree : (Agreed p fs → ⊥) → false ≡ agree p fs
   disagree h = sym (is-off (agree p fs) (λ t. h (facts p fs t)))
 
-  module _ (count : ℕ) (e : count ≡ p.count) where
-    -- where a test fails, whatever the tables are
-    module _ (residents : List ℕ) (seen : Seen) where
-      refused : (Agreed p fs → ⊥) → Decided p fs residents seen false
-      refused h = (disagree h, λ z. absurd (clash (sym z)))
+  -- where a test fails, whatever the tables are
+  module _ (residents : List ℕ) (seen : Seen) where
+    refused : (Agreed p fs → ⊥) → Decided p fs residents seen false
+    refused h = (disagree h, λ z. absurd (clash (sym z)))
 
-      pub end-hand : (h : ℕ) → h ≡ p.hand.0 → count ≤ h → Decided p fs residents seen false
-      end-hand h q l = refused (λ A. omega (arith, A.hand))
+    pub end-hand : (h : ℕ) → h ≡ p.hand.0 → p.count ≤ h → Decided p fs residents seen false
+    end-hand h q l = refused (λ A. omega (arith, A.hand))
 
-      pub end_rest : (RestBlank p.records count → ⊥) → Decided p fs residents seen false
-      end_rest h = refused (λ A. h (rw e (is-rest p fs S A)))
+    pub end_rest : (RestBlank p.records p.count → ⊥) → Decided p fs residents seen false
+    end_rest h = refused (λ A. h (is-rest p fs S A))
 
-      pub end-frames : (FramesFit p.records fs count p.pages p.stores → ⊥) → Decided p fs residents seen false
-      end-frames h = refused (λ A. h (rw e (is-frames p fs S A)))
+    pub end-frames : (FramesFit p.records fs p.count p.pages p.stores → ⊥) → Decided p fs residents seen false
+    end-frames h = refused (λ A. h (is-frames p fs S A))
 
-    -- there are no fewer words that are not below N than frames to name
-    pub frames-least : ((f : ℕ) → f < count → Fits fs count p.pages p.stores f (record_at p.records f) (above_of p.records (record_at p.records f)))
-        → count_if count (used_in p.records) ≤ count_if (slot_count * count) (is_over name_of p.records fs p.pages) + p.stores
-    frames-least fits = rw e (words-least p fs S (rw e at fits))
+  -- there are no fewer words that are not below N than frames to name
+  pub frames-least : ((f : ℕ) → f < p.count → FrameFits p fs f (record_at p.records f))
+      → count_if p.count (used_in p.records) ≤ count_if (slot_count * p.count) (is_over name_of p.records fs p.pages) + p.stores
+  frames-least fits = words-least p fs S fits
 
-    module _ (seen : Seen) (t residents : List ℕ) (Z : Settled p.records fs count p.pages p.stores seen t residents) where
-      below : (f : ℕ) → f < count → parent_at p.records f < count
-      below f l = rw e (parent-below p fs S (rw e at Z.rest) (rw e at Z.fit) f (omega arith))
+  module _ (seen : Seen) (t residents : List ℕ) (Z : Settled p.records fs p.count p.pages p.stores seen t residents) where
+    below : (f : ℕ) → f < p.count → parent_at p.records f < p.count
+    below f l = parent-below p fs S Z.rest Z.fit f l
 
-      pub table_below : Below count t
-      table_below = record { size = Z.parents.size; lt = λ f l. rw (Z.parents.parent f l) (below f l) }
+    pub table_below : Below p.count t
+    table_below = record { size = Z.parents.size; lt = λ f l. rw (Z.parents.parent f l) (below f l) }
 
-      pub table-root : entry t 0 ≡ 0
-      table-root = Z.parents.parent 0 (omega (arith, S.least)) ∙ ((Z.fit.fits 0 (omega (arith, S.least))).root S.one).parent
+    pub table-root : entry t 0 ≡ 0
+    table-root = Z.parents.parent 0 (omega (arith, S.least)) ∙ ((Z.fit.fits 0 (omega (arith, S.least))).root S.one).parent
 
-      -- a store's pages are counted by the table
-      held-told : (t : ℕ) → held_by residents count t ≡ held p t
-      unfolding held
-      held-told t = Z.counts t ∙ ap (λ (n : ℕ). tally n (λ f. is_of t (record_at p.records f))) e
+    -- a store's pages are counted by the table
+    held-told : (t : ℕ) → held_by residents p.count t ≡ held p t
+    unfolding held
+    held-told t = Z.counts t
 
-      pub end-ceilings : (UnderCeilings residents count p.stores p.ceilings → ⊥) → Decided p fs residents seen false
-      end-ceilings h = refused residents seen (λ A. h (λ t l. rw (held-told t) (A.ceilings t l)))
+    pub end-ceilings : (UnderCeilings residents p.count p.stores p.ceilings → ⊥) → Decided p fs residents seen false
+    end-ceilings h = refused residents seen (λ A. h (λ t l. rw (held-told t) (A.ceilings t l)))
 
-      lead-in : AllLead (entry t) count → AllLead (parent_at p.records) count
-      lead-in lead f l = let a = lead f l in (a.0, sym (climb-same (entry t) (parent_at p.records) count Z.parents.parent table_below.lt a.0 f l) ∙ a.1)
+    lead-in : AllLead (entry t) p.count → AllLead (parent_at p.records) p.count
+    lead-in lead f l = let a = lead f l in (a.0, sym (climb-same (entry t) (parent_at p.records) p.count Z.parents.parent table_below.lt a.0 f l) ∙ a.1)
 
-      lead-out : AllLead (parent_at p.records) count → AllLead (entry t) count
-      lead-out lead f l = let a = lead f l in (a.0, climb-same (entry t) (parent_at p.records) count Z.parents.parent table_below.lt a.0 f l ∙ a.1)
+    lead-out : AllLead (parent_at p.records) p.count → AllLead (entry t) p.count
+    lead-out lead f l = let a = lead f l in (a.0, climb-same (entry t) (parent_at p.records) p.count Z.parents.parent table_below.lt a.0 f l ∙ a.1)
 
-      pub end-lead : UnderCeilings residents count p.stores p.ceilings → (h : ℕ) → h ≡ p.hand.0 → h < count → (r : Bool) → Decides r (AllLead (entry t) count) → r ≡ agree p fs
-      end-lead under h q l r d = elim (case r) [
-        | on z ↦ z ∙ sym (tests p fs (code-facts p fs S (rw e at Z.rest) (rw e at Z.fit) (omega arith) (rw e at (lead-in (decided r _ d z))) (λ t m. rw (← held-told t) (under t m))))
-        | off z ↦ z ∙ disagree (λ A. fails r (AllLead (entry t) count) d z (lead-out (rw e (is-lead p fs S A))))
-      ]
+    pub end-lead : UnderCeilings residents p.count p.stores p.ceilings → (h : ℕ) → h ≡ p.hand.0 → h < p.count → (r : Bool) → Decides r (AllLead (entry t) p.count) → r ≡ agree p fs
+    end-lead under h q l r d = elim (case r) [
+      | on z ↦ z ∙ sym (tests p fs (code-facts p fs S Z.rest Z.fit (omega arith) (lead-in (decided r _ d z)) (λ t m. rw (← held-told t) (under t m))))
+      | off z ↦ z ∙ disagree (λ A. fails r (AllLead (entry t) p.count) d z (lead-out (is-lead p fs S A)))
+    ]

@@ -1,7 +1,7 @@
 -- What the code tests for rule 2, in the order of its one pass over the frames. proofs/Same proves that all of it together is `agree`.
-use Rattle.std.specs.Prelude.{ℕ, zero, suc, ◌+◌, ◌*◌, ◌-◌, ◌/◌, ◌%◌, ◌<◌, ◌≤◌, ◌≡◌, ◌≢◌, Bool, true, false, List, eqb, ltb, leb, length, get_or, set}
-use Rattle.page.specs.Figures.{page_size, slot_count, most_frames, most_stores, record_count, max_usage, max_pins, word_size}
-use Rattle.page.specs.Word.{word_at, is_marked, is_marked_number, name_of, frame_word}
+use Rattle.std.specs.Prelude.{ℕ, zero, suc, ◌+◌, ◌*◌, ◌-◌, ◌/◌, ◌%◌, ◌<◌, ◌≤◌, ◌≡◌, ◌≢◌, Bool, true, false, List, eqb, ltb, leb, length, get_or}
+use Rattle.page.specs.Figures.{slot_count, most_frames, most_stores, record_count, max_usage, max_pins}
+use Rattle.page.specs.Word.{is_marked, is_marked_number, name_of, frame_word}
 use Rattle.page.specs.Page.{slot, name}
 use Rattle.machine.specs.declared.FrameRecord.{FrameRecord}
 use Rattle.machine.specs.declared.Pool.{Pool}
@@ -28,28 +28,6 @@ pub record Blank (r : FrameRecord) : Type 0 where
   pub store : r.store.0 ≡ 0
   pub pins : r.pins ≡ 0
   pub page : r.page.0 ≡ 0
-
--- a record's fields before its parent, its parent with its store, and those after them, each as the digits of one number
-abbrev pub first_fields : ℕ → ℕ → ℕ → ℕ → ℕ
-first_fields used dirty usage slot = used + 256 * dirty + 65536 * usage + 16777216 * slot
-
-abbrev pub middle_fields : ℕ → ℕ → ℕ
-middle_fields parent store = parent + 256 * store
-
-abbrev pub last_fields : ℕ → ℕ → ℕ
-last_fields pins page = pins + 65536 * page
-
--- the fields, or those of several records or-ed together, are all 0
-pub record NoField (a m z : ℕ) : Type 0 where
-  pub first : a ≡ 0
-  pub middle : m ≡ 0
-  pub last : z ≡ 0
-
--- with the fields of the record r too, nothing is there where nothing was and r is all zero
-pub record Gathers (r : FrameRecord) (before after : Type 0) : Type 0 where
-  pub kept : after → before
-  pub blank : after → Blank r
-  pub nothing : before → Blank r → after
 
 -- the record of frame f, a root's
 pub record RootFits (f : ℕ) (r : FrameRecord) : Type 0 where
@@ -117,9 +95,9 @@ numbers_in_frames read rs fs N i = pick (is_used (record_at rs (i / per_frame)))
 unfoldable pub is_over : (ℕ → ℕ) → List FrameRecord → List ℕ → ℕ → ℕ → Bool
 is_over read rs fs N j = is_used (record_at rs (j / slot_count)) and leb N (read (slot fs (j / slot_count) (j % slot_count)))
 
--- the word in slot k from `at` on, as it stands, is not below N
-unfoldable pub over_from : List ℕ → ℕ → ℕ → ℕ → Bool
-over_from fs N at k = leb N (word_at fs (at + word_size * k))
+-- word k, as it stands, is not below N
+unfoldable pub over_from : (ℕ → ℕ) → ℕ → ℕ → Bool
+over_from w N k = leb N (w k)
 
 -- frame f's record is in use
 abbrev pub used_in : List FrameRecord → ℕ → Bool
@@ -151,9 +129,13 @@ places_met F = per_frame * F + slot_count * F
 
 -- ---- the whole pass
 
--- the record of a frame's parent is that of a page of its store; the code asks before it knows the parent's range
+-- the record of a frame's parent is that of a page of its store
 abbrev pub above_of : List FrameRecord → FrameRecord → Bool
-above_of rs r = is_of r.store.0 (record_at rs (r.parent.0 % record_count))
+above_of rs r = is_of r.store.0 (record_at rs r.parent.0)
+
+-- the record of the pool's frame f fits, and the word that names it
+abbrev pub FrameFits : Pool → List ℕ → ℕ → FrameRecord → Type 0
+FrameFits p fs f r = Fits fs p.count p.pages p.stores f r (above_of p.records r)
 
 pub record FramesFit (rs : List FrameRecord) (fs : List ℕ) (F N T : ℕ) : Type 0 where
   pub fits : (f : ℕ) → f < F → Fits fs F N T f (record_at rs f) (above_of rs (record_at rs f))
@@ -166,38 +148,34 @@ pub record FramesFit (rs : List FrameRecord) (fs : List ℕ) (F N T : ℕ) : Typ
 abbrev pub entry : List ℕ → ℕ → ℕ
 entry t f = get_or t f 0
 
--- the row's number k put at its place
-abbrev pub fill : (ℕ → ℕ) → ℕ → List ℕ → List ℕ
-fill row k t = set t k (row k)
-
 -- the table has the row's numbers at its first n places
 abbrev pub Entries : (ℕ → ℕ) → ℕ → List ℕ → Type 0
 Entries row n t = (f : ℕ) → f < n → entry t f ≡ row f
 
 -- ---- what the functions of the pass tell of the table of seen numbers
 
--- the numbers of the words from `at` on, as store t's
-abbrev pub word_keys : List ℕ → ℕ → ℕ → ℕ → ℕ → ℕ
-word_keys fs N at t k = keyed t (number_below N (word_at fs (at + word_size * k)))
+-- the numbers of the words w, as store t's
+abbrev pub word_keys : (ℕ → ℕ) → ℕ → ℕ → ℕ → ℕ
+word_keys w N t k = keyed t (number_below N (w k))
 
--- the row has the numbers of the words from `at` on, as store t's, from place i on
-abbrev pub HasWords : List ℕ → ℕ → ℕ → ℕ → (ℕ → ℕ) → ℕ → Type 0
-HasWords fs N at t row i = (k : ℕ) → k < slot_count → row (i + k) ≡ word_keys fs N at t k
+-- the row has the numbers of 16 words, as store t's, from place i on
+abbrev pub HasWords : (ℕ → ℕ) → ℕ → ℕ → (ℕ → ℕ) → ℕ → Type 0
+HasWords w N t row i = (k : ℕ) → k < slot_count → row (i + k) ≡ word_keys w N t k
 
--- the numbers of the words from `at` on, one after the other
-pub record BelowOf (fs : List ℕ) (N at : ℕ) (ns : List ℕ) : Type 0 where
+-- the list has the numbers of 16 words, one after the other
+pub record BelowOf (w : ℕ → ℕ) (N : ℕ) (ns : List ℕ) : Type 0 where
   pub size : length ns ≡ slot_count
-  pub right : (k : ℕ) → k < slot_count → get_or ns k 0 ≡ number_below N (word_at fs (at + word_size * k))
+  pub right : (k : ℕ) → k < slot_count → get_or ns k 0 ≡ number_below N (w k)
 
 -- the page and then the words of a frame that a page of store t occupies were noted: in any row that has them, the row goes on
-abbrev pub NotesNumbers : List ℕ → ℕ → ℕ → ℕ → ℕ → Seen → Seen → Bool → Type 0
-NotesNumbers fs N at t page seen seen' fresh =
-    (row : ℕ → ℕ) (i : ℕ) → row i ≡ keyed t page → HasWords fs N at t row (i + 1) → PassedRow row i seen → Progress row (i + per_frame) seen' fresh
+abbrev pub NotesNumbers : (ℕ → ℕ) → ℕ → ℕ → ℕ → Seen → Seen → Bool → Type 0
+NotesNumbers w N t page seen seen' fresh =
+    (row : ℕ → ℕ) (i : ℕ) → row i ≡ keyed t page → HasWords w N t row (i + 1) → PassedRow row i seen → Progress row (i + per_frame) seen' fresh
 
--- what the numbers of the first k words from `at` on add up to
-unfoldable pub low_sum : List ℕ → ℕ → ℕ → ℕ → ℕ
-low_sum fs N at zero = 0
-low_sum fs N at (suc k) = low_sum fs N at k + number_below N (word_at fs (at + word_size * k))
+-- what the numbers of the first k words add up to
+unfoldable pub low_sum : (ℕ → ℕ) → ℕ → ℕ → ℕ
+low_sum w N zero = 0
+low_sum w N (suc k) = low_sum w N k + number_below N (w k)
 
 -- what a word counts for in a sum: a number up to N − 1, the last, for itself, any other for more than 16 numbers below 4,096 add up to
 abbrev pub over_weight : ℕ
@@ -206,31 +184,27 @@ over_weight = 65536
 unfoldable pub weight : ℕ → ℕ → ℕ
 weight last w = pick (leb w last) w over_weight
 
--- the sum of words goes on by the one in slot k from `at` on
-abbrev pub add_word : List ℕ → ℕ → ℕ → ℕ → ℕ → ℕ
-add_word fs N at k sum = sum + weight (N - 1) (word_at fs (at + word_size * k))
+-- what the sum of 16 words tells
+pub record SumsWords (w : ℕ → ℕ) (N sum : ℕ) : Type 0 where
+  pub counts : sum / over_weight ≡ count_if slot_count (over_from w N)
+  pub low : sum % over_weight ≡ low_sum w N slot_count
 
--- what the sum of the words from `at` on tells
-pub record SumsWords (fs : List ℕ) (N at sum : ℕ) : Type 0 where
-  pub counts : sum / over_weight ≡ count_if slot_count (over_from fs N at)
-  pub low : sum % over_weight ≡ low_sum fs N at slot_count
-
--- what is told of the words from `at` on, which were noted in store t
-pub record WordsNoted (fs : List ℕ) (N at t : ℕ) (seen seen' : Seen) (fresh : Bool) : Type 0 where
-  pub notes : RowNoted (word_keys fs N at t) slot_count seen seen' fresh
+-- what is told of 16 words, which were noted in store t
+pub record WordsNoted (w : ℕ → ℕ) (N t : ℕ) (seen seen' : Seen) (fresh : Bool) : Type 0 where
+  pub notes : RowNoted (word_keys w N t) slot_count seen seen' fresh
   pub within : WithinStore t seen seen'
 
 -- what is told of an occupied frame's page and words
-pub record NumbersNoted (fs : List ℕ) (N at t page : ℕ) (seen seen' : Seen) (over : ℕ) (fresh : Bool) : Type 0 where
+pub record NumbersNoted (w : ℕ → ℕ) (N t page : ℕ) (seen seen' : Seen) (over : ℕ) (fresh : Bool) : Type 0 where
   pub few : over ≤ slot_count
-  pub counts : fresh ≡ true → over ≡ count_if slot_count (over_from fs N at)
-  pub notes : NotesNumbers fs N at t page seen seen' fresh
+  pub counts : fresh ≡ true → over ≡ count_if slot_count (over_from w N)
+  pub notes : NotesNumbers w N t page seen seen' fresh
   pub within : WithinStore t seen seen'
 
 -- the row has the numbers of frame f from place i on
 pub record HasNumbers (fs : List ℕ) (N f : ℕ) (r : FrameRecord) (row : ℕ → ℕ) (i : ℕ) : Type 0 where
   pub page : is_used r ≡ true → row i ≡ keyed r.store.0 r.page.0
-  pub words : is_used r ≡ true → HasWords fs N (page_size * f) r.store.0 row (i + 1)
+  pub words : is_used r ≡ true → HasWords (slot fs f) N r.store.0 row (i + 1)
   pub empty : is_used r ≡ false → (j : ℕ) → j < per_frame → row (i + j) ≡ 0
 
 -- where there is one store, it is store 0, and no other has numbers noted
@@ -241,21 +215,21 @@ pub record Alone (alone : Bool) (t : ℕ) (seen : Seen) : Type 0 where
 -- what is told of the numbers of frame f
 pub record FrameNoted (fs : List ℕ) (N f : ℕ) (r : FrameRecord) (seen seen' : Seen) (over : ℕ) (fresh : Bool) : Type 0 where
   pub few : over ≤ slot_count
-  pub counts : fresh ≡ true → is_used r ≡ true → over ≡ count_if slot_count (over_from fs N (page_size * f))
+  pub counts : fresh ≡ true → is_used r ≡ true → over ≡ count_if slot_count (over_from (slot fs f) N)
   pub nothing : is_used r ≡ false → over ≡ 0
   pub notes : (row : ℕ → ℕ) (i : ℕ) → HasNumbers fs N f r row i → PassedRow row i seen → Progress row (i + per_frame) seen' fresh
   pub alone : r.store.0 ≡ 0 → OneStore seen → OneStore seen'
 
--- the words from `at` on that give numbers with marks, and these numbers, as store t's
-abbrev pub marks_from : List ℕ → ℕ → ℕ → ℕ → Bool
-marks_from fs N at k = marks_below N (word_at fs (at + word_size * k))
+-- the words that give numbers with marks, and these numbers, as store t's
+abbrev pub marks_from : (ℕ → ℕ) → ℕ → ℕ → Bool
+marks_from w N k = marks_below N (w k)
 
-abbrev pub marked_from : List ℕ → ℕ → ℕ → ℕ → ℕ → ℕ
-marked_from fs N at t k = keyed t (marked_below N (word_at fs (at + word_size * k)))
+abbrev pub marked_from : (ℕ → ℕ) → ℕ → ℕ → ℕ → ℕ
+marked_from w N t k = keyed t (marked_below N (w k))
 
--- none of the words from `at` on has a mark and names no frame
-abbrev pub NoMark : List ℕ → ℕ → Type 0
-NoMark fs at = (k : ℕ) → k < slot_count → is_marked_number (word_at fs (at + word_size * k)) ≡ false
+-- none of 16 words has a mark and names no frame
+abbrev pub NoMark : (ℕ → ℕ) → Type 0
+NoMark w = (k : ℕ) → k < slot_count → is_marked_number (w k) ≡ false
 
 -- what is told of m words: those that give numbers with marks pass the test, and w are these numbers, 0 for another word
 pub record MarksNoted (test : ℕ → Bool) (w : ℕ → ℕ) (m : ℕ) (seen seen' : Seen) (count : ℕ) (fresh : Bool) : Type 0 where

@@ -1,27 +1,21 @@
 -- Laws of the code's tests, for the proofs of its functions. Assumes nothing.
-use Prim.Native.Nat.{ℕ, zero, suc, ◌+◌, ◌*◌, ◌-◌, ◌/◌, ◌%◌, ◌<◌, ◌≤◌}
-use Rattle.std.specs.Prelude.{◌≡◌, Bool, true, false, List, eqb, length, set, replicate}
+use Rattle.std.specs.Prelude.{ℕ, zero, suc, ◌+◌, ◌*◌, ◌-◌, ◌/◌, ◌%◌, ◌<◌, ◌≤◌, ◌≡◌, Bool, true, false, List, eqb, length, set}
 use Rattle.std.proofs.Math.Path.{refl, sym, ap}
-use Rattle.std.proofs.Common.{◌∙◌, add-zero, add_assoc, le_refl, lt-ltb, le-ltb, le-leb, eq-eqb, ne_eqb, eqb-true, length-set, get_or-set_same, get_or-set_other}
-use Rattle.std.proofs.Math.Numerals.{add-one}
-use native.Mathlib.Omega.{arith}
+use Rattle.std.proofs.Common.{arith, add-one, ◌∙◌, add-zero, add_assoc, le_refl, lt-ltb, le-ltb, le-leb, eq-eqb, ne_eqb, eqb-true, get_or-set_same, get_or-set_other}
 use Rattle.std.proofs.Math.Decide.{ℕ_discrete, dec_lt}
 use Rattle.std.proofs.lemmas.Bool.{lt-leb}
 use mir.Val.{bool_byte}
-use Rattle.std.proofs.lemmas.List.{length-replicate}
 use Rattle.std.specs.Int.Bits.{bit_or, bit_and, or_add_and, or_zero_l}
 use Rattle.std.proofs.lemmas.Nat.{and_le_l, and_le_r}
-use Rattle.page.specs.Figures.{slot_count, page_size, word_size, most_pages}
-use Rattle.page.specs.Word.{word_at}
+use Rattle.page.specs.Figures.{slot_count, most_pages}
 use Rattle.page.specs.Page.{slot}
 use Rattle.machine.specs.declared.FrameRecord.{FrameRecord}
 use Rattle.rules.specs.TestLaws.{case, on, off, pick_yes, pick_no, both, and-true, and_yes, and_no, clash}
 use Rattle.machine.specs.Machine.{is_used, record_at, page_in, store_in}
 use Rattle.machine.specs.Agreement.{is_blank}
-use Rattle.seen.specs.Fold.{fold}
 use Rattle.agreement.specs.Counting.{count_if, count-zero, count_yes, count_no, count_add, count-ext, count_none, count-le}
 use Rattle.agreement.specs.Twice.{keyed}
-use Rattle.agreement.specs.Fit.{Blank, first_fields, middle_fields, last_fields, NoField, Gathers, RootFits, ResidentFits, Linked, Fits, number_below, per_frame, number_in, numbers_in_frames, as_stands, over_from, is_over, used_in, marked_in_frames, numbers_met, HasWords, HasNumbers, over_weight, low_sum, entry, Entries, BelowOf, weight, add_word, fill, SumsWords}
+use Rattle.agreement.specs.Fit.{Blank, RootFits, ResidentFits, Linked, Fits, number_below, per_frame, number_in, numbers_in_frames, as_stands, over_from, is_over, used_in, marked_in_frames, numbers_met, HasWords, HasNumbers, over_weight, low_sum, entry, Entries, BelowOf, weight, SumsWords}
 
 -- ---- the all-zero record
 
@@ -57,33 +51,11 @@ blank-unused r b = ne_eqb r.used 1 (λ e. omega (arith, b.used))
 
 -- ---- numbers or-ed together
 
-or_nothing : (a b : ℕ) → bit_or a b ≡ 0 → (a ≡ 0) × (b ≡ 0)
+pub or_nothing : (a b : ℕ) → bit_or a b ≡ 0 → (a ≡ 0) × (b ≡ 0)
 or_nothing a b e = let s : bit_or a b + bit_and a b ≡ a + b = or_add_and a b in (omega (arith, and_le_r a b), omega (arith, and_le_l a b))
 
-nothing-or : (a b : ℕ) → a ≡ 0 → b ≡ 0 → bit_or a b ≡ 0
+pub nothing-or : (a b : ℕ) → a ≡ 0 → b ≡ 0 → bit_or a b ≡ 0
 nothing-or a b x y = rw (x, y) (or_zero_l 0)
-
--- ---- a record's fields as digits
-
-module _ (r : FrameRecord) (x m y : ℕ) (first : x ≡ first_fields r.used r.dirty r.usage r.slot) (middle : m ≡ middle_fields r.parent.0 r.store.0) (last : y ≡ last_fields r.pins r.page.0) where
-  fields-blank : NoField x m y → Blank r
-  fields-blank n =
-      let a : first_fields r.used r.dirty r.usage r.slot ≡ 0 = sym first ∙ n.first in
-      let b : middle_fields r.parent.0 r.store.0 ≡ 0 = sym middle ∙ n.middle in
-      let z : last_fields r.pins r.page.0 ≡ 0 = sym last ∙ n.last in
-      record { used = omega arith; dirty = omega arith; usage = omega arith; slot = omega arith; parent = omega arith; store = omega arith; pins = omega arith; page = omega arith }
-
-  blank-fields : Blank r → NoField x m y
-  blank-fields b = record { first = omega (arith, first, b.used, b.dirty, b.usage, b.slot); middle = omega (arith, b.parent, b.store); last = omega (arith, b.pins, b.page) }
-
-  pub gathers : (a p z : ℕ) → Gathers r (NoField a p z) (NoField (bit_or a x) (bit_or p m) (bit_or z y))
-  gathers a p z = record {
-    kept = λ n. record { first = (or_nothing a _ n.first).0; middle = (or_nothing p _ n.middle).0; last = (or_nothing z _ n.last).0 };
-    blank = λ n. fields-blank (record { first = (or_nothing a _ n.first).1; middle = (or_nothing p _ n.middle).1; last = (or_nothing z _ n.last).1 });
-    nothing = λ n b.
-        let e = blank-fields b in
-        record { first = nothing-or a _ n.first e.first; middle = nothing-or p _ n.middle e.middle; last = nothing-or z _ n.last e.last };
-  }
 
 -- ---- a table filled place by place
 
@@ -92,21 +64,6 @@ entries-more row t n x l e h f m = elim (ℕ_discrete f n) [
   | yes q ↦ rw q (get_or-set_same t n x 0 l ∙ e)
   | no q ↦ get_or-set_other t n f x 0 q ∙ h f (omega arith)
 ]
-
--- the table as a loop fills it
-filled : (row : ℕ → ℕ) (t : List ℕ) (n : ℕ) → n ≤ length t → (length (fold (fill row) t n) ≡ length t) × Entries row n (fold (fill row) t n)
-unfolding fold
-filled row t zero h = (refl, λ f m. absurd (omega arith))
-filled row t (suc n) h =
-    let r = filled row t n (omega arith) in
-    let l : length (fold (fill row) t n) ≡ length t = r.0 in
-    let q : suc n ≡ n + 1 = omega arith in
-    (length-set (fold (fill row) t n) n (row n) ∙ l, rw q (entries-more row (fold (fill row) t n) n (row n) (omega arith) refl r.1))
-
-pub below_of : (fs : List ℕ) (N at : ℕ) (ns : List ℕ) → ns ≡ fold (fill (λ k. number_below N (word_at fs (at + word_size * k)))) (replicate slot_count 0) slot_count → BelowOf fs N at ns
-below_of fs N at ns e =
-    let r = filled (λ k. number_below N (word_at fs (at + word_size * k))) (replicate slot_count 0) slot_count (omega (arith, length-replicate {A = ℕ} slot_count 0)) in
-    rw e (record { size = r.0 ∙ length-replicate {A = ℕ} slot_count 0; right = r.1 })
 
 -- ---- the numbers in a row
 
@@ -124,8 +81,8 @@ below-lt N w o = elim (dec_lt w N) [
   | no l ↦ rw (below-high N w (omega arith)) (omega arith)
 ]
 
-pub numbers-lt : (fs : List ℕ) (N at : ℕ) (ns : List ℕ) → 1 ≤ N → BelowOf fs N at ns → (k : ℕ) → k < slot_count → entry ns k < N
-numbers-lt fs N at ns o B k h = rw (B.right k h) (below-lt N _ o)
+pub numbers-lt : (w : ℕ → ℕ) (N : ℕ) (ns : List ℕ) → 1 ≤ N → BelowOf w N ns → (k : ℕ) → k < slot_count → entry ns k < N
+numbers-lt w N ns o B k h = rw (B.right k h) (below-lt N _ o)
 
 module _ (read : ℕ → ℕ) (rs : List FrameRecord) (fs : List ℕ) (N f : ℕ) where
   -- place j of frame f
@@ -169,8 +126,7 @@ module _ (rs : List FrameRecord) (fs : List ℕ) (F N : ℕ) where
       sym (pick_no _ (le-ltb (per_frame * F + j) (per_frame * F) (omega arith)) refl) ∙ ap (marked_in_frames (used_in rs) (store_in rs) fs N) e
 
   module _ (f : ℕ) (l : f < F) where
-    has_words : is_used (record_at rs f) ≡ true → HasWords fs N (page_size * f) (store_in rs f) (numbers_met rs fs F N) (per_frame * f + 1)
-    unfolding slot
+    has_words : is_used (record_at rs f) ≡ true → HasWords (slot fs f) N (store_in rs f) (numbers_met rs fs F N) (per_frame * f + 1)
     has_words u k h =
         ap (numbers_met rs fs F N) (add_assoc (per_frame * f) 1 k) ∙ met-first (per_frame * f + (1 + k)) (omega arith) ∙ numbers-word as_stands rs fs N f k h u
 
@@ -184,14 +140,14 @@ module _ (rs : List FrameRecord) (fs : List ℕ) (F N : ℕ) where
 module _ (rs : List FrameRecord) (fs : List ℕ) (N f : ℕ) where
   -- ---- the words that are not below N, counted frame by frame
 
-  over-at : (k : ℕ) → k < slot_count → is_used (record_at rs f) ≡ true → is_over as_stands rs fs N (slot_count * f + k) ≡ over_from fs N (page_size * f) k
-  unfolding is_over over_from slot
+  over-at : (k : ℕ) → k < slot_count → is_used (record_at rs f) ≡ true → is_over as_stands rs fs N (slot_count * f + k) ≡ over_from (slot fs f) N k
+  unfolding is_over over_from
   over-at k h u =
       let a : (slot_count * f + k) / slot_count ≡ f = omega arith in
       let b : (slot_count * f + k) % slot_count ≡ k = omega arith in
       rw (a, b) (sym (and_yes u refl))
 
-  pub over-used : is_used (record_at rs f) ≡ true → count_if (slot_count * (f + 1)) (is_over as_stands rs fs N) ≡ count_if (slot_count * f) (is_over as_stands rs fs N) + count_if slot_count (over_from fs N (page_size * f))
+  pub over-used : is_used (record_at rs f) ≡ true → count_if (slot_count * (f + 1)) (is_over as_stands rs fs N) ≡ count_if (slot_count * f) (is_over as_stands rs fs N) + count_if slot_count (over_from (slot fs f) N)
   over-used u =
       let e : slot_count * (f + 1) ≡ slot_count * f + slot_count = omega arith in
       rw e (count_add (slot_count * f) slot_count (is_over as_stands rs fs N) ∙ ap (λ (k : ℕ). count_if (slot_count * f) (is_over as_stands rs fs N) + k) (count-ext slot_count _ _ (λ k h. over-at k h u)))
@@ -206,17 +162,6 @@ module _ (rs : List FrameRecord) (fs : List ℕ) (N f : ℕ) where
   over-empty u =
       let e : slot_count * (f + 1) ≡ slot_count * f + slot_count = omega arith in
       rw e (count_add (slot_count * f) slot_count (is_over as_stands rs fs N) ∙ ap (λ (k : ℕ). count_if (slot_count * f) (is_over as_stands rs fs N) + k) (count_none slot_count _ (λ k h. none_over k h u)) ∙ add-zero _)
-
--- ---- the word that was read
-
-module _ (fs : List ℕ) (N at k w : ℕ) (e : w ≡ word_at fs (at + word_size * k)) where
-  pub over-high : N ≤ w → over_from fs N at k ≡ true
-  unfolding over_from
-  over-high l = rw (← e) (le-leb N w l)
-
-  pub over-low : w < N → over_from fs N at k ≡ false
-  unfolding over_from
-  over-low l = rw (← e) (lt-leb N w l)
 
 -- ---- a frame fits
 
@@ -248,6 +193,9 @@ module _ (fs : List ℕ) (F N T f : ℕ) (r : FrameRecord) (above : Bool) where
     ]
   ]
 
+  pub used-few : Fits fs F N T f r above → r.used ≤ 1
+  used-few k = elim (case (is_used r)) [ on u ↦ omega (arith, eqb-true r.used 1 u) | off u ↦ omega (arith, (k.empty u).used) ]
+
   pub used-bit : Fits fs F N T f r above → r.used ≡ bool_byte (is_used r)
   used-bit k = elim (case (is_used r)) [
     | on u ↦ eqb-true r.used 1 u ∙ sym (ap bool_byte u)
@@ -264,64 +212,63 @@ pub weight-high : (last w : ℕ) → last < w → weight last w ≡ over_weight
 unfolding weight
 weight-high last w l = sym (pick_no w (lt-leb w last l) refl)
 
--- what the sum of the first k words from `at` on tells
-pub record SumsTo (fs : List ℕ) (N at k sum : ℕ) : Type 0 where
-  pub parts : sum ≡ over_weight * count_if k (over_from fs N at) + low_sum fs N at k
-  pub few : low_sum fs N at k ≤ 4095 * k
+-- what the sum of the first k words tells
+pub record SumsTo (w : ℕ → ℕ) (N k sum : ℕ) : Type 0 where
+  pub parts : sum ≡ over_weight * count_if k (over_from w N) + low_sum w N k
+  pub few : low_sum w N k ≤ 4095 * k
 
-module _ (fs : List ℕ) (N at : ℕ) where
-  pub low-none : low_sum fs N at 0 ≡ 0
+module _ (w : ℕ → ℕ) (N : ℕ) where
+  over-high : (k : ℕ) → N ≤ w k → over_from w N k ≡ true
+  unfolding over_from
+  over-high k l = le-leb N (w k) l
+
+  over-low : (k : ℕ) → w k < N → over_from w N k ≡ false
+  unfolding over_from
+  over-low k l = lt-leb N (w k) l
+
+  pub low-none : low_sum w N 0 ≡ 0
   unfolding low_sum
   low-none = refl
 
-  pub low-more : (k : ℕ) → low_sum fs N at (k + 1) ≡ low_sum fs N at k + number_below N (word_at fs (at + word_size * k))
+  pub low-more : (k : ℕ) → low_sum w N (k + 1) ≡ low_sum w N k + number_below N (w k)
   unfolding low_sum
   low-more k = rw (add-one k)
 
   -- n words more add to it, or are no numbers
-  low-on : (k n : ℕ) → low_sum fs N at k ≤ low_sum fs N at (k + n)
-  low-on k zero = rw (add-zero k) (le_refl (low_sum fs N at k))
+  low-on : (k n : ℕ) → low_sum w N k ≤ low_sum w N (k + n)
+  low-on k zero = rw (add-zero k) (le_refl (low_sum w N k))
   low-on k (suc n) =
       let e : k + suc n ≡ k + n + 1 = omega arith in
-      let q : low_sum fs N at (k + suc n) ≡ low_sum fs N at (k + n) + number_below N (word_at fs (at + word_size * (k + n))) = ap (low_sum fs N at) e ∙ low-more (k + n) in
+      let q : low_sum w N (k + suc n) ≡ low_sum w N (k + n) + number_below N (w (k + n)) = ap (low_sum w N) e ∙ low-more (k + n) in
       omega (arith, low-on k n)
 
-  pub low-within : (k m : ℕ) → k ≤ m → low_sum fs N at k ≤ low_sum fs N at m
+  pub low-within : (k m : ℕ) → k ≤ m → low_sum w N k ≤ low_sum w N m
   low-within k m l = let e : k + (m - k) ≡ m = omega arith in rw e at (low-on k (m - k))
 
   -- where nothing is added from k on, no word there is a number
-  pub low-rest : (k m : ℕ) → low_sum fs N at m ≤ low_sum fs N at k → (j : ℕ) → k ≤ j → j < m → number_below N (word_at fs (at + word_size * j)) ≡ 0
+  pub low-rest : (k m : ℕ) → low_sum w N m ≤ low_sum w N k → (j : ℕ) → k ≤ j → j < m → number_below N (w j) ≡ 0
   low-rest k m l j a b = omega (arith, low-within k j a, low-more j, low-within (j + 1) m (omega arith))
 
-  sums_none : SumsTo fs N at 0 0
-  sums_none = record { parts = omega (arith, count-zero (over_from fs N at), low-none); few = omega (arith, low-none) }
+  pub sums_none : SumsTo w N 0 0
+  sums_none = record { parts = omega (arith, count-zero (over_from w N), low-none); few = omega (arith, low-none) }
 
-  pub sums-few : (k sum : ℕ) → k ≤ slot_count → SumsTo fs N at k sum → sum ≤ 1114112
-  sums-few k sum h s = omega (arith, s.parts, s.few, count-le k (over_from fs N at))
+  pub sums-few : (k sum : ℕ) → k ≤ slot_count → SumsTo w N k sum → sum ≤ 1114112
+  sums-few k sum h s = omega (arith, s.parts, s.few, count-le k (over_from w N))
 
   -- one more word
-  sums-more : 1 ≤ N → N ≤ most_pages → (k sum w : ℕ) → w ≡ word_at fs (at + word_size * k) → SumsTo fs N at k sum → SumsTo fs N at (k + 1) (sum + weight (N - 1) w)
-  sums-more o l k sum w e s = elim (dec_lt w N) [
+  pub sums-more : 1 ≤ N → N ≤ most_pages → (k sum : ℕ) → SumsTo w N k sum → SumsTo w N (k + 1) (sum + weight (N - 1) (w k))
+  sums-more o l k sum s = elim (dec_lt (w k) N) [
     | yes h ↦
-        let c : count_if (k + 1) (over_from fs N at) ≡ count_if k (over_from fs N at) = count_no k (over_from fs N at) (over-low fs N at k w e h) in
-        let x : weight (N - 1) w ≡ w = weight-low (N - 1) w (omega arith) in
-        let b : low_sum fs N at (k + 1) ≡ low_sum fs N at k + w = low-more k ∙ ap (λ (y : ℕ). low_sum fs N at k + y) (ap (number_below N) (sym e) ∙ below-low N w h) in
+        let c : count_if (k + 1) (over_from w N) ≡ count_if k (over_from w N) = count_no k (over_from w N) (over-low k h) in
+        let x : weight (N - 1) (w k) ≡ w k = weight-low (N - 1) (w k) (omega arith) in
+        let b : low_sum w N (k + 1) ≡ low_sum w N k + w k = low-more k ∙ ap (λ (y : ℕ). low_sum w N k + y) (below-low N (w k) h) in
         record { parts = omega (arith, s.parts); few = omega (arith, s.few) }
     | no h ↦
-        let c : count_if (k + 1) (over_from fs N at) ≡ count_if k (over_from fs N at) + 1 = count_yes k (over_from fs N at) (over-high fs N at k w e (omega arith)) in
-        let x : weight (N - 1) w ≡ over_weight = weight-high (N - 1) w (omega arith) in
-        let b : low_sum fs N at (k + 1) ≡ low_sum fs N at k + 0 = low-more k ∙ ap (λ (y : ℕ). low_sum fs N at k + y) (ap (number_below N) (sym e) ∙ below-high N w (omega arith)) in
+        let c : count_if (k + 1) (over_from w N) ≡ count_if k (over_from w N) + 1 = count_yes k (over_from w N) (over-high k (omega arith)) in
+        let x : weight (N - 1) (w k) ≡ over_weight = weight-high (N - 1) (w k) (omega arith) in
+        let b : low_sum w N (k + 1) ≡ low_sum w N k + 0 = low-more k ∙ ap (λ (y : ℕ). low_sum w N k + y) (below-high N (w k) (omega arith)) in
         record { parts = omega (arith, s.parts); few = omega (arith, s.few) }
   ]
 
-  -- the sum as the loop makes it
-  sums-of : 1 ≤ N → N ≤ most_pages → (k : ℕ) → SumsTo fs N at k (fold (add_word fs N at) 0 k)
-  unfolding fold
-  sums-of o l zero = sums_none
-  sums-of o l (suc k) = rw (← add-one k) (sums-more o l k _ _ refl (sums-of o l k))
-
-  pub sums-to : 1 ≤ N → N ≤ most_pages → (k : ℕ) {sum : ℕ} → sum ≡ fold (add_word fs N at) 0 k → SumsTo fs N at k sum
-  sums-to o l k e = rw e (sums-of o l k)
-
-  pub sums-all : (sum : ℕ) → SumsTo fs N at slot_count sum → SumsWords fs N at sum
+  pub sums-all : (sum : ℕ) → SumsTo w N slot_count sum → SumsWords w N sum
   sums-all sum s = record { counts = omega (arith, s.parts, s.few); low = omega (arith, s.parts, s.few) }

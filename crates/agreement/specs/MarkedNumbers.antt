@@ -6,7 +6,7 @@ use Rattle.std.proofs.Math.Bool.{not}
 use Rattle.std.proofs.Math.Decide.{ℕ_discrete, dec_lt}
 use Rattle.std.proofs.lemmas.Bool.{lt-leb, eqb-false, not-true}
 use mir.Val.{bool_byte}
-use Rattle.page.specs.Figures.{slot_count, page_size, most_pages, most_stores}
+use Rattle.page.specs.Figures.{slot_count, most_pages, most_stores}
 use Rattle.page.specs.Word.{is_marked, name_of, is_marked_number, plainly, markedly}
 use Rattle.page.proofs.NameLaws.{says, marked-name, unmarked-name, marked-number-is, mark-swizzled}
 use Rattle.page.specs.Page.{slot}
@@ -336,18 +336,16 @@ noting-ext test test' w w' m t e seen next count fresh M = record {
 
 module _ (residents fs : List ℕ) (N f : ℕ) (seen : Seen) where
   -- in a frame that holds a page
-  module _ (h : holds_page residents f ≡ true) (at : ℕ) (e : at ≡ page_size * f) where
-    pub frame-marked : (t : ℕ) → t ≡ store_by residents f → (next : Seen) (count : ℕ) (fresh : Bool) → MarksNoted (marks_from fs N at) (marked_from fs N at t) slot_count seen next count fresh → FrameMarks residents fs N f seen next count fresh
-    unfolding slot
+  module _ (h : holds_page residents f ≡ true) where
+    pub frame-marked : (t : ℕ) → t ≡ store_by residents f → (next : Seen) (count : ℕ) (fresh : Bool) → MarksNoted (marks_from (slot fs f) N) (marked_from (slot fs f) N t) slot_count seen next count fresh → FrameMarks residents fs N f seen next count fresh
     frame-marked t s next count fresh M =
-        noting-ext _ (marks_from fs N (page_size * f)) _ (marked_from fs N (page_size * f) (store_by residents f)) slot_count
-        (λ k l. counted-held (holds_page residents) (store_by residents) fs N f k l h) (λ k l. stands-held (holds_page residents) (store_by residents) fs N f k l h) seen next count fresh (rw (e, s) at M)
+        noting-ext _ (marks_from (slot fs f) N) _ (marked_from (slot fs f) N (store_by residents f)) slot_count
+        (λ k l. counted-held (holds_page residents) (store_by residents) fs N f k l h) (λ k l. stands-held (holds_page residents) (store_by residents) fs N f k l h) seen next count fresh (rw s at M)
 
-    pub frame-unmarked : N ≤ most_pages → NoMark fs at → FrameMarks residents fs N f seen seen 0 true
-    unfolding slot
+    pub frame-unmarked : N ≤ most_pages → NoMark (slot fs f) → FrameMarks residents fs N f seen seen 0 true
     frame-unmarked few z =
-        noting-nothing _ _ slot_count (λ k l. counted-held (holds_page residents) (store_by residents) fs N f k l h ∙ (gives_none N _ few (rw e at (z k l))).0)
-        (λ k l. stands-held (holds_page residents) (store_by residents) fs N f k l h ∙ keyed-zero _ _ (gives_none N _ few (rw e at (z k l))).1) seen
+        noting-nothing _ _ slot_count (λ k l. counted-held (holds_page residents) (store_by residents) fs N f k l h ∙ (gives_none N _ few (z k l)).0)
+        (λ k l. stands-held (holds_page residents) (store_by residents) fs N f k l h ∙ keyed-zero _ _ (gives_none N _ few (z k l)).1) seen
 
   -- in one that holds none
   pub frame-empty : holds_page residents f ≡ false → FrameMarks residents fs N f seen seen 0 true

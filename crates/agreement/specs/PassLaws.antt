@@ -1,5 +1,5 @@
 -- How the pass over the frames begins, goes on by one frame, and ends. Assumes nothing.
-use Rattle.std.specs.Prelude.{ℕ, ◌+◌, ◌*◌, ◌/◌, ◌<◌, ◌≤◌, ◌≡◌, refl, ◌≢◌, Bool, false, List, length, set, replicate}
+use Rattle.std.specs.Prelude.{ℕ, ◌+◌, ◌*◌, ◌/◌, ◌<◌, ◌≤◌, ◌≡◌, ◌↔◌, refl, ◌≢◌, Bool, false, List, length, set, replicate}
 use Rattle.std.proofs.Math.Path.{sym}
 use Rattle.std.proofs.Common.{◌∙◌, ap, arith, add-zero, le_refl, eq-eqb, ne_eqb, eqb-true, length-set, get_or-set_other}
 use Rattle.std.proofs.Math.Bool.{true, not}
@@ -7,7 +7,8 @@ use Rattle.std.proofs.Math.Decide.{ℕ_discrete, dec_lt}
 use Rattle.std.proofs.Math.Dec.{eqb}
 use Rattle.std.proofs.lemmas.List.{length-replicate, get_or-replicate}
 use Rattle.std.proofs.Math.ListN.{get_or-eq_default}
-use Rattle.page.specs.Figures.{slot_count, most_frames, most_pages, most_stores, record_count}
+use Rattle.std.specs.Int.Bits.{bit_or}
+use Rattle.page.specs.Figures.{slot_count, most_frames, most_pages, most_stores}
 use Rattle.page.specs.Word.{name_of}
 use Rattle.machine.specs.declared.FrameRecord.{FrameRecord}
 use Rattle.rules.specs.Tests.{◌and◌}
@@ -22,8 +23,8 @@ use Rattle.residents.specs.ResidentLaws.{key-store}
 use Rattle.residents.specs.Handed.{Clear}
 use Rattle.agreement.specs.Counting.{count_if, count-zero, count-more, count-le, count-ext, count-tally, none_passes}
 use Rattle.agreement.specs.Twice.{PassedRow, Twice, Progress, pass-none, pass-zeros, twice-more, not-twice, sorted-twice, passed-sorted}
-use Rattle.agreement.specs.Fit.{Blank, Gathers, Fits, per_frame, numbers_in_frames, as_stands, is_over, used_in, is_marked_in, numbers_met, places_met, above_of, RestBlank, FramesFit, FrameNoted, StoresFew, HeldAlone, AllMarks, entry, parent_at, key_in, Before, Settled}
-use Rattle.agreement.specs.FitLaws.{entries-more, met-then, has-numbers, over-used, over-empty, page-below, fitting-store, used-bit}
+use Rattle.agreement.specs.Fit.{Blank, Fits, per_frame, numbers_in_frames, as_stands, is_over, used_in, is_marked_in, numbers_met, places_met, above_of, RestBlank, FramesFit, FrameNoted, StoresFew, HeldAlone, AllMarks, entry, parent_at, key_in, Before, Settled}
+use Rattle.agreement.specs.FitLaws.{or_nothing, nothing-or, entries-more, met-then, has-numbers, over-used, over-empty, page-below, fitting-store, used-bit}
 use Rattle.agreement.specs.MarkedNumbers.{over-marked, none-stands, counted-alike, stands_alike, names-met, met-names}
 
 -- an entry of a table of zeros
@@ -97,23 +98,18 @@ module _ (rs : List FrameRecord) (fs : List ℕ) (F N T : ℕ) where
 
 -- ---- the records from F on
 
--- what it tells of the records from F on and before f that nothing was gathered, which is P
-pub record RestTo (rs : List FrameRecord) (F f : ℕ) (P : Type 0) : Type 0 where
-  pub blanks : P → (g : ℕ) → F ≤ g → g < f → Blank (record_at rs g)
-  pub nothing : ((g : ℕ) → F ≤ g → g < f → Blank (record_at rs g)) → P
+-- the records from F on and before f are all zero where nothing was gathered of them
+abbrev pub RestTo : List FrameRecord → ℕ → ℕ → ℕ → Type 0
+RestTo rs F f any = (any ≡ 0) ↔ ((g : ℕ) → F ≤ g → g < f → Blank (record_at rs g))
 
-module _ (rs : List FrameRecord) (F : ℕ) where
-  pub rest-none : (f : ℕ) (P : Type 0) → f ≤ F → P → RestTo rs F f P
-  rest-none f P l p = record { blanks = λ q g a b. absurd (omega arith); nothing = λ h. p }
+pub rest-none : (rs : List FrameRecord) (F : ℕ) → RestTo rs F F 0
+rest-none rs F = (λ e g a b. absurd (omega arith), λ h. refl)
 
-  pub rest_more : (f : ℕ) (P Q : Type 0) → F ≤ f → Gathers (record_at rs f) P Q → RestTo rs F f P → RestTo rs F (f + 1) Q
-  rest_more f P Q l G R = record {
-    blanks = λ q g a b. elim (ℕ_discrete g f) [
-      | yes e ↦ rw e (G.blank q)
-      | no e ↦ R.blanks (G.kept q) g a (omega arith)
-    ];
-    nothing = λ h. G.nothing (R.nothing (λ g a b. h g a (omega arith))) (h f l (omega arith));
-  }
+pub rest_more : (rs : List FrameRecord) (F f any x : ℕ) → F ≤ f → (x ≡ 0) ↔ Blank (record_at rs f) → RestTo rs F f any → RestTo rs F (f + 1) (bit_or any x)
+rest_more rs F f any x l G R = (
+  λ e g a b. let o = or_nothing any x e in elim (ℕ_discrete g f) [ yes q ↦ rw q (G.0 o.1) | no q ↦ R.0 o.0 g a (omega arith) ],
+  λ h. nothing-or any x (R.1 (λ g a b. h g a (omega arith))) (G.1 (h f l (omega arith))),
+)
 
 -- ---- after the last frame
 
@@ -231,9 +227,8 @@ module _ (rs : List FrameRecord) (fs : List ℕ) (F N T : ℕ) (f : ℕ) (seen :
         | off t ↦ rw z at (noted t)
       ]
 
-      pub settle : (g : ℕ) (P : Type 0) → record_count ≤ g → RestTo rs F g P → P → Settled rs fs F N T seen' t residents
-      settle g P m R q =
-          let b : RestBlank rs F = λ h a k. R.blanks q h a (omega arith) in
+      pub settle : RestBlank rs F → Settled rs fs F N T seen' t residents
+      settle b =
           let n : PassedRow (numbers_in_frames name_of rs fs N) (per_frame * F) seen' = passed-sorted _ _ _ _ (met-names rs fs F N few) (names-met rs fs F N) seen' all-passed in
           record {
             rest = b;

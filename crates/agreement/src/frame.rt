@@ -1,83 +1,71 @@
 // A frame: its record, the word that names it, and the numbers in it.
-ghost use Rattle.std.specs.Prelude.{◌+◌, ◌*◌, ◌<◌, ◌≤◌, length};
-ghost use Rattle.page.specs.Figures.{page_size, slot_count, most_frames, most_pages, most_stores};
-ghost use Rattle.seen.specs.Seen.{Table};
-ghost use Rattle.machine.specs.Machine.{is_of};
+ghost use Rattle.std.specs.Prelude.{◌≡◌, ◌<◌, is_some};
+ghost use Rattle.std.specs.Option.{unwrap_or};
+ghost use Rattle.seen.specs.Seen.{OneStore};
 ghost use Rattle.agreement.specs.Sizes.{Sizes};
 ghost use Rattle.rules.specs.Deciding.{Decides};
-ghost use Rattle.agreement.specs.Fit.{Linked, Fits, Alone, FrameNoted};
+ghost use Rattle.agreement.specs.Fit.{above_of, ResidentFits, Linked, FrameFits, FrameNoted};
 
-use crate::words::Noted;
-use machine::FrameRecord;
+use crate::record;
+use crate::words::Words;
+use machine::{FrameRecord, Pool};
 use page::FrameIndex;
 use seen::Seen;
 
-// Is the frame's parent, whose record is `above`, occupied by a page of its store, and its word swizzled to the frame, with a mark or, as most, without.
-fn is_linked(frames: &[u8], frame: FrameIndex, rec: FrameRecord, above: FrameRecord) -> bool
-    requires { (frame.0 < most_frames) × (page_size * rec.parent.0 + page_size ≤ length frames.now) × (rec.slot < slot_count) }
-    ensures { Decides result (Linked frames.now frame.0 rec (is_of rec.store.0 above)) }
+// Is the parent of a frame, whose record is in range, occupied by a page of its store, and its word swizzled to the frame, with a mark or, as most, without.
+fn is_linked(pool: &Pool, frames: &[u8], frame: FrameIndex, rec: &FrameRecord) -> bool
+    requires { Sizes pool.now.count pool.now.pages pool.now.stores frames.now × (frame.0 < pool.now.count) × ResidentFits pool.now.count pool.now.pages pool.now.stores rec.now }
+    ensures { Decides result (Linked frames.now frame.0 rec.now (above_of pool.now.records rec.now)) }
 {
-    if above.used == 1 {
-        if above.store.0 != rec.store.0 {
-            return false;
-        }
-        let slot = page::wide::from_u8(rec.slot);
-        let w = page::slot::slot_word(frames, rec.parent, slot);
-        let name = FrameIndex::word(frame);
-        if w == name {
-            return true;
-        }
-        return w == page::word::marked(true, name);
+    let above = &pool.records[usize::from(rec.parent)];
+    if above.used != 1 {
+        return false;
     }
-    false
+    if above.store.0 != rec.store.0 {
+        return false;
+    }
+    let w = page::slot::slot_word(frames, rec.parent, usize::from(rec.slot));
+    let name = frame.word();
+    w == name || w == page::word::marked(true, name)
 }
 
 // Does the frame's record fit, and the word that names it.
-pub fn is_fitting(
-    frames: &[u8],
-    frame: FrameIndex,
-    rec: FrameRecord,
-    above: FrameRecord,
-    count: usize,
-    pages: u32,
-    stores: u8,
-) -> bool
-    requires { Sizes count pages stores frames.now × (frame.0 < count) }
-    ensures { Decides result (Fits frames.now count pages stores frame.0 rec (is_of rec.store.0 above)) }
+pub fn is_fitting(pool: &Pool, frames: &[u8], frame: FrameIndex, rec: &FrameRecord) -> bool
+    requires { Sizes pool.now.count pool.now.pages pool.now.stores frames.now × (frame.0 < pool.now.count) }
+    ensures { Decides result (FrameFits pool.now frames.now frame.0 rec.now) }
 {
-    if frame.0 < stores {
-        return crate::record::root_fits(rec, frame);
+    if frame.0 < pool.stores {
+        return record::root_fits(rec, frame);
     }
     if rec.used == 1 {
-        if !crate::record::resident_fits(rec, count, pages, stores) {
+        if !record::resident_fits(pool, rec) {
             return false;
         }
-        return is_linked(frames, frame, rec, above);
+        return is_linked(pool, frames, frame, rec);
     }
-    crate::record::is_blank(rec)
+    record::is_blank(rec)
 }
 
-// Notes the numbers in a frame where it is occupied; `alone` where there is one store.
+// Notes the numbers in a frame that fits, where it is occupied: how many of its words are not below N, or nothing where a number was noted before.
 pub fn note(
+    pool: &Pool,
     frames: &[u8],
     frame: FrameIndex,
-    rec: FrameRecord,
-    pages: u32,
-    alone: bool,
+    rec: &FrameRecord,
     seen: &mut Seen,
-) -> Noted
-    requires { (rec.store.0 < most_stores) × (rec.page.0 < pages) × (pages ≤ most_pages) × (page_size * frame.0 + page_size ≤ length frames.now) × Table seen.old × Alone alone rec.store.0 seen.old }
-    ensures { FrameNoted frames.now pages frame.0 rec seen.old seen.new result.over result.fresh }
+) -> Option<u32>
+    requires { Sizes pool.now.count pool.now.pages pool.now.stores frames.now × (frame.0 < pool.now.count) × FrameFits pool.now frames.now frame.0 rec.now × (pool.now.stores ≡ 1 → OneStore seen.old) }
+    ensures { FrameNoted frames.now pool.now.pages frame.0 rec.now seen.old seen.new (unwrap_or result 0) (is_some result) }
 {
     if rec.used == 1 {
-        let start = FrameIndex::start(frame);
-        if alone {
-            return crate::words::note_alone(frames, start, rec.page, pages, seen);
-        }
-        return crate::words::note_numbers(frames, start, rec.store, rec.page, pages, seen);
-    }
-    Noted {
-        over: 0,
-        fresh: true,
+        let words = Words {
+            frames,
+            frame,
+            of_store: rec.store,
+            pages: u32::from(pool.pages),
+        };
+        words.note(rec.page, pool.stores == 1, seen)
+    } else {
+        Some(0)
     }
 }

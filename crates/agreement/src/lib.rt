@@ -13,97 +13,57 @@ ghost use Rattle.machine.specs.Agreement.{agree};
 ghost use Rattle.residents.specs.Handed.{Clear, Handed};
 ghost use Rattle.agreement.specs.Sizes.{Sizes};
 
-use machine::{FrameRecord, Pool};
-use page::{FrameIndex, PageNumber, StoreNumber};
+use machine::Pool;
+use page::FrameIndex;
 use residents::Residents;
 use seen::Seen;
 
 // Do records and frames agree, once their sizes were found right. Where they do, the tables tell the page in each frame, and which pages resident pages name.
-pub fn agrees(pool: Pool, frames: &[u8], residents: &mut Residents, seen: &mut Seen) -> bool
-    requires { Sizes pool.count pool.pages pool.stores frames.now × Clear residents.old seen.old }
-    ensures { (result ≡ agree pool frames.now) × (result ≡ true → Handed pool frames.now residents.new seen.new) }
+pub fn agrees(pool: &Pool, frames: &[u8], residents: &mut Residents, seen: &mut Seen) -> bool
+    requires { Sizes pool.now.count pool.now.pages pool.now.stores frames.now × Clear residents.old seen.old }
+    ensures { (result ≡ agree pool.now frames.now) × (result ≡ true → Handed pool.now frames.now residents.new seen.new) }
 {
-    let records = pool.records;
-    let count = page::wide::from_u16(pool.count);
-    let n = pool.pages as u32;
-    let stores = pool.stores;
-    let ceilings = pool.ceilings;
-    let alone = stores == 1;
-    if count <= page::wide::from_u8(pool.hand.0) {
+    let count = usize::from(pool.count);
+    if count <= usize::from(pool.hand) {
         return false;
     }
     let mut parents = [0u8; FrameIndex::MOST];
     let mut occupied: u32 = 0;
     // Words that aren't below N as they stand. Each occupied frame but the roots' has one of its own; where there are no more of them, each is swizzled to a frame that points back to it, with a mark or without. Others can only be numbers with marks.
     let mut over: u32 = 0;
-    let mut f: usize = 0;
-    while f < count {
-        // Read field by field: a record copied whole the compiler would take apart again.
-        let parent = FrameIndex(records[f].parent.0);
-        let store = StoreNumber(records[f].store.0);
-        let page = PageNumber(records[f].page.0);
-        let rec = FrameRecord {
-            used: records[f].used,
-            dirty: records[f].dirty,
-            usage: records[f].usage,
-            slot: records[f].slot,
-            parent: parent,
-            store: store,
-            pins: records[f].pins,
-            page: page,
-        };
-        let above = records[page::wide::from_u8(parent.0) % FrameIndex::MOST];
+    for f in 0..count {
         let frame = FrameIndex(f as u8);
-        if !frame::is_fitting(frames, frame, rec, above, count, n, stores) {
+        let rec = &pool.records[f];
+        if !frame::is_fitting(pool, frames, frame, rec) {
             return false;
         }
         parents[f] = rec.parent.0;
         let key = residents::key(rec.store, rec.page);
         residents[f] = key;
-        let noted = frame::note(frames, frame, rec, n, alone, seen);
-        if !noted.fresh {
+        let Some(words) = frame::note(pool, frames, frame, rec, seen) else {
             return false;
-        }
-        over += noted.over;
-        occupied += rec.used as u32;
-        f += 1;
+        };
+        over += words;
+        occupied += u32::from(rec.used);
     }
-    // The fields of the records from F on, or-ed together. They are read where they lie: from a copy of the record the compiler would not read neighbours at once.
-    let mut first: u32 = 0;
-    let mut middle: u32 = 0;
-    let mut last: u32 = 0;
-    while f < FrameIndex::MOST {
-        first = first
-            | record::first_fields(
-                records[f].used,
-                records[f].dirty,
-                records[f].usage,
-                records[f].slot,
-            );
-        middle = middle | record::middle_fields(records[f].parent.0, records[f].store.0);
-        last = last | record::last_fields(records[f].pins, records[f].page.0);
-        f += 1;
+    // The fields of the records from F on, or-ed together.
+    let mut rest: u32 = 0;
+    for f in count..FrameIndex::MOST {
+        rest |= record::fields(&pool.records[f]);
     }
-    if first != 0 {
-        return false;
-    }
-    if middle != 0 {
-        return false;
-    }
-    if last != 0 {
+    if rest != 0 {
         return false;
     }
     // With the roots', which no word names.
-    let frames_named = over + stores as u32;
+    let frames_named = over + u32::from(pool.stores);
     let even = frames_named == occupied;
-    let marked = marks::note(frames, residents, count, n, even, seen);
-    if !marked.fresh {
+    let Some(marked) = marks::note(pool, frames, residents, even, seen) else {
+        return false;
+    };
+    if frames_named != occupied + marked {
         return false;
     }
-    if frames_named != occupied + marked.count {
-        return false;
-    }
-    if !ceilings::hold(residents, count, stores, ceilings, occupied) {
+    if !ceilings::hold(pool, residents, occupied) {
         return false;
     }
     steps::lead_to_root(parents, count)

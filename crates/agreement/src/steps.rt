@@ -7,17 +7,18 @@ ghost use Rattle.agreement.specs.ParentSteps.{Below, Round, InOrder};
 
 use page::FrameIndex;
 
+// How often steps are doubled from one until they are as many as frames at most.
+const ROUNDS: u32 = 6;
+
 // Do all parents lie before their frames, frame 0's excepted, which is always counted: nothing lies before it. No entry is branched on, so that the compiler takes them side by side.
 fn in_order(parents: &[u8; FrameIndex::MOST]) -> bool
     ensures { result ≡ true → InOrder most_frames parents.now }
 {
     let mut late: u8 = 0;
-    let mut f: usize = 0;
-    while f < FrameIndex::MOST {
-        if f as u8 <= parents[f] {
+    for (f, parent) in parents.iter().enumerate() {
+        if f as u8 <= *parent {
             late += 1;
         }
-        f += 1;
     }
     late <= 1
 }
@@ -28,14 +29,12 @@ fn jump(table: &mut [u8; FrameIndex::MOST], count: usize) -> bool
     ensures { Round count table.old table.new result }
 {
     let mut at_root = true;
-    let mut f: usize = 0;
-    while f < count {
-        let x = table[page::wide::from_u8(table[f])];
+    for f in 0..count {
+        let x = table[usize::from(table[f])];
         table[f] = x;
         if x != 0 {
             at_root = false;
         }
-        f += 1;
     }
     at_root
 }
@@ -49,12 +48,10 @@ pub fn lead_to_root(parents: [u8; FrameIndex::MOST], count: usize) -> bool
         return true;
     }
     let mut table = parents;
-    let mut steps: usize = 1;
-    while steps < FrameIndex::MOST {
+    for round in 0..ROUNDS {
         if jump(&mut table, count) {
             return true;
         }
-        steps = 2 * steps;
     }
     false
 }

@@ -1,12 +1,10 @@
 -- Answers in code, and what show, peek, word and find give.
-use Rattle.std.specs.Prelude.{◌≡◌, refl, true, false, List, [], ◌∷◌, replicate}
-use Rattle.machine.specs.declared.FixAnswer.TheVariants.{Fixed, Refused}
-use Rattle.machine.specs.declared.WordAnswer.TheVariants.{Names, Refused as RefusedWord}
-use Rattle.machine.specs.declared.FindAnswer.TheVariants.{At, Absent, Refused as RefusedFind}
+use Rattle.std.specs.Prelude.{◌≡◌, refl, true, false, List, [], ◌∷◌, replicate, Some, None, Ok, Err}
+use Rattle.rules.specs.declared.refusal.Refusal.TheVariants.{AlreadyNamed, BadHandle, BadPage, BadSlot, NoFrame}
 use Rattle.machine.specs.Machine.{State, frame_index, page_number}
-use Rattle.machine.specs.Answers.{Answer, refused, done, handle, payload, in_frames, in_store, number, frame, nowhere, done_answer, fix_answer, word_answer, find_answer, place_of, Shown, handed_back}
+use Rattle.machine.specs.Answers.{Answer, refused, done, handle, payload, in_frames, in_store, number, frame, nowhere, done_answer, fix_answer, word_answer, find_answer, payload_answer, Shown, handed_back}
 use Rattle.machine.specs.Calls.{show_call, peek_call, word_call, find_call}
-use Rattle.cases.specs.Rows.{empty, resident, names, swizzled_to, page, machine, handle_at, handle_of, Case, is, answers, placed, leaves, refuses, hands, all_hold}
+use Rattle.cases.specs.Rows.{empty, resident, names, swizzled_to, page, machine, handle_at, handle_of, Case, answers, leaves, refuses, hands, all_hold}
 
 -- page 1 in frame 1 by the root's slot 0, page 2 not resident, named by the root's slot 1
 abbrev two : State
@@ -26,19 +24,19 @@ handed a = handed_back (record { at = (5, 1000); bytes = two.frames }) (record {
 pub answer_table : List Case
 answer_table =
     -- "Where an answer is an enum, a definition gives this paper's number and values for each of its cases."
-    answers (fix_answer (Fixed (handle_at 3 2 4) 16)) (handle 3 2 4 16)
-    ∷ answers (fix_answer (Refused 15)) (refused 15)
-    ∷ answers (word_answer (Names (page_number 7) false)) (number 7 false)
-    ∷ answers (word_answer (Names (page_number 7) true)) (number 7 true)
-    ∷ answers (word_answer (RefusedWord 4)) (refused 4)
-    ∷ answers (find_answer (At (frame_index 3) 9)) (frame 3 9)
-    ∷ answers (find_answer (Absent 8)) (nowhere 8)
-    ∷ answers (find_answer (RefusedFind 6)) (refused 6)
-    ∷ answers (done_answer 0) done
-    ∷ answers (done_answer 9) (refused 9)
-    ∷ is (placed (place_of (payload in_frames 320 192))) (0 ∷ 0 ∷ 320 ∷ 192 ∷ [])
-    ∷ is (placed (place_of (payload in_store 576 192))) (0 ∷ 1 ∷ 576 ∷ 192 ∷ [])
-    ∷ is (placed (place_of (refused 3))) (3 ∷ 0 ∷ 0 ∷ 0 ∷ [])
+    answers (fix_answer (Ok (record { handle = handle_at 3 2 4; looks = 16 }))) (handle 3 2 4 16)
+    ∷ answers (fix_answer (Err NoFrame)) (refused 15)
+    ∷ answers (word_answer (Ok (record { page = page_number 7; locked = false }))) (number 7 false)
+    ∷ answers (word_answer (Ok (record { page = page_number 7; locked = true }))) (number 7 true)
+    ∷ answers (word_answer (Err BadSlot)) (refused 4)
+    ∷ answers (find_answer (Ok (record { frame = Some (frame_index 3); compared = 9 }))) (frame 3 9)
+    ∷ answers (find_answer (Ok (record { frame = None; compared = 8 }))) (nowhere 8)
+    ∷ answers (find_answer (Err BadPage)) (refused 6)
+    ∷ answers (done_answer (Ok tt)) done
+    ∷ answers (done_answer (Err AlreadyNamed)) (refused 9)
+    ∷ answers (payload_answer (Ok (record { in_store = false; start = 320; size = 192 }))) (payload in_frames 320 192)
+    ∷ answers (payload_answer (Ok (record { in_store = true; start = 576; size = 192 }))) (payload in_store 576 192)
+    ∷ answers (payload_answer (Err BadHandle)) (refused 3)
     -- "Show hands back a handle's payload." "Peek, by page number, hands back the payload from the frame if resident, otherwise from the store." "Both put their number, 0 if accepted, into a number the caller lends."
     ∷ hands (handed (show_call two (handle_of 1 1)).answer) (5, 1320) (replicate 192 11) 0
     ∷ hands (handed (peek_call two 0 (page_number 1)).answer) (5, 1320) (replicate 192 11) 0

@@ -6,7 +6,6 @@ use Rattle.page.specs.Page.{slot, put_slot, page_of, put_page, put_payload, byte
 use Rattle.chains.specs.ChainRows.{directory_of}
 use Rattle.machine.specs.declared.FrameRecord.{FrameRecord}
 use Rattle.machine.specs.declared.Handle.{Handle}
-use Rattle.machine.specs.declared.Place.{Place}
 use Rattle.rules.specs.Tests.{pick, ◌and◌, ◌or◌, ◌⇒◌, every, some, first_broken, verdict}
 use Rattle.machine.specs.Machine.{State, state, frame_index, page_number, store_number, zero_pool, root_records, occupied, found_from, held, at_ceiling}
 use Rattle.chains.specs.Chain.{chain_from, has, each_of, once, opened_directory, entered, taken_from, seek_in, tally}
@@ -16,7 +15,7 @@ use Rattle.machine.specs.Soundness.{words_below, words_once, sound_store, sound}
 use Rattle.machine.specs.Moves.{plain, image_to, written_out_by, written_out_to, cleaned_to, settled, evicted, loaded}
 use Rattle.machine.specs.Sweep.{after, empty_from, childless, standing, kind_for, look_leaves, look_takes, sweep_from}
 use Rattle.machine.specs.Naming.{current_word, named, named_by_resident, repeated, word_loadable, loadable}
-use Rattle.machine.specs.Answers.{Answer, refused, done, handle, payload, in_frames, in_store, number, frame, nowhere, done_answer, cut, Shown, Out}
+use Rattle.machine.specs.Answers.{Answer, refused, done, handle, payload, in_frames, in_store, number, frame, nowhere, cut, Shown, Out}
 use Rattle.machine.specs.Rules.{lengths_fit, ceiling_fits, stores_fit, directory_fits, handle_fits, range_fits, locked}
 use Rattle.machine.specs.Calls.{decide, root_frames, open_call, root_call, fix_call, miss_out, unfix_call, show_call, payload_place, peek_call, word_call, write_call, link_call, unlink_call, evict_call, settle_call, found_answer, find_call}
 
@@ -159,10 +158,6 @@ which (nowhere compared) = 7
 abbrev fields : FrameRecord → List ℕ
 fields r = r.used ∷ r.dirty ∷ r.usage ∷ r.slot ∷ r.parent.0 ∷ r.store.0 ∷ r.pins ∷ r.page.0 ∷ []
 
--- a place's fields: the refusal, whether it is in the store, start and size
-abbrev pub placed : Place → List ℕ
-placed p = p.refusal ∷ flag p.in_store ∷ p.start ∷ p.size ∷ []
-
 -- all of a machine: every record's fields, F, N, T, the ceilings, the hand, and the three buffers with their lengths
 abbrev whole : State → List ℕ
 whole s =
@@ -212,6 +207,6 @@ same_numbers (x ∷ xs) (y ∷ ys) = eqb x y && same_numbers xs ys
 
 -- every row gives what document 01 says. To unfold it unfolds the definitions that the rows are computed by.
 unfoldable pub all_hold : List Case → Bool
-unfolding same_numbers each_entered root_frames open_call root_call fix_call miss_out unfix_call show_call payload_place peek_call word_call write_call link_call unlink_call evict_call settle_call found_answer find_call decide verdict first_broken pick ◌and◌ ◌or◌ ◌⇒◌ every some lengths_fit ceiling_fits stores_fit directory_fits handle_fits range_fits locked chain_from has each_of once belongs chain_right chains_right chains_whole others_zero chains_agree opened_directory entered taken_from seek_in tally agree root_in_place roots_in_place pages_apart hand_in_range all_in_range fields_in_range empty_blank is_blank parents_name stores_agree points_back swizzled_point_back absent numbers_absent gives_page numbers_once reaches_root all_reach_root ceilings_hold sound words_below words_once sound_store zero_pool root_records occupied found_from held at_ceiling is_marked name_of marked slot word_at put_slot put_word page_of put_page put_payload bytes_from plain image_to written_out_by written_out_to cleaned_to settled evicted loaded after empty_from childless standing kind_for look_leaves look_takes sweep_from current_word named named_by_resident repeated word_loadable loadable done_answer cut
+unfolding same_numbers each_entered root_frames open_call root_call fix_call miss_out unfix_call show_call payload_place peek_call word_call write_call link_call unlink_call evict_call settle_call found_answer find_call decide verdict first_broken pick ◌and◌ ◌or◌ ◌⇒◌ every some lengths_fit ceiling_fits stores_fit directory_fits handle_fits range_fits locked chain_from has each_of once belongs chain_right chains_right chains_whole others_zero chains_agree opened_directory entered taken_from seek_in tally agree root_in_place roots_in_place pages_apart hand_in_range all_in_range fields_in_range empty_blank is_blank parents_name stores_agree points_back swizzled_point_back absent numbers_absent gives_page numbers_once reaches_root all_reach_root ceilings_hold sound words_below words_once sound_store zero_pool root_records occupied found_from held at_ceiling is_marked name_of marked slot word_at put_slot put_word page_of put_page put_payload bytes_from plain image_to written_out_by written_out_to cleaned_to settled evicted loaded after empty_from childless standing kind_for look_leaves look_takes sweep_from current_word named named_by_resident repeated word_loadable loadable cut
 all_hold [] = true
 all_hold (c ∷ cs) = same_numbers c.gives c.says && all_hold cs

@@ -3,64 +3,56 @@
 
 mod refusals;
 
-ghost use Rattle.std.specs.Prelude.{◌≡◌};
+ghost use Rattle.std.specs.Prelude.{◌≡◌, ◌<◌};
+ghost use Rattle.page.specs.Figures.{most_frames};
 ghost use Rattle.machine.specs.Machine.{state};
 ghost use Rattle.machine.specs.Answers.{out, done_answer};
 ghost use Rattle.machine.specs.Calls.{write_call, link_call, unlink_call};
+ghost use Rattle.changes.specs.Changed.{made_dirty};
 
-use machine::{Done, Handle, Pool};
+use machine::{Buffers, Handle, Pool, Refusal};
 use page::{FrameIndex, PageNumber};
+
+// The page in a frame has changed since it was loaded or settled.
+fn mark_dirty(pool: &mut Pool, frame: FrameIndex)
+    requires { frame.0 < most_frames }
+    ensures { pool.new ≡ made_dirty pool.old frame.0 }
+{
+    let at = usize::from(frame);
+    pool.records[at] = records::dirtied(pool.records[at]);
+}
 
 // Puts bytes at a payload offset of the handle's page.
 pub fn write(
-    pool: Pool,
+    pool: &mut Pool,
     frames: &mut [u8],
     store: &[u8],
     directory: &[u8],
     handle: Handle,
     offset: usize,
     bytes: &[u8],
-) -> Done
-    ensures { out (done_answer result.refusal) (state result.pool frames.new store.now directory.now) ≡ write_call (state pool frames.old store.now directory.now) handle offset bytes.now }
+) -> Result<(), Refusal>
+    ensures { out (done_answer result) (state pool.new frames.new store.now directory.now) ≡ write_call (state pool.old frames.old store.now directory.now) handle offset bytes.now }
 {
     let n = bytes.len();
-    let mut residents = residents::NONE;
-    let mut seen = seen::NONE;
-    let mut next = pool;
-    let at = guard::record_place(handle);
-    let held = next.records[at];
-    let stores = next.stores;
-    let refusal = refusals::write_refusal(
-        pool,
-        held,
-        stores,
+    let buffers = Buffers {
         frames,
         store,
         directory,
-        handle,
-        offset,
-        n,
-        &mut residents,
-        &mut seen,
-    );
-    if refusal != 0 {
-        return Done { pool, refusal };
-    }
+    };
+    refusals::write_rules(pool, buffers, handle, offset, n)?;
     if n == 0 {
-        return Done { pool, refusal: 0 };
+        return Ok(());
     }
-    let start = FrameIndex::start(handle.frame) + PageNumber::PAYLOAD_START + offset;
+    let start = handle.frame.start() + PageNumber::PAYLOAD_START + offset;
     page::copy::copy_into(&mut frames[start..start + n], bytes);
-    next.records[at] = records::dirtied(held);
-    Done {
-        pool: next,
-        refusal: 0,
-    }
+    mark_dirty(pool, handle.frame);
+    Ok(())
 }
 
 // Stores a page number, unswizzled, in an empty slot of the handle's page, with the mark if that page is to be locked.
 pub fn link(
-    pool: Pool,
+    pool: &mut Pool,
     frames: &mut [u8],
     store: &[u8],
     directory: &[u8],
@@ -68,78 +60,39 @@ pub fn link(
     slot: usize,
     page: PageNumber,
     locked: bool,
-) -> Done
-    ensures { out (done_answer result.refusal) (state result.pool frames.new store.now directory.now) ≡ link_call (state pool frames.old store.now directory.now) handle slot page locked }
+) -> Result<(), Refusal>
+    ensures { out (done_answer result) (state pool.new frames.new store.now directory.now) ≡ link_call (state pool.old frames.old store.now directory.now) handle slot page locked }
 {
-    let mut residents = residents::NONE;
-    let mut seen = seen::NONE;
-    let mut next = pool;
-    let at = guard::record_place(handle);
-    let held = next.records[at];
-    let stores = next.stores;
-    let pages = next.pages;
-    let refusal = refusals::link_refusal(
-        pool,
-        held,
-        stores,
-        pages,
+    let buffers = Buffers {
         frames,
         store,
         directory,
-        handle,
-        slot,
-        page,
-        &mut residents,
-        &mut seen,
-    );
-    if refusal != 0 {
-        return Done { pool, refusal };
-    }
-    let word = page::word::marked(locked, PageNumber::word(page));
+    };
+    refusals::link_rules(pool, buffers, handle, slot, page)?;
+    let word = page::word::marked(locked, page.word());
     page::slot::put_in_slot(frames, handle.frame, slot, word);
-    next.records[at] = records::dirtied(held);
-    Done {
-        pool: next,
-        refusal: 0,
-    }
+    mark_dirty(pool, handle.frame);
+    Ok(())
 }
 
 // Clears a slot of the handle's page.
 pub fn unlink(
-    pool: Pool,
+    pool: &mut Pool,
     frames: &mut [u8],
     store: &[u8],
     directory: &[u8],
     handle: Handle,
     slot: usize,
-) -> Done
-    ensures { out (done_answer result.refusal) (state result.pool frames.new store.now directory.now) ≡ unlink_call (state pool frames.old store.now directory.now) handle slot }
+) -> Result<(), Refusal>
+    ensures { out (done_answer result) (state pool.new frames.new store.now directory.now) ≡ unlink_call (state pool.old frames.old store.now directory.now) handle slot }
 {
-    let mut residents = residents::NONE;
-    let mut seen = seen::NONE;
-    let mut next = pool;
-    let at = guard::record_place(handle);
-    let held = next.records[at];
-    let stores = next.stores;
-    let refusal = refusals::unlink_refusal(
-        pool,
-        held,
-        stores,
+    let buffers = Buffers {
         frames,
         store,
         directory,
-        handle,
-        slot,
-        &mut residents,
-        &mut seen,
-    );
-    if refusal != 0 {
-        return Done { pool, refusal };
-    }
+    };
+    refusals::unlink_rules(pool, buffers, handle, slot)?;
     page::slot::put_in_slot(frames, handle.frame, slot, page::word::NOTHING);
-    next.records[at] = records::dirtied(held);
-    Done {
-        pool: next,
-        refusal: 0,
-    }
+    mark_dirty(pool, handle.frame);
+    Ok(())
 }

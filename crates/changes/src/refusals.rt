@@ -1,128 +1,92 @@
-// The refusals of write, link and unlink: the number of the first broken rule, 0 for none. `held` is the record at the handle's place; T and N are those of the records, which the caller has a copy of.
+// The rules of write, link and unlink.
 ghost use Rattle.std.specs.Prelude.{◌≡◌};
 ghost use Rattle.rules.specs.Tests.{first_broken};
-ghost use Rattle.machine.specs.Machine.{state, record_at};
+ghost use Rattle.rules.specs.RefusalNumbers.{refused_by};
+ghost use Rattle.machine.specs.Buffers.{buffered};
 ghost use Rattle.machine.specs.Rules.{range_fits};
 ghost use Rattle.machine.specs.Calls.{write_rules, link_rules, unlink_rules};
-ghost use Rattle.residents.specs.Handed.{Clear};
-ghost use Rattle.guard.specs.Held.{record_place};
 
-use machine::{FrameRecord, Handle, Pool};
+use machine::{Buffers, Handle, Pool, Refusal};
 use page::PageNumber;
-use residents::Residents;
-use seen::Seen;
+use residents::Tables;
 
 // Rule 5: does a payload have room for so many bytes from the offset on.
 fn range_fits(offset: usize, n: usize) -> bool
     ensures { result ≡ range_fits offset n }
 {
-    if PageNumber::PAYLOAD_SIZE < offset {
-        return false;
-    }
-    n <= PageNumber::PAYLOAD_SIZE - offset
+    offset <= PageNumber::PAYLOAD_SIZE && n <= PageNumber::PAYLOAD_SIZE - offset
 }
 
 // Rules 1, 2, 28, 3, 5 and 26.
-pub fn write_refusal(
-    pool: Pool,
-    held: FrameRecord,
-    stores: u8,
-    frames: &[u8],
-    store: &[u8],
-    directory: &[u8],
+pub fn write_rules(
+    pool: &Pool,
+    buffers: Buffers,
     handle: Handle,
     offset: usize,
     n: usize,
-    residents: &mut Residents,
-    seen: &mut Seen,
-) -> u8
-    requires { (held ≡ record_at pool.records (record_place handle)) × (stores ≡ pool.stores) × Clear residents.old seen.old }
-    ensures { result ≡ first_broken (write_rules (state pool frames.now store.now directory.now) handle offset n) }
+) -> Result<(), Refusal>
+    ensures { refused_by result ≡ first_broken (write_rules (buffered pool.now buffers.entry) handle offset n) }
 {
-    let refusal = guard::handle_refusal(
-        pool, held, frames, store, directory, handle, residents, seen,
-    );
-    if refusal != 0 {
-        return refusal;
-    }
+    let mut tables = Tables::cleared();
+    guard::handle_rules(pool, buffers, handle, &mut tables)?;
     if !range_fits(offset, n) {
-        return 5;
+        return Err(Refusal::BadRange);
     }
-    if guard::is_locked(held, frames, handle.frame, stores) {
-        return 26;
+    if guard::is_frame_locked(pool, buffers.frames, handle.frame) {
+        return Err(Refusal::IsLocked);
     }
-    0
+    Ok(())
 }
 
 // Rules 1, 2, 28, 3, 4, 26, 6, 9 and 8.
-pub fn link_refusal(
-    pool: Pool,
-    held: FrameRecord,
-    stores: u8,
-    pages: u16,
-    frames: &[u8],
-    store: &[u8],
-    directory: &[u8],
+pub fn link_rules(
+    pool: &Pool,
+    buffers: Buffers,
     handle: Handle,
     slot: usize,
     page: PageNumber,
-    residents: &mut Residents,
-    seen: &mut Seen,
-) -> u8
-    requires { (held ≡ record_at pool.records (record_place handle)) × (stores ≡ pool.stores) × (pages ≡ pool.pages) × Clear residents.old seen.old }
-    ensures { result ≡ first_broken (link_rules (state pool frames.now store.now directory.now) handle slot page) }
+) -> Result<(), Refusal>
+    ensures { refused_by result ≡ first_broken (link_rules (buffered pool.now buffers.entry) handle slot page) }
 {
-    let refusal = guard::edit_refusal(
-        pool, held, stores, frames, store, directory, handle, slot, residents, seen,
-    );
-    if refusal != 0 {
-        return refusal;
+    let mut tables = Tables::cleared();
+    guard::edit_rules(pool, buffers, handle, slot, &mut tables)?;
+    if page.0 == 0 || pool.pages <= page.0 {
+        return Err(Refusal::BadPage);
     }
-    if page.0 == 0 {
-        return 6;
+    let n = usize::from(pool.pages);
+    if naming::is_named(
+        &tables.residents,
+        &tables.seen,
+        buffers.store,
+        n,
+        handle.store,
+        page,
+    ) {
+        return Err(Refusal::AlreadyNamed);
     }
-    if pages <= page.0 {
-        return 6;
+    if page::slot::slot_name(buffers.frames, handle.frame, slot) != page::word::NOTHING {
+        return Err(Refusal::FullSlot);
     }
-    let n = pages as usize;
-    let of_store = handle.store;
-    if naming::is_named(residents, seen, store, n, of_store, page) {
-        return 9;
-    }
-    if page::slot::slot_name(frames, handle.frame, slot) != page::word::NOTHING {
-        return 8;
-    }
-    0
+    Ok(())
 }
 
 // Rules 1, 2, 28, 3, 4, 26, 7 and 10.
-pub fn unlink_refusal(
-    pool: Pool,
-    held: FrameRecord,
-    stores: u8,
-    frames: &[u8],
-    store: &[u8],
-    directory: &[u8],
+pub fn unlink_rules(
+    pool: &Pool,
+    buffers: Buffers,
     handle: Handle,
     slot: usize,
-    residents: &mut Residents,
-    seen: &mut Seen,
-) -> u8
-    requires { (held ≡ record_at pool.records (record_place handle)) × (stores ≡ pool.stores) × Clear residents.old seen.old }
-    ensures { result ≡ first_broken (unlink_rules (state pool frames.now store.now directory.now) handle slot) }
+) -> Result<(), Refusal>
+    ensures { refused_by result ≡ first_broken (unlink_rules (buffered pool.now buffers.entry) handle slot) }
 {
-    let refusal = guard::edit_refusal(
-        pool, held, stores, frames, store, directory, handle, slot, residents, seen,
-    );
-    if refusal != 0 {
-        return refusal;
-    }
-    let name = page::slot::slot_name(frames, handle.frame, slot);
+    let mut tables = Tables::cleared();
+    guard::edit_rules(pool, buffers, handle, slot, &mut tables)?;
+    let name = page::slot::slot_name(buffers.frames, handle.frame, slot);
     if name == page::word::NOTHING {
-        return 7;
+        return Err(Refusal::EmptySlot);
     }
     if !page::word::is_number(name) {
-        return 10;
+        return Err(Refusal::Resident);
     }
-    0
+    Ok(())
 }

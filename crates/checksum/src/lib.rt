@@ -16,6 +16,7 @@ pub struct Sum {
 }
 
 // Shifts a bit out at the top, and adds the polynomial where it is 1.
+#[tactic(auto, unfolding(crate::specs::Checksum::shifted))]
 fn shifted(crc: u32) -> u32
     ensures { result ≡ shifted crc }
 {
@@ -26,11 +27,9 @@ fn shifted(crc: u32) -> u32
 fn with_byte(crc: u32, byte: u8) -> u32
     ensures { result ≡ with_byte crc byte }
 {
-    let mut crc = crc ^ ((byte as u32) << 24);
-    let mut bits: u32 = 8;
-    while bits > 0 {
+    let mut crc = crc ^ (u32::from(byte) << 24);
+    for _ in 0..u8::BITS {
         crc = shifted(crc);
-        bits -= 1;
     }
     crc
 }
@@ -39,13 +38,7 @@ fn with_byte(crc: u32, byte: u8) -> u32
 fn with_bytes(crc: u32, bytes: &[u8]) -> u32
     ensures { result ≡ with_bytes crc bytes.now }
 {
-    let mut crc = crc;
-    let mut i = 0;
-    while i < bytes.len() {
-        crc = with_byte(crc, bytes[i]);
-        i += 1;
-    }
-    crc
+    bytes.iter().fold(crc, |crc, byte| with_byte(crc, *byte))
 }
 
 // Puts a number in, its lowest byte first.
@@ -76,16 +69,18 @@ pub fn empty() -> Sum
 }
 
 // The sum with one part more.
+#[tactic(auto, unfolding(crate::specs::Parts::added))]
 pub fn add(sum: Sum, part: &[u8]) -> Sum
     ensures { result ≡ added sum part.now }
 {
     Sum {
         crc: with_bytes(sum.crc, part),
-        length: std::num::wrapping_add_u64(sum.length, part.len() as u64),
+        length: sum.length.wrapping_add(part.len() as u64),
     }
 }
 
 // The checksum of the parts joined.
+#[tactic(auto, unfolding(crate::specs::Parts::value_of))]
 pub fn value(sum: Sum) -> u32
     ensures { result ≡ value_of sum }
 {

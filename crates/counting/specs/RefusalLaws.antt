@@ -1,11 +1,7 @@
 -- The rules of add as the code tests them, and what add, the share and the report then answer. Assumes nothing.
-use Rattle.std.specs.Prelude.{ℕ, ◌+◌, ◌*◌, ◌<◌, ◌≤◌, min, max, ◌≡◌, true, false, ltb, length, get_or, drop}
-use Rattle.std.proofs.Math.Path.{refl, sym}
-use Rattle.std.proofs.Common.{ap, ◌∙◌, drop-cons, arith, eq-eqb, ne_eqb, le-leb}
-use mathlib.Core.List.{List, []}
-use Rattle.std.proofs.Math.Dec.{leb}
-use Rattle.std.proofs.Math.Seq.{drop-length}
-use Rattle.std.proofs.Math.Numerals.{add-one}
+use Rattle.std.specs.Prelude.{ℕ, ◌+◌, ◌*◌, ◌<◌, ◌≤◌, min, max, ◌≡◌, Bool, true, false, List, [], ◌∷◌, leb, ltb, length}
+use Rattle.std.proofs.Common.{refl, sym, ap, ◌∙◌, arith, eq-eqb, ne_eqb, le-leb}
+use Rattle.std.specs.List.{fold}
 use Rattle.std.proofs.Math.Decide.{dec_lt}
 use Rattle.std.proofs.lemmas.Bool.{lt-leb}
 use Rattle.rules.specs.Tests.{◌and◌, first_broken}
@@ -15,7 +11,7 @@ use Rattle.depths.specs.declared.Share.{Share}
 use Rattle.depths.specs.Depths.{depths}
 use Rattle.depths.specs.Tallying.{most_references, depth_count, last_page, most_recordings, all_counted, total, within, counters_fit, length_fits, is_room_left, sizes_fit, tally_fits, pages_fit, add_rules, Left, nothing_added, recording_added, add_out, no_share, share_out, Reported, hits_of_all, not_reported, report_out}
 use Rattle.depths.proofs.TallyLaws.{within-whole, counter-le}
-use Rattle.depths.proofs.AddLaws.{AddKept, TallyKept, LengthKept, counters-are, counters-fit, page-kept-at}
+use Rattle.depths.proofs.AddLaws.{add_kept, AddKept, TallyKept, LengthKept, counters-are, counters-fit, page-kept-at}
 use Rattle.depths.proofs.Exact.{add-accepts, add-refuses}
 use Rattle.counting.specs.Passing.{CanCount}
 
@@ -53,35 +49,28 @@ module _ (t : Tally) (c : List ℕ) where
   unfolding tally_fits
   sum-decides x e l s = and_yes (le-leb t.references (most_references * t.recordings) l) (ap (λ (n : ℕ). leb n t.references) (s ∙ within-whole depth_count c (omega arith)))
 
--- ---- rule 6: of the first i pages, the largest is known
+-- ---- rule 6: the largest page decides
 
-pub record LargestOf (ps : List ℕ) (largest i : ℕ) : Type 0 where
-  pub low : largest ≤ last_page → pages_fit ps ≡ pages_fit (drop i ps)
-  pub high : last_page < largest → pages_fit ps ≡ false
-
-pub largest-start : (ps : List ℕ) → LargestOf ps 0 0
-largest-start ps = record { low = λ l. refl; high = λ l. absurd (omega arith) }
-
-module _ {ps : List ℕ} {largest i : ℕ} (p : LargestOf ps largest i) (l : i < length ps) where
-  page-here : pages_fit (drop i ps) ≡ (leb (get_or ps i 0) last_page and pages_fit (drop (i + 1) ps))
-  unfolding pages_fit
-  page-here = rw (drop-cons ps i 0 l, add-one i)
-
-  pub largest-goes : (x : ℕ) → x ≡ max largest (get_or ps i 0) → LargestOf ps x (i + 1)
-  largest-goes x e = record {
-    low = λ k. p.low (omega arith) ∙ page-here ∙ sym (and_yes (le-leb (get_or ps i 0) last_page (omega arith)) refl);
-    high = λ k. elim (dec_lt last_page largest) [
-      | yes h ↦ p.high h
-      | no h ↦ p.low (omega arith) ∙ page-here ∙ sym (and_no (pages_fit (drop (i + 1) ps)) (lt-leb (get_or ps i 0) last_page (omega arith)))
-    ];
-  }
-
-pub largest-all : {ps : List ℕ} {largest i : ℕ} → LargestOf ps largest i → i ≡ length ps → leb largest last_page ≡ pages_fit ps
-unfolding pages_fit
-largest-all {ps} {largest} {i} p e = elim (dec_lt last_page largest) [
-  | yes h ↦ lt-leb largest last_page h ∙ sym (p.high h)
-  | no h ↦ le-leb largest last_page (omega arith) ∙ sym (p.low (omega arith) ∙ (rw (e, drop-length)))
+larger-decides : (p q : ℕ) (b : Bool) → (leb (max p q) last_page and b) ≡ (leb p last_page and (leb q last_page and b))
+unfolding ◌and◌
+larger-decides p q b = elim (dec_lt last_page p) [
+  | yes h ↦ rw (lt-leb p last_page h, lt-leb (max p q) last_page (omega arith))
+  | no h ↦ elim (dec_lt last_page q) [
+    | yes k ↦ rw (le-leb p last_page (omega arith), lt-leb q last_page k, lt-leb (max p q) last_page (omega arith))
+    | no k ↦ rw (le-leb p last_page (omega arith), le-leb q last_page (omega arith), le-leb (max p q) last_page (omega arith))
+  ]
 ]
+
+largest-with : (p : ℕ) (ps : List ℕ) → leb (fold max p ps) last_page ≡ (leb p last_page and pages_fit ps)
+unfolding pages_fit
+largest-with p [] = elim (dec_lt last_page p) [
+  | yes h ↦ lt-leb p last_page h ∙ and_no true (lt-leb p last_page h)
+  | no h ↦ le-leb p last_page (omega arith) ∙ and_yes (le-leb p last_page (omega arith)) refl
+]
+largest-with p (q ∷ ps) = largest-with (max p q) ps ∙ larger-decides p q (pages_fit ps)
+
+pub largest-decides : (ps : List ℕ) → leb (fold max 0 ps) last_page ≡ pages_fit ps
+largest-decides ps = largest-with 0 ps ∙ sym (and_yes (le-leb 0 last_page (omega arith)) refl)
 
 -- ---- the first broken rule
 
@@ -101,6 +90,10 @@ module _ (t : Tally) (c ps : List ℕ) where
   pub broken-none : sizes_fit t c ps ≡ true → tally_fits t c ≡ true → pages_fit ps ≡ true → 0 ≡ first_broken (add_rules t c ps)
   unfolding add_rules
   broken-none a b d = sym (kept_then 1 _ a ∙ kept_then 2 _ b ∙ kept_then 6 [] d ∙ none-broken)
+
+  -- what a recording that breaks none keeps
+  pub add-accepted : (n : ℕ) → n ≡ first_broken (add_rules t c ps) → n ≡ 0 → AddKept t c ps
+  add-accepted n e z = add_kept t c ps (sym e ∙ z)
 
   -- what counting asks
   pub can-count : AddKept t c ps → CanCount c ps

@@ -48,7 +48,7 @@ pub fn share_at(tally: Tally, counts: &[u32], size: u64) -> Share
     Share {
         refusal: 0,
         within,
-        all: tally.references as u64,
+        all: u64::from(tally.references),
     }
 }
 

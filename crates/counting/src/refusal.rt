@@ -1,5 +1,5 @@
 // The rules of add, in checking order.
-ghost use Rattle.std.specs.Prelude.{◌≡◌, max, length};
+ghost use Rattle.std.specs.Prelude.{◌≡◌, length};
 ghost use Rattle.rules.specs.Tests.{first_broken};
 ghost use Rattle.depths.specs.Tallying.{sizes_fit, tally_fits, pages_fit, add_rules, depth_count};
 
@@ -27,31 +27,19 @@ fn tally_fits(tally: Tally, counts: &[u32]) -> bool
     requires { length counts.now ≡ depth_count }
     ensures { result ≡ tally_fits tally counts.now }
 {
-    if Tally::MOST_REFERENCES as u32 * (tally.recordings as u32) < tally.references {
+    if Tally::MOST_REFERENCES as u32 * u32::from(tally.recordings) < tally.references {
         return false;
     }
-    sums::first(counts, Tally::DEPTHS) <= tally.references as u64
-}
-
-fn larger(a: u16, b: u16) -> u16
-    ensures { result ≡ max a b }
-{
-    if a < b {
-        return b;
-    }
-    a
+    sums::first(counts, Tally::DEPTHS) <= u64::from(tally.references)
 }
 
 // Rule 6, by the largest page: with no way out of the loop, it takes several pages at a time.
 fn pages_fit(pages: &[u16]) -> bool
     ensures { result ≡ pages_fit pages.now }
 {
-    let mut largest: u16 = 0;
-    let mut i: usize = 0;
-    while i < pages.len() {
-        largest = larger(largest, pages[i]);
-        i += 1;
-    }
+    let largest = pages
+        .iter()
+        .fold(0, |largest: u16, page| largest.max(*page));
     largest <= Tally::LAST_PAGE
 }
 

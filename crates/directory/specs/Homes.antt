@@ -1,15 +1,16 @@
 -- In which chain each frame belongs, by the table of the page in each frame. Assumes nothing.
-use Rattle.std.specs.Prelude.{ℕ, suc, ◌+◌, ◌-◌, ◌<◌, ◌≤◌, ◌≡◌, refl, Bool, true, false, List, [], ◌∷◌, eqb, ltb, length, get_or}
+use Rattle.std.specs.Prelude.{ℕ, suc, ◌+◌, ◌-◌, ◌<◌, ◌≤◌, ◌≡◌, refl, Bool, true, false, List, [], ◌∷◌, ◌⊎◌, eqb, ltb, length, get_or, Some, option_map, unwrap_or}
 use Rattle.std.proofs.Common.{sym, ◌∙◌, ap, inl, inr, arith, lt-ltb, le-ltb}
 use Rattle.std.proofs.Math.Decide.{dec_lt}
 use Rattle.std.proofs.Math.ListN.{get_or-eq_default}
+use Rattle.page.specs.declared.FrameIndex.{FrameIndex}
 use Rattle.page.specs.Figures.{most_frames}
 use Rattle.page.specs.StorePlaces.{store_place}
 use Rattle.rules.specs.Tests.{pick}
-use Rattle.rules.specs.TestLaws.{case, on, off, pick_yes, pick_no, same}
+use Rattle.rules.specs.TestLaws.{case, on, off, pick_yes, pick_no, pick-either, same}
 use Rattle.machine.specs.Machine.{State, page_in, store_in, place_in, occupied}
 use Rattle.machine.proofs.Laws.AgreementFacts.{Agreed, occupied-lt}
-use Rattle.chains.specs.Chain.{directory_size, buckets, bucket_of, link_at, seek_in, sought_in}
+use Rattle.chains.specs.Chain.{directory_size, buckets, bucket_of, link_at, chain_of, Sought, seek_in, sought_in}
 use Rattle.machine.specs.Directory.{chains_agree}
 use Rattle.machine.specs.Calls.{sought}
 use Rattle.chains.specs.Links.{In, Chain, Bucket, Chained, Framed}
@@ -19,6 +20,7 @@ use Rattle.machine.proofs.Laws.Ready.{Kept}
 use Rattle.residents.specs.Residents.{key_of, key_by, page_by, Residents, holds_page}
 use Rattle.residents.specs.ResidentLaws.{key-place, page-by, holds-page}
 use Rattle.rules.specs.Deciding.{Decides, decided, fails}
+use Rattle.directory.specs.declared.Sought.{Sought as Found}
 
 -- the chain that frame f belongs in, 67 for none
 unfoldable pub home_by : List ℕ → ℕ → ℕ
@@ -76,6 +78,10 @@ module _ (s : State) (few : s.pool.count ≤ most_frames) (some : 1 ≤ s.pool.s
 
 -- ---- what rule 2 gives to the walks
 
+-- what a search found as request A.3 has it, where F stands for no frame
+abbrev pub sought_as : ℕ → Found → Sought
+sought_as F r = record { frame = unwrap_or (option_map (λ f. f.0) r.frame) F; compared = r.compared }
+
 -- a byte that a chain passes is 0 or gives one of its frames
 passes-small : (d : List ℕ) (a : ℕ) (l : List ℕ) → Chain d a l → ((f : ℕ) → In f l → f < most_frames) → get_or d a 0 ≤ most_frames
 unfolding Chain In
@@ -120,6 +126,14 @@ unfolding seek_in In
 seek-same key place F k q c [] h = refl
 seek-same key place F k q c (f ∷ l) h = rw (h f (inl refl), seek-same key place F k q (c + 1) l (λ g i. h g (inr i))) refl
 
+-- what it finds is no frame, or one of the chain
+found-in : (key : ℕ → ℕ) (F k c : ℕ) (l : List ℕ) → ((seek_in key F k c l).frame ≡ F) ⊎ In (seek_in key F k c l).frame l
+unfolding seek_in In
+found-in key F k c [] = inl refl
+found-in key F k c (f ∷ l) =
+    pick-either (λ (t : Sought). (t.frame ≡ F) ⊎ In t.frame (f ∷ l)) (eqb (key f) k) _ _ (inr (inl refl))
+    (elim (found-in key F k (c + 1) l) [ inl e ↦ inl e | inr i ↦ inr (inr i) ])
+
 module _ (s : State) (K : Kept s) (residents : List ℕ) (T : Residents s.pool.records residents) (t q : ℕ) (below : q < s.pool.pages) where
   abbrev B : Bucket (home_of s.pool) s.directory (bucket_of q)
   B = K.chained.at (bucket_of q) (bucket-lt q)
@@ -129,3 +143,18 @@ module _ (s : State) (K : Kept s) (residents : List ℕ) (T : Residents s.pool.r
       (seek-same (key_by residents) (place_in s.pool.pages s.pool.records) s.pool.count (key_of t q) (store_place s.pool.pages t q) 0 B.chain (λ f i.
       let l : f < most_frames = home-framed s.pool K.sized.most f (let e : home_of s.pool f ≡ bucket_of q = B.only f i in let h : bucket_of q < buckets = bucket-lt q in omega arith) in
       ap (λ (k : ℕ). eqb k (key_of t q)) (T.right f l) ∙ key-place s.pool.pages (store_in s.pool.records f) (page_in s.pool.records f) t q K.sized.pages (K.agreed.in_range f l).page below))
+
+  -- a frame that is found is one of the pool's
+  pub found-below : {r : Found} {f : FrameIndex} → ((F : ℕ) → sought_as F r ≡ sought_in (key_by residents) F s.directory (bucket_of q) (key_of t q)) → r.frame ≡ Some f → f.0 < s.pool.count
+  found-below {r} {f} found e =
+      let F : ℕ = f.0 + 1 in
+      let chain : chain_of s.directory (bucket_of q) ≡ B.chain = bucket-chain (home_of s.pool) (home-framed s.pool K.sized.most) s.directory (bucket_of q) (bucket-lt q) B in
+      let at : f.0 ≡ (seek_in (key_by residents) F (key_of t q) 0 B.chain).frame = rw (e, chain) at (ap (λ (x : Sought). x.frame) (found F)) in
+      elim (found-in (key_by residents) F (key_of t q) 0 B.chain) [
+        | inl z ↦ absurd (omega arith)
+        | inr i ↦
+            let g : In f.0 B.chain = rw (← at) at i in
+            let home : home_of s.pool f.0 ≡ bucket_of q = B.only f.0 g in
+            let l : bucket_of q < buckets = bucket-lt q in
+            elim (case (occupied s.pool f.0)) [ on o ↦ occupied-lt s.pool f.0 o | off o ↦ absurd (omega (arith, home_off s.pool f.0 o)) ]
+      ]

@@ -1,14 +1,10 @@
 -- One turn of each walk along a chain, and what is stored. Assumes nothing.
 use Rattle.std.specs.Prelude.{ℕ, suc, ◌+◌, ◌≡◌, ◌≢◌, List, ◌∷◌, get_or, set}
 use Rattle.std.proofs.Math.Path.{refl, sym, ap}
-use Rattle.std.proofs.Common.{◌∙◌, arith, add-one, eq-eqb, ne_eqb}
+use Rattle.std.proofs.Common.{◌∙◌, arith, eq-eqb, ne_eqb}
 use Rattle.page.specs.Figures.{most_frames}
 use Rattle.rules.specs.TestLaws.{pick_yes, pick_no}
-use Rattle.chains.specs.Chain.{link_at, entry_of, chain_from, entered, taken_from, taken_out, Sought, seek_in, sought_in}
-
-pub entered_by : (d : List ℕ) (b e x y : ℕ) → x ≡ b → y ≡ link_at e → set (set d y (get_or d x 0)) x (e + 1) ≡ entered d b e
-unfolding entered
-entered_by d b e x y p q = rw (p, q, add-one e) refl
+use Rattle.chains.specs.Chain.{link_at, entry_of, chain_from, taken_from, taken_out, Sought, seek_in, sought_in}
 
 -- ---- an entry is taken out
 
@@ -38,9 +34,9 @@ abbrev sought : ℕ → ℕ → Sought
 sought f c = record { frame = f; compared = c }
 
 module _ (page : ℕ → ℕ) (F q : ℕ) (d : List ℕ) (c a : ℕ) where
-  pub seek-out-of : (m : ℕ) → m ≡ 0 → seek_in page F q c (chain_from d m a) ≡ sought F c
+  pub seek-out-of : (m n : ℕ) → m ≡ 0 → c ≡ n → seek_in page F q c (chain_from d m a) ≡ sought F n
   unfolding seek_in chain_from
-  seek-out-of m z = rw z refl
+  seek-out-of m n z e = rw (z, e) refl
 
   module _ (m n : ℕ) (left : m ≡ suc n) where
     pub seek-end : get_or d a 0 ≡ 0 → seek_in page F q c (chain_from d m a) ≡ sought F c

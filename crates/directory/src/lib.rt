@@ -1,13 +1,13 @@
 // The directory of resident pages: rule 2's test of its chains, an entry that comes in and one that goes, and the search.
 #![tactic(auto)]
 
-ghost use Rattle.std.specs.Prelude.{◌≡◌, true, ◌+◌, ◌%◌, ◌<◌, ◌≤◌, length, get_or, set};
+ghost use Rattle.std.specs.Prelude.{ℕ, ◌≡◌, true, ◌+◌, ◌%◌, ◌<◌, ◌≤◌, length, get_or, set};
 ghost use Rattle.page.specs.Figures.{most_frames, most_pages, most_stores};
 ghost use Rattle.chains.specs.Chain.{directory_size, buckets, bucket_of, opened_directory, entered, taken_out, sought_in};
 ghost use Rattle.chains.specs.Links.{Chained};
 ghost use Rattle.residents.specs.Residents.{key_of, key_by};
 ghost use Rattle.rules.specs.Deciding.{Decides};
-ghost use Rattle.directory.specs.Homes.{home_by, Followed};
+ghost use Rattle.directory.specs.Homes.{home_by, Followed, sought_as};
 ghost use Rattle.directory.specs.HomeFilling.{home_with};
 ghost use Rattle.directory.specs.Pass.{met, HomeTable, Kinds, NoneAwaited};
 ghost use Rattle.directory.specs.ChainPasses.{row_size, Headless, Passes};
@@ -29,31 +29,37 @@ const NOWHERE: u16 = 67;
 // A frame that was met. It is above NOWHERE and any byte together.
 const MET: u16 = 323;
 
-// How many chains are looked at together.
+// How many chains are looked at together, and how many rows of that many there are.
 const ROW: usize = 8;
 
-// Where a page is: its frame, or F, and the entries compared.
+const ROWS: usize = 8;
+
+// How many entries a chain is followed over in a search: one more than there are frames.
+const MOST_ENTRIES: u16 = 65;
+
+// Where a page is: its frame, if it is resident, and the entries compared.
 #[derive(Clone, Copy)]
 pub struct Sought {
-    pub frame: usize,
-    pub compared: usize,
+    pub frame: Option<FrameIndex>,
+    pub compared: u16,
+}
+
+// The chain of a page.
+fn bucket(page: PageNumber) -> u16
+    ensures { (result ≡ bucket_of page.0) × (result < buckets) }
+{
+    page.0 % DIVISOR
 }
 
 // The chain of the page with this key: pages of all stores share the chains.
 fn remainder(key: u16) -> u16
     ensures { result ≡ bucket_of (key % most_pages) }
 {
-    residents::page_of(key).0 % DIVISOR
-}
-
-// The chain of a page.
-fn bucket(page: u16) -> usize
-    ensures { (result ≡ bucket_of page) × (result < buckets) }
-{
-    page as usize % BUCKETS
+    bucket(residents::page_of(key))
 }
 
 // The chain of the page with this key in a frame other than 0, NOWHERE for 0, which says that the frame is empty.
+#[tactic(auto, unfolding(crate::specs::HomeFilling::home_with, rules::specs::Tests::pick))]
 fn home(key: u16) -> u16
     ensures { result ≡ home_with key }
 {
@@ -68,10 +74,8 @@ fn homes(residents: &Residents) -> [u16; FrameIndex::MOST]
     ensures { HomeTable (home_by residents.now) result }
 {
     let mut homes = [NOWHERE; FrameIndex::MOST];
-    let mut f: usize = 0;
-    while f < FrameIndex::MOST {
+    for f in 0..FrameIndex::MOST {
         homes[f] = home(residents[f]);
-        f += 1;
     }
     homes[0] = remainder(residents[0]);
     homes
@@ -81,7 +85,7 @@ fn homes(residents: &Residents) -> [u16; FrameIndex::MOST]
 fn least(link: u8) -> u16
     ensures { (result ≡ buckets + link) × (result < met) }
 {
-    NOWHERE + link as u16
+    NOWHERE + u16::from(link)
 }
 
 // Is no frame awaited, and each link of an empty one 0. The frames are taken side by side.
@@ -90,35 +94,33 @@ fn none_awaited(awaited: &[u16; FrameIndex::MOST], directory: &[u8]) -> bool
     ensures { Decides result (NoneAwaited awaited.now directory.now) }
 {
     let mut hit = false;
-    let mut f: usize = 0;
-    while f < FrameIndex::MOST {
+    for f in 0..FrameIndex::MOST {
         let link = directory[BUCKETS + f];
         if awaited[f] < least(link) {
             hit = true;
         }
-        f += 1;
     }
     !hit
 }
 
-// Follows a chain: are the frames in it awaited there, each once. Each is awaited no more then.
+// Follows a chain: are the frames in it awaited there, each once. Each is awaited no more then, so that the walk ends, without a count.
 fn follow(directory: &[u8], awaited: &mut [u16; FrameIndex::MOST], b: usize) -> bool
     requires { (length directory.now ≡ directory_size) × (length awaited.old ≡ most_frames) × (b < buckets) }
     ensures { Passes directory.now awaited.old awaited.new b (b + 1) result }
 {
     let mut at = b;
-    let mut x = page::wide::from_u8(directory[at]);
+    let mut x = usize::from(directory[at]);
     while x != 0 {
         let f = x - 1;
         if FrameIndex::MOST <= f {
             return false;
         }
-        if page::wide::from_u16(awaited[f]) != b {
+        if usize::from(awaited[f]) != b {
             return false;
         }
         awaited[f] = MET;
         at = BUCKETS + f;
-        x = page::wide::from_u8(directory[at]);
+        x = usize::from(directory[at]);
     }
     true
 }
@@ -129,13 +131,11 @@ fn row_is_empty(directory: &[u8], first: usize) -> bool
     ensures { result ≡ true → Headless directory.now first row_size }
 {
     let mut none = true;
-    let mut i: usize = 0;
-    while i < ROW {
+    for i in 0..ROW {
         let x = directory[first + i];
         if x != 0 {
             none = false;
         }
-        i += 1;
     }
     none
 }
@@ -148,12 +148,10 @@ fn follow_row(directory: &[u8], awaited: &mut [u16; FrameIndex::MOST], first: us
     if row_is_empty(directory, first) {
         return true;
     }
-    let mut b = first;
-    while b < first + ROW {
+    for b in first..first + ROW {
         if !follow(directory, awaited, b) {
             return false;
         }
-        b += 1;
     }
     true
 }
@@ -164,18 +162,15 @@ pub fn chains_agree(residents: &Residents, directory: &[u8]) -> bool
     ensures { Decides result (Chained (home_by residents.now) directory.now) }
 {
     let mut awaited = homes(residents);
-    let mut b: usize = 0;
-    while b + ROW <= BUCKETS {
-        if !follow_row(directory, &mut awaited, b) {
+    for row in 0..ROWS {
+        if !follow_row(directory, &mut awaited, ROW * row) {
             return false;
         }
-        b += ROW;
     }
-    while b < BUCKETS {
+    for b in ROW * ROWS..BUCKETS {
         if !follow(directory, &mut awaited, b) {
             return false;
         }
-        b += 1;
     }
     none_awaited(&awaited, directory)
 }
@@ -185,25 +180,20 @@ pub fn start(directory: &mut [u8], stores: u8)
     requires { (length directory.old ≡ directory_size) × (stores ≤ most_stores) }
     ensures { directory.new ≡ opened_directory stores }
 {
-    let mut at: usize = 0;
-    while at < SIZE {
-        directory[at] = 0;
-        at += 1;
-    }
-    let mut t: u8 = 0;
-    while t < stores {
+    directory.fill(0);
+    for t in 0..stores {
         enter(directory, FrameIndex(t), PageNumber(0));
-        t += 1;
     }
 }
 
 // A page that comes into a frame: its entry is its chain's head.
+#[tactic(auto, unfolding(chains::specs::Chain::entered))]
 pub fn enter(directory: &mut [u8], frame: FrameIndex, page: PageNumber)
     requires { (length directory.old ≡ directory_size) × (frame.0 < most_frames) }
     ensures { directory.new ≡ entered directory.old (bucket_of page.0) frame.0 }
 {
-    let b = bucket(page.0);
-    let at = BUCKETS + page::wide::from_u8(frame.0);
+    let b = usize::from(bucket(page));
+    let at = BUCKETS + usize::from(frame);
     let head = directory[b];
     directory[at] = head;
     directory[b] = frame.0 + 1;
@@ -224,10 +214,9 @@ pub fn take_out(directory: &mut [u8], frame: FrameIndex, page: PageNumber)
     requires { Followed directory.old × (frame.0 < most_frames) }
     ensures { directory.new ≡ taken_out directory.old (bucket_of page.0) frame.0 }
 {
-    let own = BUCKETS + page::wide::from_u8(frame.0);
-    let mut at = bucket(page.0);
-    let mut n: usize = 0;
-    while n < FrameIndex::MOST {
+    let own = BUCKETS + usize::from(frame);
+    let mut at = usize::from(bucket(page));
+    for _n in 0..FrameIndex::MOST {
         let x = directory[at];
         if x == 0 {
             return;
@@ -236,42 +225,41 @@ pub fn take_out(directory: &mut [u8], frame: FrameIndex, page: PageNumber)
             pass_over(directory, at, own);
             return;
         }
-        at = BUCKETS + page::wide::from_u8(x - 1);
-        n += 1;
+        at = BUCKETS + usize::from(x - 1);
     }
 }
 
-// The frame that holds the page, or F, and the entries compared.
+// The frame that holds the page, if one does, and the entries compared.
 pub fn seek(
     residents: &Residents,
     directory: &[u8],
-    count: usize,
     of_store: StoreNumber,
     page: PageNumber,
 ) -> Sought
     requires { Followed directory.now × (of_store.0 < most_stores) × (page.0 < most_pages) }
-    ensures { record { frame = result.frame; compared = result.compared } ≡ sought_in (key_by residents.now) count directory.now (bucket_of page.0) (key_of of_store.0 page.0) }
+    ensures { (F : ℕ) → sought_as F result ≡ sought_in (key_by residents.now) F directory.now (bucket_of page.0) (key_of of_store.0 page.0) }
 {
     let sought = residents::key(of_store, page);
-    let mut at = bucket(page.0);
-    let mut compared: usize = 0;
-    while compared <= FrameIndex::MOST {
-        let x = page::wide::from_u8(directory[at]);
+    let mut at = usize::from(bucket(page));
+    for compared in 0..MOST_ENTRIES {
+        let x = usize::from(directory[at]);
         if x == 0 {
             return Sought {
-                frame: count,
+                frame: None,
                 compared,
             };
         }
         let f = x - 1;
-        compared += 1;
         if residents[f] == sought {
-            return Sought { frame: f, compared };
+            return Sought {
+                frame: Some(FrameIndex(f as u8)),
+                compared: compared + 1,
+            };
         }
         at = BUCKETS + f;
     }
     Sought {
-        frame: count,
-        compared,
+        frame: None,
+        compared: MOST_ENTRIES,
     }
 }

@@ -6,14 +6,15 @@ mod fields;
 
 ghost use Rattle.std.specs.Prelude.{◌≡◌, ◌<◌};
 ghost use Rattle.page.specs.Figures.{most_frames};
-ghost use Rattle.machine.specs.Machine.{state, page_number};
+ghost use Rattle.machine.specs.Machine.{page_number};
+ghost use Rattle.machine.specs.Buffers.{buffered};
 ghost use Rattle.drawing.specs.Drawing.{refused_draw, drawn_out};
 ghost use Rattle.drawing.specs.ParentByTable.{parent_by};
 
 use generator::Generator;
-use machine::Pool;
+use machine::{Buffers, Pool};
 use page::{FrameIndex, PageNumber};
-use residents::Residents;
+use residents::{Residents, Tables};
 
 // A record of 16 bytes, as the call listing reads it, and the generator after its draws. Beside a refusal: no byte but 0, and the generator as it was.
 #[repr(C)]
@@ -31,10 +32,9 @@ const LINK: u8 = 5;
 fn refused(refusal: u8, generator: Generator) -> Drawn
     ensures { result ≡ refused_draw generator refusal }
 {
-    let entry = [0u8; 16];
     Drawn {
         refusal,
-        entry,
+        entry: [0; 16],
         generator,
     }
 }
@@ -51,30 +51,22 @@ fn parent_page(residents: &Residents, call: u8, frame: FrameIndex) -> PageNumber
 }
 
 // The next record of a workload on the pool as it stands.
-pub fn draw_record(
-    pool: Pool,
-    frames: &[u8],
-    store: &[u8],
-    directory: &[u8],
-    generator: Generator,
-) -> Drawn
-    ensures { result ≡ drawn_out (state pool frames.now store.now directory.now) generator }
+pub fn draw_record(pool: &Pool, buffers: Buffers, generator: Generator) -> Drawn
+    ensures { result ≡ drawn_out (buffered pool.now buffers.entry) generator }
 {
-    let mut residents = residents::NONE;
-    let mut seen = seen::NONE;
-    let count = pool.count as u32;
-    let pages = pool.pages as u32;
-    let refusal = guard::table_refusal(pool, frames, store, directory, &mut residents, &mut seen);
-    if refusal != 0 {
-        return refused(refusal, generator);
-    }
-    let fields = fields::draw_fields(generator, count, pages);
-    let parent = parent_page(&residents, fields.call, fields.frame);
-    let entry = entry::of_fields(fields, parent);
-    let after = fields.generator;
-    Drawn {
-        refusal: 0,
-        entry,
-        generator: after,
+    let mut tables = Tables::cleared();
+    match guard::pool_rules(pool, buffers, &mut tables) {
+        Ok(()) => {
+            let count = u32::from(pool.count);
+            let pages = u32::from(pool.pages);
+            let fields = fields::draw_fields(generator, count, pages);
+            let parent = parent_page(&tables.residents, fields.call, fields.frame);
+            Drawn {
+                refusal: 0,
+                entry: entry::of_fields(fields, parent),
+                generator: fields.generator,
+            }
+        }
+        Err(refusal) => refused(refusal.number(), generator),
     }
 }

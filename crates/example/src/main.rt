@@ -3,7 +3,7 @@
 
 mod print;
 
-use pool::{FixAnswer, Handle, PageNumber, Pool, StoreNumber};
+use pool::{Buffers, Handle, PageNumber, Pool, StoreNumber};
 use std::io;
 
 // 4 frames, two stores of 8 pages each, and the directory.
@@ -33,71 +33,77 @@ const NEXT_PAGE: PageNumber = PageNumber(6);
 const NEXT_SLOT: usize = 4;
 
 // Show hands back a part of the frames, and puts its number into one that is lent.
-fn show(
-    rt: &impl Print,
-    pool: Pool,
-    frames: &[u8],
-    store: &[u8],
-    directory: &[u8],
-    handle: Handle,
-) -> io::Result<()> {
+fn show(rt: &impl Print, pool: &Pool, buffers: Buffers, handle: Handle) -> io::Result<()> {
     let mut refusal = 0;
-    let part = pool::show(pool, frames, store, directory, handle, &mut refusal);
+    let part = pool::show(
+        pool,
+        buffers.frames,
+        buffers.store,
+        buffers.directory,
+        handle,
+        &mut refusal,
+    );
     print::payload(rt, "show", refusal, part)
 }
 
 // Peek needs no handle; its part is one of the frames where the page is resident, otherwise one of the stores. The two stores' pages of one number share a chain of the directory.
-fn peek(
-    rt: &impl Print,
-    pool: Pool,
-    frames: &[u8],
-    store: &[u8],
-    directory: &[u8],
-) -> io::Result<()> {
-    print::found(
-        rt,
-        "find",
-        pool::find(pool, frames, store, directory, SECOND, PAGE),
-    )?;
+fn peek(rt: &impl Print, pool: &Pool, buffers: Buffers) -> io::Result<()> {
+    print::found(rt, "find", pool::find(pool, buffers, SECOND, PAGE))?;
     print::found(
         rt,
         "find in store 0",
-        pool::find(pool, frames, store, directory, FIRST, PAGE),
+        pool::find(pool, buffers, FIRST, PAGE),
     )?;
     let mut refusal = 0;
-    let part = pool::peek(pool, frames, store, directory, SECOND, PAGE, &mut refusal);
+    let part = pool::peek(
+        pool,
+        buffers.frames,
+        buffers.store,
+        buffers.directory,
+        SECOND,
+        PAGE,
+        &mut refusal,
+    );
     print::payload(rt, "peek", refusal, part)
 }
 
 // The page is shown and peeked at; without its pin it can leave its frame. Its handle is then stale, and peek finds it in the store.
 fn leave(
     rt: &impl Print,
-    pool: Pool,
+    pool: &mut Pool,
     frames: &mut [u8; FRAMES],
     store: &mut [u8; STORE],
     directory: &mut [u8; DIRECTORY],
     handle: Handle,
 ) -> io::Result<()> {
-    show(rt, pool, frames, store, directory, handle)?;
-    peek(rt, pool, frames, store, directory)?;
-    let unfixed = pool::unfix(pool, frames, store, directory, handle);
-    print::done(rt, "unfix", unfixed.refusal)?;
+    let resident = Buffers {
+        frames,
+        store,
+        directory,
+    };
+    show(rt, pool, resident, handle)?;
+    peek(rt, pool, resident)?;
+    let unfixed = pool::unfix(pool, resident, handle);
+    print::done(rt, "unfix", unfixed)?;
 
-    let pool = unfixed.pool;
     let evicted = pool::evict(pool, frames, store, directory, SECOND, PAGE);
-    print::done(rt, "evict", evicted.refusal)?;
+    print::done(rt, "evict", evicted)?;
 
-    let pool = evicted.pool;
-    show(rt, pool, frames, store, directory, handle)?;
-    peek(rt, pool, frames, store, directory)?;
+    let stored = Buffers {
+        frames,
+        store,
+        directory,
+    };
+    show(rt, pool, stored, handle)?;
+    peek(rt, pool, stored)?;
     let settled = pool::settle(pool, frames, store, directory);
-    print::done(rt, "settle", settled.refusal)
+    print::done(rt, "settle", settled)
 }
 
 // The store is at its ceiling: while its page is pinned, no further one comes in, though a frame is empty.
 fn crowd(
     rt: &impl Print,
-    pool: Pool,
+    pool: &mut Pool,
     frames: &mut [u8; FRAMES],
     store: &mut [u8; STORE],
     directory: &mut [u8; DIRECTORY],
@@ -107,51 +113,35 @@ fn crowd(
     let linked = pool::link(
         pool, frames, store, directory, root, NEXT_SLOT, NEXT_PAGE, false,
     );
-    print::done(rt, "link", linked.refusal)?;
+    print::done(rt, "link", linked)?;
 
-    let pool = linked.pool;
     let denied = pool::fix(pool, frames, store, directory, root, NEXT_SLOT);
-    let answer = denied.answer;
-    print::fixed(rt, "fix", answer)?;
-
-    let pool = denied.pool;
+    print::pinned(rt, "fix", denied)?;
     leave(rt, pool, frames, store, directory, child)
 }
 
 // The page comes under the root, and is written.
 fn come(
     rt: &impl Print,
-    pool: Pool,
+    pool: &mut Pool,
     frames: &mut [u8; FRAMES],
     store: &mut [u8; STORE],
     directory: &mut [u8; DIRECTORY],
     root: Handle,
 ) -> io::Result<()> {
     let linked = pool::link(pool, frames, store, directory, root, SLOT, PAGE, false);
-    print::done(rt, "link", linked.refusal)?;
+    print::done(rt, "link", linked)?;
 
-    let pool = linked.pool;
     let fixed = pool::fix(pool, frames, store, directory, root, SLOT);
-    let answer = fixed.answer;
-    print::fixed(rt, "fix", answer)?;
-    let FixAnswer::Fixed(child, _) = answer else {
+    print::pinned(rt, "fix", fixed)?;
+    let Ok(child) = fixed else {
         return Ok(());
     };
 
-    let pool = fixed.pool;
-    let written = pool::write(
-        pool,
-        frames,
-        store,
-        directory,
-        child,
-        0,
-        b"a page under the root",
-    );
-    print::done(rt, "write", written.refusal)?;
-
-    let pool = written.pool;
-    crowd(rt, pool, frames, store, directory, root, child)
+    let text = b"a page under the root";
+    let written = pool::write(pool, frames, store, directory, child.handle, 0, text);
+    print::done(rt, "write", written)?;
+    crowd(rt, pool, frames, store, directory, root, child.handle)
 }
 
 fn main(rt: HostRuntime) -> io::Result<()> {
@@ -159,16 +149,28 @@ fn main(rt: HostRuntime) -> io::Result<()> {
     let mut store = [0u8; STORE];
     let mut directory = [0u8; DIRECTORY];
     let opened = pool::open(&mut frames, &store, &mut directory, STORES, CEILINGS);
-    print::done(&rt, "open", opened.refusal)?;
+    let mut pool = match opened {
+        Ok(pool) => pool,
+        Err(refusal) => return print::done(&rt, "open", Err(refusal)),
+    };
+    print::done(&rt, "open", Ok(()))?;
 
-    let pool = opened.pool;
-    let rooted = pool::root(pool, &frames, &store, &directory, SECOND);
-    let answer = rooted.answer;
-    print::fixed(&rt, "root", answer)?;
-    let FixAnswer::Fixed(root, _) = answer else {
+    let buffers = Buffers {
+        frames: &frames,
+        store: &store,
+        directory: &directory,
+    };
+    let rooted = pool::root(&mut pool, buffers, SECOND);
+    print::pinned(&rt, "root", rooted)?;
+    let Ok(root) = rooted else {
         return Ok(());
     };
-
-    let pool = rooted.pool;
-    come(&rt, pool, &mut frames, &mut store, &mut directory, root)
+    come(
+        &rt,
+        &mut pool,
+        &mut frames,
+        &mut store,
+        &mut directory,
+        root.handle,
+    )
 }

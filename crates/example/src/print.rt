@@ -1,70 +1,61 @@
 // The lines of the example.
-ghost use Rattle.io.specs.Counts.{IsPrefixLen};
-
-use pool::{FindAnswer, FixAnswer};
+use pool::{Found, Pinned, Refusal};
 use std::io;
 
-fn refused(rt: &impl Print, call: &str, refusal: u8) -> io::Result<()> {
-    println!(rt; "{call}: refused by rule {refusal}")
+fn refused(rt: &impl Print, call: &str, number: u8) -> io::Result<()> {
+    println!(rt; "{call}: refused by rule {number}")
 }
 
 // A call without an answer of its own.
-pub fn done(rt: &impl Print, call: &str, refusal: u8) -> io::Result<()> {
-    if refusal != 0 {
-        return refused(rt, call, refusal);
+pub fn done(rt: &impl Print, call: &str, answer: Result<(), Refusal>) -> io::Result<()> {
+    match answer {
+        Ok(()) => println!(rt; "{call}: done"),
+        Err(refusal) => refused(rt, call, refusal.number()),
     }
-    println!(rt; "{call}: done")
 }
 
 // Root and fix.
-pub fn fixed(rt: &impl Print, call: &str, answer: FixAnswer) -> io::Result<()> {
+pub fn pinned(rt: &impl Print, call: &str, answer: Result<Pinned, Refusal>) -> io::Result<()> {
     match answer {
-        FixAnswer::Fixed(handle, looks) => {
-            let page = handle.page.0;
-            let of_store = handle.store.0;
-            let frame = handle.frame.0;
+        Ok(pinned) => {
+            let page = pinned.handle.page.0;
+            let of_store = pinned.handle.store.0;
+            let frame = pinned.handle.frame.0;
+            let looks = pinned.looks;
             println!(rt;
                 "{call}: page {page} of store {of_store} in frame {frame} after {looks} looks"
             )
         }
-        FixAnswer::Refused(refusal) => refused(rt, call, refusal),
+        Err(refusal) => refused(rt, call, refusal.number()),
     }
 }
 
 // Find, with the entries compared.
-pub fn found(rt: &impl Print, call: &str, answer: FindAnswer) -> io::Result<()> {
+pub fn found(rt: &impl Print, call: &str, answer: Result<Found, Refusal>) -> io::Result<()> {
     match answer {
-        FindAnswer::At(place, entries) => {
-            let frame = place.0;
-            println!(rt; "{call}: in frame {frame}, entries compared: {entries}")
+        Ok(found) => {
+            let compared = found.compared;
+            match found.frame {
+                Some(frame) => {
+                    let frame = frame.0;
+                    println!(rt; "{call}: in frame {frame}, entries compared: {compared}")
+                }
+                None => println!(rt; "{call}: absent, entries compared: {compared}"),
+            }
         }
-        FindAnswer::Absent(entries) => {
-            println!(rt; "{call}: absent, entries compared: {entries}")
-        }
-        FindAnswer::Refused(refusal) => refused(rt, call, refusal),
+        Err(refusal) => refused(rt, call, refusal.number()),
     }
-}
-
-// Where the first zero byte of a payload stands, its length for none.
-fn text_end(part: &[u8]) -> usize
-    ensures { IsPrefixLen result part.now }
-{
-    let mut end = 0;
-    while end < part.len() {
-        if part[end] == 0 {
-            return end;
-        }
-        end += 1;
-    }
-    end
 }
 
 // Show and peek: the payload up to its first zero byte.
-pub fn payload(rt: &impl Print, call: &str, refusal: u8, part: &[u8]) -> io::Result<()> {
-    if refusal != 0 {
-        return refused(rt, call, refusal);
+pub fn payload(rt: &impl Print, call: &str, number: u8, part: &[u8]) -> io::Result<()> {
+    if number != 0 {
+        return refused(rt, call, number);
     }
-    let end = text_end(part);
+    let end = part
+        .iter()
+        .position(|byte| *byte == 0)
+        .unwrap_or(part.len());
     print!(rt; "{call}: ")?;
     rt.write_all(&part[..end])?;
     rt.println("")

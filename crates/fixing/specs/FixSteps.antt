@@ -1,31 +1,28 @@
 -- What the steps of root and fix answer and leave.
-use Rattle.std.specs.Prelude.{ℕ, not, List, [], ◌∷◌}
+use Rattle.std.specs.Prelude.{ℕ, ◌≡◌, not, List, [], ◌∷◌, Result}
 use Rattle.machine.specs.declared.Pool.{Pool}
-use Rattle.machine.specs.declared.Fix.{Fix}
-use Rattle.machine.specs.declared.FixAnswer.TheVariants.{Fixed, Refused}
+use Rattle.machine.specs.declared.Pinned.{Pinned}
+use Rattle.rules.specs.declared.refusal.Refusal.{Refusal}
 use Rattle.rules.specs.Tests.{◌or◌}
-use Rattle.machine.specs.Machine.{State, state, frame_index, store_number, page_number, at_ceiling}
+use Rattle.machine.specs.Machine.{State, state, with_records, at_ceiling}
 use Rattle.machine.specs.Answers.{Out, out, fix_answer}
 use Rattle.machine.specs.Sweep.{sweep}
 use Rattle.machine.specs.Rules.{rule13, rule14, rule15, rule27}
 use Rattle.machine.specs.Calls.{decide, pinned_out, swept_out, miss_out}
-
--- ---- the two answers in code, and what a call answers and leaves
-
-abbrev pub refused_fix : Pool → ℕ → Fix
-refused_fix p n = record { answer = Refused n; pool = p }
-
-abbrev pub given_fix : Pool → ℕ → ℕ → ℕ → ℕ → Fix
-given_fix p f t q looks = record { answer = Fixed (record { frame = frame_index f; store = store_number t; page = page_number q }) looks; pool = p }
-
-abbrev pub fix_out : Fix → List ℕ → List ℕ → List ℕ → Out
-fix_out r fs st d = out (fix_answer r.answer) (state r.pool fs st d)
-
--- ---- the steps
+use Rattle.scan.specs.Walk.{Cools}
 
 -- a resident page, in frame f, is pinned: rule 13
 unfoldable pub pin_decided : State → ℕ → Out
 pin_decided s f = decide s (rule13 s f ∷ []) (pinned_out s f)
+
+-- the same of the pool p, whatever the frames, the store and the directory: it answered a, and left n
+abbrev pub PinnedAs : Pool → ℕ → Result Pinned Refusal → Pool → Type 0
+PinnedAs p f a n = (fs st d : List ℕ) → out (fix_answer a) (state n fs st d) ≡ pin_decided (state p fs st d) f
+
+-- m is the pool p with what a sweep left of the first n frames
+pub record Cooling (p m : Pool) (vs : List ℕ) (n : ℕ) : Type 0 where
+  pub rest : m ≡ with_records p m.records
+  pub cools : Cools p.records m.records vs n
 
 -- page q of store t, which isn't resident, comes in for slot k of frame f: rules 14, 15 and 27
 unfoldable pub miss_decided : State → ℕ → ℕ → ℕ → ℕ → Out

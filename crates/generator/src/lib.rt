@@ -12,6 +12,7 @@ pub struct Generator {
 }
 
 // The number after a draw.
+#[tactic(auto, unfolding(crate::specs::Generator::number_after, crate::specs::Generator::xor_left, crate::specs::Generator::xor_right))]
 pub fn step(number: u32) -> u32
     ensures { result ≡ number_after number }
 {
@@ -42,8 +43,7 @@ pub fn drawn(generator: Generator) -> Generator
 pub fn seeded(seed: u32) -> Generator
     ensures { result.number ≡ seed_read seed }
 {
-    if seed == 0 {
-        return Generator { number: 1 };
+    Generator {
+        number: seed.max(1),
     }
-    Generator { number: seed }
 }

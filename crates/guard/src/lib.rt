@@ -1,50 +1,31 @@
-// The rules that calls share, tested in their order: the number of the first broken one, 0 for none.
-// F is taken from the length of the frames where rule 1 was kept, and T and N are handed on with the refusal by rules 1 and 2: the records are then passed on and not read, which spares a copy of them.
-// The tables are the caller's: cleared before the caller copies the records, they give the host's own copy the time to arrive.
+// The rules that calls share, tested in their order: the first broken one refuses the call. Where none is, the tables tell the page in each frame, and which pages resident pages name.
 #![tactic(auto)]
 
-ghost use Rattle.std.specs.Prelude.{◌≡◌, ◌+◌, ◌*◌, ◌≤◌, ◌<◌, length};
-ghost use Rattle.page.specs.Figures.{page_size, slot_count, most_stores};
+ghost use Rattle.std.specs.Prelude.{◌≡◌, ◌+◌, ◌*◌, ◌≤◌, ◌<◌, [], length};
+ghost use Rattle.page.specs.Figures.{page_size, slot_count, most_frames, most_stores};
 ghost use Rattle.rules.specs.Tests.{first_broken};
-ghost use Rattle.machine.specs.Machine.{state, record_at};
-ghost use Rattle.machine.specs.Rules.{lengths_fit, ceiling_fits, stores_fit};
+ghost use Rattle.rules.specs.RefusalNumbers.{refused_by};
+ghost use Rattle.machine.specs.Machine.{state};
+ghost use Rattle.machine.specs.Buffers.{buffered};
+ghost use Rattle.machine.specs.Rules.{lengths_fit, ceiling_fits, stores_fit, handle_fits, locked};
 ghost use Rattle.machine.specs.Calls.{pool_rules, store_rules, handle_rules, word_rules, edit_rules, page_rules};
 ghost use Rattle.residents.specs.Handed.{Clear, Handed};
-ghost use Rattle.guard.specs.Held.{tested_as, record_place, held_fits, held_locked};
+ghost use Rattle.guard.specs.Held.{ParentWithin, held_locked};
 
-use machine::{FrameRecord, Handle, Pool};
+use machine::{Buffers, FrameRecord, Handle, Pool, Refusal};
 use page::{FrameIndex, PageNumber, StoreNumber};
-use residents::Residents;
-use seen::Seen;
-
-// A refusal's number, with the pool's T and N.
-#[derive(Clone, Copy)]
-pub struct Tested {
-    pub refusal: u8,
-    pub stores: u8,
-    pub pages: u16,
-}
+use residents::Tables;
 
 // Rule 1: are F and N in their ranges, and have frames and store so many pages, the store for each of T stores.
 pub fn lengths_fit(count: usize, pages: usize, stores: u8, frames: &[u8], store: &[u8]) -> bool
     ensures { result ≡ lengths_fit count pages stores frames.now store.now }
 {
-    if count < FrameIndex::LEAST {
-        return false;
-    }
-    if FrameIndex::MOST < count {
-        return false;
-    }
-    if pages < 1 {
-        return false;
-    }
-    if PageNumber::MOST < pages {
-        return false;
-    }
-    if frames.len() != PageNumber::SIZE * count {
-        return false;
-    }
-    store.len() == PageNumber::SIZE * (pages * stores as usize)
+    FrameIndex::LEAST <= count
+        && count <= FrameIndex::MOST
+        && 1 <= pages
+        && pages <= PageNumber::MOST
+        && frames.len() == PageNumber::SIZE * count
+        && store.len() == PageNumber::SIZE * (pages * usize::from(stores))
 }
 
 // Rule 1: is a store's ceiling 1 to F, or 0 where there is no such store.
@@ -57,12 +38,9 @@ fn ceiling_fits(
     requires { of_store < most_stores }
     ensures { result ≡ ceiling_fits count stores ceilings of_store }
 {
-    let ceiling = ceilings[of_store];
-    if of_store < stores as usize {
-        if ceiling < 1 {
-            return false;
-        }
-        return ceiling as usize <= count;
+    let ceiling = usize::from(ceilings[of_store]);
+    if of_store < usize::from(stores) {
+        return 1 <= ceiling && ceiling <= count;
     }
     ceiling == 0
 }
@@ -74,293 +52,172 @@ pub fn stores_fit(count: usize, stores: u8, ceilings: [u8; StoreNumber::MOST]) -
     if stores < 1 {
         return false;
     }
-    if StoreNumber::MOST < stores as usize {
+    if StoreNumber::MOST < usize::from(stores) {
         return false;
     }
-    if count < stores as usize + 1 {
+    if count < usize::from(stores) + 1 {
         return false;
     }
-    let mut t: usize = 0;
-    while t < StoreNumber::MOST {
+    for t in 0..StoreNumber::MOST {
         if !ceiling_fits(count, stores, ceilings, t) {
             return false;
         }
-        t += 1;
     }
     true
 }
 
-// Where the record of a handle's frame stands: taken round, since the frame's range isn't tested yet.
-pub fn record_place(handle: Handle) -> usize
-    ensures { result ≡ record_place handle }
+// Rule 3: is the handle's frame one of the F frames, does it hold the handle's page, of its store, and is that pinned.
+fn handle_fits(pool: &Pool, handle: Handle) -> bool
+    requires { pool.now.count ≤ most_frames }
+    ensures { result ≡ handle_fits pool.now handle }
 {
-    handle.frame.0 as usize % FrameIndex::MOST
-}
-
-// Rule 3: is the handle's frame one of the F frames, does it hold the handle's page, of its store, and is that pinned. `held` is its record.
-fn handle_fits(count: usize, held: FrameRecord, handle: Handle) -> bool
-    ensures { result ≡ held_fits count held handle }
-{
-    if count <= handle.frame.0 as usize {
+    let f = usize::from(handle.frame);
+    if usize::from(pool.count) <= f {
         return false;
     }
-    if held.used == 1 {
-        if held.store.0 != handle.store.0 {
-            return false;
-        }
-        if held.page.0 != handle.page.0 {
-            return false;
-        }
-        return 0 < held.pins;
-    }
-    false
+    let held = &pool.records[f];
+    held.used == 1 && held.store == handle.store && held.page == handle.page && 0 < held.pins
 }
 
 // Rule 26: is the page in a frame locked. `held` is its record, found to be in range; the word that names the page is its parent's, and none names a root.
-pub fn is_locked(held: FrameRecord, frames: &[u8], frame: FrameIndex, stores: u8) -> bool
-    requires { (page_size * held.parent.0 + page_size ≤ length frames.now) × (held.slot < slot_count) }
-    ensures { result ≡ held_locked stores held frames.now frame.0 }
+pub fn is_locked(held: &FrameRecord, frames: &[u8], frame: FrameIndex, stores: u8) -> bool
+    requires { (page_size * held.now.parent.0 + page_size ≤ length frames.now) × (held.now.slot < slot_count) }
+    ensures { result ≡ held_locked stores held.now frames.now frame.0 }
 {
     if frame.0 < stores {
         return false;
     }
-    let parent = held.parent;
-    let slot = page::wide::from_u8(held.slot);
-    page::word::is_marked(page::slot::slot_word(frames, parent, slot))
+    let slot = usize::from(held.slot);
+    page::word::is_marked(page::slot::slot_word(frames, held.parent, slot))
+}
+
+// The same by the pool's record of the frame.
+pub fn is_frame_locked(pool: &Pool, frames: &[u8], frame: FrameIndex) -> bool
+    requires { ParentWithin pool.now frames.now frame.0 }
+    ensures { result ≡ locked (state pool.now frames.now [] []) frame.0 }
+{
+    is_locked(
+        &pool.records[usize::from(frame)],
+        frames,
+        frame,
+        pool.stores,
+    )
 }
 
 // Rules 1 and 2.
-fn pool_refusal(
-    pool: Pool,
-    frames: &[u8],
-    store: &[u8],
-    directory: &[u8],
-    residents: &mut Residents,
-    seen: &mut Seen,
-) -> u8
-    requires { Clear residents.old seen.old }
-    ensures { (result ≡ first_broken (pool_rules (state pool frames.now store.now directory.now))) × (result ≡ 0 → Handed pool frames.now residents.new seen.new) }
+pub fn pool_rules(pool: &Pool, buffers: Buffers, tables: &mut Tables) -> Result<(), Refusal>
+    requires { Clear tables.old.residents tables.old.seen }
+    ensures { (refused_by result ≡ first_broken (pool_rules (buffered pool.now buffers.entry))) × (refused_by result ≡ 0 → Handed pool.now buffers.entry.frames.now tables.new.residents tables.new.seen) }
 {
-    let count = pool.count as usize;
-    let n = pool.pages as usize;
-    let stores = pool.stores;
-    let ceilings = pool.ceilings;
-    if !lengths_fit(count, n, stores, frames, store) {
-        return 1;
+    let count = usize::from(pool.count);
+    let pages = usize::from(pool.pages);
+    if !lengths_fit(count, pages, pool.stores, buffers.frames, buffers.store) {
+        return Err(Refusal::WrongLength);
     }
-    if !stores_fit(count, stores, ceilings) {
-        return 1;
+    if !stores_fit(count, pool.stores, pool.ceilings) {
+        return Err(Refusal::WrongLength);
     }
-    if directory.len() != directory::SIZE {
-        return 1;
+    if buffers.directory.len() != directory::SIZE {
+        return Err(Refusal::WrongLength);
     }
-    if !agreement::agrees(pool, frames, residents, seen) {
-        return 2;
+    if !agreement::agrees(
+        pool,
+        buffers.frames,
+        &mut tables.residents,
+        &mut tables.seen,
+    ) {
+        return Err(Refusal::Disagree);
     }
-    if !directory::chains_agree(residents, directory) {
-        return 2;
+    if !directory::chains_agree(&tables.residents, buffers.directory) {
+        return Err(Refusal::Disagree);
     }
-    0
+    Ok(())
 }
 
-// The same, with T and N.
-fn table_tested(
-    pool: Pool,
-    frames: &[u8],
-    store: &[u8],
-    directory: &[u8],
-    residents: &mut Residents,
-    seen: &mut Seen,
-) -> Tested
-    requires { Clear residents.old seen.old }
-    ensures { (result ≡ tested_as (first_broken (pool_rules (state pool frames.now store.now directory.now))) pool.stores pool.pages) × (result.refusal ≡ 0 → Handed pool frames.now residents.new seen.new) }
-{
-    let stores = pool.stores;
-    let pages = pool.pages;
-    let refusal = pool_refusal(pool, frames, store, directory, residents, seen);
-    Tested {
-        refusal,
-        stores,
-        pages,
-    }
-}
-
-// Rules 1 and 2. Where they are kept, the tables tell the page in each frame, and which pages resident pages name.
-pub fn table_refusal(
-    pool: Pool,
-    frames: &[u8],
-    store: &[u8],
-    directory: &[u8],
-    residents: &mut Residents,
-    seen: &mut Seen,
-) -> u8
-    requires { Clear residents.old seen.old }
-    ensures { (result ≡ first_broken (pool_rules (state pool frames.now store.now directory.now))) × (result ≡ 0 → Handed pool frames.now residents.new seen.new) }
-{
-    table_tested(pool, frames, store, directory, residents, seen).refusal
-}
-
-// Rules 1, 2 and 28, with T and N, and the tables.
-fn store_tested(
-    pool: Pool,
-    frames: &[u8],
-    store: &[u8],
-    directory: &[u8],
+// Rules 1, 2 and 28.
+pub fn store_rules(
+    pool: &Pool,
+    buffers: Buffers,
     of_store: StoreNumber,
-    residents: &mut Residents,
-    seen: &mut Seen,
-) -> Tested
-    requires { Clear residents.old seen.old }
-    ensures { (result ≡ tested_as (first_broken (store_rules (state pool frames.now store.now directory.now) of_store.0)) pool.stores pool.pages) × (result.refusal ≡ 0 → Handed pool frames.now residents.new seen.new) }
+    tables: &mut Tables,
+) -> Result<(), Refusal>
+    requires { Clear tables.old.residents tables.old.seen }
+    ensures { (refused_by result ≡ first_broken (store_rules (buffered pool.now buffers.entry) of_store.0)) × (refused_by result ≡ 0 → Handed pool.now buffers.entry.frames.now tables.new.residents tables.new.seen) }
 {
-    let mut tested = table_tested(pool, frames, store, directory, residents, seen);
-    if tested.refusal != 0 {
-        return tested;
+    pool_rules(pool, buffers, tables)?;
+    if pool.stores <= of_store.0 {
+        return Err(Refusal::BadStore);
     }
-    if tested.stores <= of_store.0 {
-        tested.refusal = 28;
-        return tested;
-    }
-    tested
+    Ok(())
 }
 
-// Rules 1, 2 and 28, with the tables.
-pub fn store_refusal(
-    pool: Pool,
-    frames: &[u8],
-    store: &[u8],
-    directory: &[u8],
-    of_store: StoreNumber,
-    residents: &mut Residents,
-    seen: &mut Seen,
-) -> u8
-    requires { Clear residents.old seen.old }
-    ensures { (result ≡ first_broken (store_rules (state pool frames.now store.now directory.now) of_store.0)) × (result ≡ 0 → Handed pool frames.now residents.new seen.new) }
-{
-    store_tested(pool, frames, store, directory, of_store, residents, seen).refusal
-}
-
-// Rules 1, 2, 28 and 3, with the record at the handle's place, and the tables.
-pub fn handle_refusal(
-    pool: Pool,
-    held: FrameRecord,
-    frames: &[u8],
-    store: &[u8],
-    directory: &[u8],
+// Rules 1, 2, 28 and 3.
+pub fn handle_rules(
+    pool: &Pool,
+    buffers: Buffers,
     handle: Handle,
-    residents: &mut Residents,
-    seen: &mut Seen,
-) -> u8
-    requires { (held ≡ record_at pool.records (record_place handle)) × Clear residents.old seen.old }
-    ensures { (result ≡ first_broken (handle_rules (state pool frames.now store.now directory.now) handle)) × (result ≡ 0 → Handed pool frames.now residents.new seen.new) }
+    tables: &mut Tables,
+) -> Result<(), Refusal>
+    requires { Clear tables.old.residents tables.old.seen }
+    ensures { (refused_by result ≡ first_broken (handle_rules (buffered pool.now buffers.entry) handle)) × (refused_by result ≡ 0 → Handed pool.now buffers.entry.frames.now tables.new.residents tables.new.seen) }
 {
-    let of_store = handle.store;
-    let refusal = store_refusal(pool, frames, store, directory, of_store, residents, seen);
-    if refusal != 0 {
-        return refusal;
+    store_rules(pool, buffers, handle.store, tables)?;
+    if !handle_fits(pool, handle) {
+        return Err(Refusal::BadHandle);
     }
-    if !handle_fits(frames.len() / PageNumber::SIZE, held, handle) {
-        return 3;
-    }
-    0
+    Ok(())
 }
 
-// Rules 1, 2, 28, 3 and 4, with the record at the handle's place, and the tables.
-pub fn slot_refusal(
-    pool: Pool,
-    held: FrameRecord,
-    frames: &[u8],
-    store: &[u8],
-    directory: &[u8],
+// Rules 1, 2, 28, 3 and 4.
+pub fn word_rules(
+    pool: &Pool,
+    buffers: Buffers,
     handle: Handle,
     slot: usize,
-    residents: &mut Residents,
-    seen: &mut Seen,
-) -> u8
-    requires { (held ≡ record_at pool.records (record_place handle)) × Clear residents.old seen.old }
-    ensures { (result ≡ first_broken (word_rules (state pool frames.now store.now directory.now) handle slot)) × (result ≡ 0 → Handed pool frames.now residents.new seen.new) }
+    tables: &mut Tables,
+) -> Result<(), Refusal>
+    requires { Clear tables.old.residents tables.old.seen }
+    ensures { (refused_by result ≡ first_broken (word_rules (buffered pool.now buffers.entry) handle slot)) × (refused_by result ≡ 0 → Handed pool.now buffers.entry.frames.now tables.new.residents tables.new.seen) }
 {
-    let refusal = handle_refusal(
-        pool, held, frames, store, directory, handle, residents, seen,
-    );
-    if refusal != 0 {
-        return refusal;
-    }
+    handle_rules(pool, buffers, handle, tables)?;
     if PageNumber::SLOTS <= slot {
-        return 4;
+        return Err(Refusal::BadSlot);
     }
-    0
+    Ok(())
 }
 
-// Rules 1, 2, 28, 3, 4 and 26, for a call that changes the words of the handle's page, with the record at the handle's place, T, and the tables.
-pub fn edit_refusal(
-    pool: Pool,
-    held: FrameRecord,
-    stores: u8,
-    frames: &[u8],
-    store: &[u8],
-    directory: &[u8],
+// Rules 1, 2, 28, 3, 4 and 26, for a call that changes the words of the handle's page.
+pub fn edit_rules(
+    pool: &Pool,
+    buffers: Buffers,
     handle: Handle,
     slot: usize,
-    residents: &mut Residents,
-    seen: &mut Seen,
-) -> u8
-    requires { (held ≡ record_at pool.records (record_place handle)) × (stores ≡ pool.stores) × Clear residents.old seen.old }
-    ensures { (result ≡ first_broken (edit_rules (state pool frames.now store.now directory.now) handle slot)) × (result ≡ 0 → Handed pool frames.now residents.new seen.new) }
+    tables: &mut Tables,
+) -> Result<(), Refusal>
+    requires { Clear tables.old.residents tables.old.seen }
+    ensures { (refused_by result ≡ first_broken (edit_rules (buffered pool.now buffers.entry) handle slot)) × (refused_by result ≡ 0 → Handed pool.now buffers.entry.frames.now tables.new.residents tables.new.seen) }
 {
-    let refusal = slot_refusal(
-        pool, held, frames, store, directory, handle, slot, residents, seen,
-    );
-    if refusal != 0 {
-        return refusal;
+    word_rules(pool, buffers, handle, slot, tables)?;
+    if is_frame_locked(pool, buffers.frames, handle.frame) {
+        return Err(Refusal::IsLocked);
     }
-    if is_locked(held, frames, handle.frame, stores) {
-        return 26;
-    }
-    0
+    Ok(())
 }
 
-// Rules 1, 2, 28 and 6, with T and N, and the tables.
-pub fn page_tested(
-    pool: Pool,
-    frames: &[u8],
-    store: &[u8],
-    directory: &[u8],
+// Rules 1, 2, 28 and 6.
+pub fn page_rules(
+    pool: &Pool,
+    buffers: Buffers,
     of_store: StoreNumber,
     page: PageNumber,
-    residents: &mut Residents,
-    seen: &mut Seen,
-) -> Tested
-    requires { Clear residents.old seen.old }
-    ensures { (result ≡ tested_as (first_broken (page_rules (state pool frames.now store.now directory.now) of_store.0 page)) pool.stores pool.pages) × (result.refusal ≡ 0 → Handed pool frames.now residents.new seen.new) }
+    tables: &mut Tables,
+) -> Result<(), Refusal>
+    requires { Clear tables.old.residents tables.old.seen }
+    ensures { (refused_by result ≡ first_broken (page_rules (buffered pool.now buffers.entry) of_store.0 page)) × (refused_by result ≡ 0 → Handed pool.now buffers.entry.frames.now tables.new.residents tables.new.seen) }
 {
-    let mut tested = store_tested(pool, frames, store, directory, of_store, residents, seen);
-    if tested.refusal != 0 {
-        return tested;
+    store_rules(pool, buffers, of_store, tables)?;
+    if pool.pages <= page.0 {
+        return Err(Refusal::BadPage);
     }
-    if tested.pages <= page.0 {
-        tested.refusal = 6;
-        return tested;
-    }
-    tested
-}
-
-// Rules 1, 2, 28 and 6, with the tables.
-pub fn page_refusal(
-    pool: Pool,
-    frames: &[u8],
-    store: &[u8],
-    directory: &[u8],
-    of_store: StoreNumber,
-    page: PageNumber,
-    residents: &mut Residents,
-    seen: &mut Seen,
-) -> u8
-    requires { Clear residents.old seen.old }
-    ensures { (result ≡ first_broken (page_rules (state pool frames.now store.now directory.now) of_store.0 page)) × (result ≡ 0 → Handed pool frames.now residents.new seen.new) }
-{
-    page_tested(
-        pool, frames, store, directory, of_store, page, residents, seen,
-    )
-    .refusal
+    Ok(())
 }

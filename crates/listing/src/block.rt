@@ -1,60 +1,35 @@
 // The records in a block of bytes.
-ghost use Rattle.std.specs.Prelude.{◌≡◌, ◌-◌, ◌*◌, ◌/◌, ◌%◌, ◌≤◌, [], length, take, drop};
-ghost use Rattle.io.specs.Counts.{IsPrefixLen};
+ghost use Rattle.std.specs.Prelude.{◌≡◌, ◌+◌, ◌-◌, ◌*◌, ◌/◌, ◌%◌, ◌≤◌, length, take, drop};
+ghost use Rattle.arrayvec.specs.ArrayVec.{array_vec_len};
 ghost use Rattle.machine.specs.Machine.{state};
 ghost use Rattle.printing.specs.Printing.{printed, listed_from};
 
-use page::copy;
 use pool::Pool;
+use printing::Text;
 
 // The bytes of a record.
 pub const RECORD: usize = 16;
 
-// What the records of a block leave: the pool, where their lines end in the text, and how many are no call (rule 17).
-#[derive(Drop)]
-pub struct Run {
-    pub pool: Pool,
-    pub end: usize,
-    pub odd: u64,
-}
-
-// 1 for a record that is no call, 0 for any other.
-fn oddity(refusal: u8) -> u64 {
-    if refusal == 17 {
-        return 1;
-    }
-    0
-}
-
-// Runs every whole record of a block, one after the other, and puts their lines into a text.
+// Runs every whole record of a block, one after the other, and puts their lines at the end of a text. Gives how many are no call (rule 17).
 pub fn list_records(
-    pool: Pool,
+    pool: &mut Pool,
     frames: &mut [u8],
     store: &mut [u8],
     directory: &mut [u8],
     block: &[u8],
-    text: &mut [u8],
-) -> Run
-    requires { 24 * (length block.now / 16) ≤ length text.old }
-    ensures prefix_len { IsPrefixLen result.end text.new }
-    ensures directory_after { printed (take result.end text.new) (state result.pool frames.new store.new directory.new) ≡ listed_from (length block.now / 16) block.now 0 (printed [] (state pool frames.old store.old directory.old)) }
+    text: &mut Text,
+) -> u64
+    requires { array_vec_len text.old + 24 * (length block.now / 16) ≤ 6144 }
+    ensures { printed text.new.items (state pool.new frames.new store.new directory.new) ≡ listed_from (length block.now / 16) block.now 0 (printed text.old.items (state pool.old frames.old store.old directory.old)) }
 {
-    let count = block.len() / RECORD;
-    let mut pool = pool;
-    let mut end = 0;
     let mut odd = 0u64;
-    let mut i = 0;
-    while i < count {
-        let mut entry = [0u8; RECORD];
-        let at = RECORD * i;
-        copy::copy_into(&mut entry, &block[at..at + RECORD]);
-        let line = recording::list_record(pool, frames, store, directory, &entry);
-        odd = odd.wrapping_add(oddity(line.refusal));
-        end = printing::put_line(text, end, line);
-        pool = line.pool;
-        i += 1;
+    let (records, _) = block.as_chunks::<RECORD>();
+    for entry in records {
+        let line = recording::list_record(pool, frames, store, directory, entry);
+        odd = odd.wrapping_add(u64::from(line.refusal == 17));
+        printing::push_line(text, line);
     }
-    Run { pool, end, odd }
+    odd
 }
 
 // Moves the part record at the end of a block to its start, and gives how many bytes it has.
@@ -63,11 +38,6 @@ pub fn keep_rest(block: &mut [u8], end: usize) -> usize
     ensures { (result ≡ end % 16) × (take result block.new ≡ take result (drop (end - result) block.old)) }
 {
     let rest = end % RECORD;
-    let from = end - rest;
-    let mut i = 0;
-    while i < rest {
-        block[i] = block[from + i];
-        i += 1;
-    }
+    block.copy_within(end - rest..end, 0);
     rest
 }

@@ -1,14 +1,26 @@
-// What the program says on standard error. Lines that begin with 'lost' tell the command ./listing that lines are missing, since the program always ends with status 0.
+// What the program says on standard error.
 // Where standard error takes nothing there is no other place to say it, so that error is let go.
+use std::fmt;
 
-// Lines could not be written.
-pub fn unwritten(rt: &impl Eprint) {
-    let _ = rt.eprintln("lost: the lines could not all be written");
+// Why lines are missing.
+#[derive(Clone, Copy, Debug, PartialEq, Eq)]
+pub enum Lost {
+    Unread,
+    Unwritten,
 }
 
-// The input could not be read.
-pub fn unread(rt: &impl Eprint) {
-    let _ = rt.eprintln("lost: the input could not be read to its end");
+impl fmt::Display for Lost {
+    fn fmt<W: fmt::Write>(&self, f: &mut fmt::Formatter<W>) -> fmt::Result {
+        match self {
+            Lost::Unread => write!(f, "the input could not be read to its end"),
+            Lost::Unwritten => write!(f, "the lines could not all be written"),
+        }
+    }
+}
+
+// Tells the command ./listing that lines are missing, by a line that begins with 'lost': the program always ends with status 0.
+pub fn report(rt: &impl Eprint, lost: Lost) {
+    let _ = eprintln!(rt; "lost: {lost}");
 }
 
 // Hints at the end of the input, where it looks like no recording: bytes after the last whole record, and most records no calls.

@@ -1,16 +1,16 @@
 -- What a call answers, and document 01's number and values for each answer in code.
-use Rattle.std.specs.Prelude.{ℕ, ◌+◌, Bool, true, false, List}
+use Rattle.std.specs.Prelude.{ℕ, ◌+◌, Bool, true, false, ◌≡◌, refl, List, Option, Some, None, Result, Ok, Err}
 use Rattle.std.specs.Borrow.{Bor}
-use Rattle.machine.specs.declared.Place.{Place}
-use Rattle.machine.specs.declared.FixAnswer.{FixAnswer}
-use Rattle.machine.specs.declared.FixAnswer.TheVariants.{Fixed, Refused}
-use Rattle.machine.specs.declared.WordAnswer.{WordAnswer}
-use Rattle.machine.specs.declared.WordAnswer.TheVariants.{Names, Refused as RefusedWord}
-use Rattle.machine.specs.declared.FindAnswer.{FindAnswer}
-use Rattle.machine.specs.declared.FindAnswer.TheVariants.{At, Absent, Refused as RefusedFind}
+use Rattle.page.specs.declared.FrameIndex.{FrameIndex}
 use Rattle.page.specs.Page.{bytes_from}
-use Rattle.rules.specs.Tests.{verdict}
-use Rattle.machine.specs.Machine.{State}
+use Rattle.rules.specs.declared.refusal.Refusal.{Refusal}
+use Rattle.rules.specs.RefusalNumbers.{number_of}
+use Rattle.machine.specs.declared.Pool.{Pool}
+use Rattle.machine.specs.declared.Pinned.{Pinned}
+use Rattle.machine.specs.declared.Named.{Named}
+use Rattle.machine.specs.declared.Found.{Found}
+use Rattle.machine.specs.declared.Payload.{Payload}
+use Rattle.machine.specs.Machine.{State, state, zero_pool}
 
 -- the lent buffer that a payload lies in
 pub data Buffer : Type 0 where
@@ -42,40 +42,46 @@ out a s = record { answer = a; left = s }
 
 -- ---- the answers in code
 
--- a refusal's number, 0 where the call was accepted
-unfoldable pub done_answer : ℕ → Answer
-done_answer n = verdict n refused done
+-- what an accepted call gives, or the number of the rule that refuses it
+abbrev pub answered : {A : Type 0} → (A → Answer) → Result A Refusal → Answer
+answered f (Ok x) = f x
+answered f (Err r) = refused (number_of r)
 
-abbrev pub fix_answer : FixAnswer → Answer
-fix_answer (Fixed h looks) = handle h.frame.0 h.store.0 h.page.0 looks
-fix_answer (Refused n) = refused n
+abbrev pub done_answer : Result (Unit {0}) Refusal → Answer
+done_answer = answered (λ _. done)
 
-abbrev pub word_answer : WordAnswer → Answer
-word_answer (Names p l) = number p.0 l
-word_answer (RefusedWord n) = refused n
+abbrev pub fix_answer : Result Pinned Refusal → Answer
+fix_answer = answered (λ x. handle x.handle.frame.0 x.handle.store.0 x.handle.page.0 x.looks)
 
-abbrev pub find_answer : FindAnswer → Answer
-find_answer (At f compared) = frame f.0 compared
-find_answer (Absent compared) = nowhere compared
-find_answer (RefusedFind n) = refused n
+abbrev pub word_answer : Result Named Refusal → Answer
+word_answer = answered (λ x. number x.page.0 x.locked)
+
+abbrev pub found_at : Option FrameIndex → ℕ → Answer
+found_at (Some f) compared = frame f.0 compared
+found_at None compared = nowhere compared
+
+abbrev pub find_answer : Result Found Refusal → Answer
+find_answer = answered (λ x. found_at x.frame x.compared)
 
 abbrev pub is_store : Buffer → Bool
 is_store in_frames = false
 is_store in_store = true
 
--- no payload: the empty part at the start of the frames, with the refusal's number
-abbrev pub no_place : ℕ → Place
-no_place n = record { refusal = n; in_store = false; start = 0; size = 0 }
+abbrev pub buffer_of : Bool → Buffer
+buffer_of true = in_store
+buffer_of false = in_frames
 
--- show and peek, which give no answer of another kind
-abbrev pub place_of : Answer → Place
-place_of (payload b a n) = record { refusal = 0; in_store = is_store b; start = a; size = n }
-place_of (refused n) = no_place n
-place_of done = no_place 0
-place_of (handle f t p n) = no_place 0
-place_of (number p l) = no_place 0
-place_of (frame f n) = no_place 0
-place_of (nowhere n) = no_place 0
+pub is-store-of : (b : Bool) → is_store (buffer_of b) ≡ b
+is-store-of true = refl
+is-store-of false = refl
+
+abbrev pub payload_answer : Result Payload Refusal → Answer
+payload_answer = answered (λ x. payload (buffer_of x.in_store) x.start x.size)
+
+-- open's: "Refused, it hands back all-zero records"
+abbrev pub opened_out : Result Pool Refusal → List ℕ → List ℕ → List ℕ → Out
+opened_out (Ok p) fs st d = out done (state p fs st d)
+opened_out (Err r) fs st d = out (refused (number_of r)) (state zero_pool fs st d)
 
 -- ---- a part of a lent slice that is handed back
 
@@ -100,10 +106,25 @@ abbrev pub lent_if : Bool → Lent → Lent → Lent
 lent_if true fs st = st
 lent_if false fs st = fs
 
--- what a place gives of frames and store
-abbrev pub handed_at : Lent → Lent → Place → Shown
-handed_at fs st p = record { part = cut (lent_if p.in_store fs st) p.start p.size; number = p.refusal }
+-- no payload: the empty part at the start of the frames, with the refusal's number
+abbrev pub no_part : Lent → ℕ → Shown
+no_part fs n = record { part = cut fs 0 0; number = n }
 
--- "A refused show or peek gives the empty part at the start of the frames; both put their number, 0 if accepted, into a number the caller lends."
+-- "A refused show or peek gives the empty part at the start of the frames; both put their number, 0 if accepted, into a number the caller lends." They give no answer of another kind.
 abbrev pub handed_back : Lent → Lent → Answer → Shown
-handed_back fs st a = handed_at fs st (place_of a)
+handed_back fs st (payload b a n) = record { part = cut (lent_if (is_store b) fs st) a n; number = 0 }
+handed_back fs st (refused n) = no_part fs n
+handed_back fs st done = no_part fs 0
+handed_back fs st (handle f t p n) = no_part fs 0
+handed_back fs st (number p l) = no_part fs 0
+handed_back fs st (frame f n) = no_part fs 0
+handed_back fs st (nowhere n) = no_part fs 0
+
+-- the same by the answer in code
+abbrev pub handed_at : Lent → Lent → Result Payload Refusal → Shown
+handed_at fs st (Ok p) = record { part = cut (lent_if p.in_store fs st) p.start p.size; number = 0 }
+handed_at fs st (Err r) = no_part fs (number_of r)
+
+pub handed-by : (fs st : Lent) (r : Result Payload Refusal) → handed_at fs st r ≡ handed_back fs st (payload_answer r)
+handed-by fs st (Ok p) = rw (is-store-of p.in_store)
+handed-by fs st (Err r) = refl

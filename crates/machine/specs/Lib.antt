@@ -1,5 +1,6 @@
 -- Document 01 and the requests as definitions: what a reader needs to know what is promised.
 pub mod Machine
+pub mod Buffers
 pub mod Agreement
 pub mod Directory
 pub mod Soundness

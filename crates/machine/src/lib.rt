@@ -2,6 +2,7 @@
 #![tactic(auto)]
 
 use page::{FrameIndex, PageNumber, StoreNumber};
+pub use rules::Refusal;
 
 // What is known of one frame (document 01: its record). The all-zero record is the empty frame's.
 #[repr(C)]
@@ -44,40 +45,41 @@ pub struct Handle {
     pub page: PageNumber,
 }
 
-// What a call without an answer of its own gives: the records, and the refusal's number, 0 where it was accepted. The records come first in an answer, so that they are copied out before anything else is written there.
-#[repr(C)]
+// The buffers lent to a call, as it reads them: frames, store and directory.
 #[derive(Clone, Copy)]
-pub struct Done {
-    pub pool: Pool,
-    pub refusal: u8,
+pub struct Buffers<'a> {
+    pub frames: &'a [u8],
+    pub store: &'a [u8],
+    pub directory: &'a [u8],
 }
 
-// The answer of root and fix: the handle and the looks of the sweep, or the refusal's number.
+// What root and fix give: the handle and the looks of the sweep.
 #[derive(Clone, Copy)]
-pub enum FixAnswer {
-    Fixed(Handle, u16),
-    Refused(u8),
+pub struct Pinned {
+    pub handle: Handle,
+    pub looks: u16,
 }
 
+// What word gives: the page number in the slot, 0 for none, and whether that page is locked.
 #[derive(Clone, Copy)]
-pub struct Fix {
-    pub pool: Pool,
-    pub answer: FixAnswer,
+pub struct Named {
+    pub page: PageNumber,
+    pub locked: bool,
 }
 
-// The answer of word: the page number in the slot, 0 for none, and whether that page is locked.
+// What find gives: the frame, or that there is none, and the entries of the directory compared.
 #[derive(Clone, Copy)]
-pub enum WordAnswer {
-    Names(PageNumber, bool),
-    Refused(u8),
+pub struct Found {
+    pub frame: Option<FrameIndex>,
+    pub compared: u16,
 }
 
-// The answer of find: the frame, or that there is none, each with the entries of the directory compared; or the refusal's number.
+// What show and peek give: where the payload lies, in the store or in the frames, from `start` on, `size` bytes.
 #[derive(Clone, Copy)]
-pub enum FindAnswer {
-    At(FrameIndex, u16),
-    Absent(u16),
-    Refused(u8),
+pub struct Payload {
+    pub in_store: bool,
+    pub start: usize,
+    pub size: usize,
 }
 
 // Why a page stays in its frame, told apart: it is a root, it is pinned, a word of it is swizzled. The first of these that holds; a page of which none does is open to eviction.
@@ -87,14 +89,4 @@ pub enum Standing {
     Pinned,
     Parent,
     Evictable,
-}
-
-// Where a payload lies, as numbers: in the store or in the frames, from `start` on, `size` bytes. Beside a refusal: no bytes, at the start of the frames.
-#[repr(C)]
-#[derive(Clone, Copy)]
-pub struct Place {
-    pub refusal: u8,
-    pub in_store: bool,
-    pub start: usize,
-    pub size: usize,
 }

@@ -13,7 +13,7 @@ use residents::Residents;
 fn by_number(w: u32, page: PageNumber) -> u32
     ensures { result ≡ renamed w page.0 }
 {
-    page::word::renamed(w, PageNumber::word(page))
+    page::word::renamed(w, page.word())
 }
 
 // A word in the image. One that isn't swizzled stays as it stands, and its mark isn't looked for.
@@ -33,11 +33,9 @@ pub fn put_image(dst: &mut [u8], src: &[u8], residents: &Residents)
     requires { (length dst.old ≡ page_size) × (length src.now ≡ page_size) × Named src.now 0 }
     ensures { dst.new ≡ image_to (page_by residents.now) src.now slot_count }
 {
-    page::copy::copy_into(dst, src);
-    let mut k = 0;
-    while k < PageNumber::SLOTS {
+    dst.copy_from_slice(src);
+    for k in 0..PageNumber::SLOTS {
         let w = page::word::word_at(src, page::word::SIZE * k);
         page::word::put_word(dst, page::word::SIZE * k, imaged_word(w, residents));
-        k += 1;
     }
 }

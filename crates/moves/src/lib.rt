@@ -31,10 +31,10 @@ pub fn take_out(
 {
     out::write_bytes_out(rec, pages, frames, store, frame);
     let parent = rec.parent;
-    let slot = page::wide::from_u8(rec.slot);
+    let slot = usize::from(rec.slot);
     let old = page::slot::slot_word(frames, parent, slot);
     let page = rec.page;
-    let word = page::word::renamed(old, PageNumber::word(page));
+    let word = page::word::renamed(old, page.word());
     page::slot::put_in_slot(frames, parent, slot, word);
     directory::take_out(directory, frame, page);
 }
@@ -57,26 +57,21 @@ pub fn load_page(
     let old = page::slot::slot_word(frames, parent, slot);
     let place = StorePlace::of(of_store, page, pages);
     page::copy::to_frame(frames, frame, store, place);
-    let word = page::word::renamed(old, FrameIndex::word(frame));
+    let word = page::word::renamed(old, frame.word());
     page::slot::put_in_slot(frames, parent, slot, word);
     directory::enter(directory, frame, page);
     records::loaded(of_store, page, parent, slot as u8)
 }
 
 // Writes the image of each dirty page to the store, and marks it clean. The table gives each frame's page.
-pub fn settle_pages(pool: Pool, residents: &Residents, frames: &[u8], store: &mut [u8]) -> Pool
-    requires { Ready (state pool frames.now store.old []) × Residents pool.records residents.now }
-    ensures { SettledAs pool frames.now store.old result store.new }
+pub fn settle_pages(pool: &mut Pool, residents: &Residents, frames: &[u8], store: &mut [u8])
+    requires { Ready (state pool.old frames.now store.old []) × Residents pool.old.records residents.now }
+    ensures { SettledAs pool.old frames.now store.old pool.new store.new }
 {
-    let mut next = pool;
-    let count = next.count as usize;
-    let pages = next.pages;
-    let mut f = 0;
-    while f < count {
-        let record = next.records[f];
+    let pages = pool.pages;
+    for f in 0..usize::from(pool.count) {
+        let record = pool.records[f];
         out::write_out(record, pages, residents, frames, store, FrameIndex(f as u8));
-        next.records[f] = records::cleaned(record);
-        f += 1;
+        pool.records[f] = records::cleaned(record);
     }
-    next
 }

@@ -1,8 +1,9 @@
 // Writing out: the images of dirty pages to the store.
-ghost use Rattle.std.specs.Prelude.{◌≡◌, true};
+ghost use Rattle.std.specs.Prelude.{◌≡◌, true, false, MatchOption};
 ghost use Rattle.page.specs.Figures.{slot_count};
 ghost use Rattle.page.specs.Page.{page_of, put_page};
 ghost use Rattle.page.specs.StorePlaces.{store_place};
+ghost use Rattle.machine.specs.Machine.{is_dirty};
 ghost use Rattle.machine.specs.Sweep.{childless};
 ghost use Rattle.machine.specs.Moves.{image_to, written_out_by};
 ghost use Rattle.residents.specs.Residents.{page_by};
@@ -14,12 +15,15 @@ use page::{FrameIndex, PageNumber, StorePlace};
 use residents::Residents;
 use scan::look;
 
-// The place of the page whose record this is.
-fn place_of(rec: FrameRecord, pages: u16) -> StorePlace
+// The place that the page whose record this is has to be written to, if it is dirty.
+fn dirty_place(rec: FrameRecord, pages: u16) -> Option<StorePlace>
     requires { Placeable pages rec.store.0 rec.page.0 }
-    ensures { result.0 ≡ store_place pages rec.store.0 rec.page.0 }
+    ensures { MatchOption result (is_dirty rec ≡ false) (λ place. (is_dirty rec ≡ true) × (place.0 ≡ store_place pages rec.store.0 rec.page.0)) }
 {
-    StorePlace::of(rec.store, rec.page, pages)
+    if rec.dirty != 1 {
+        return None;
+    }
+    Some(StorePlace::of(rec.store, rec.page, pages))
 }
 
 // Copies the page in a frame to its place among the stores: its image, where no word of it is swizzled.
@@ -45,8 +49,8 @@ fn store_image(
         store_bytes(place, frames, store, frame);
         return;
     }
-    let to = StorePlace::start(place);
-    let from = FrameIndex::start(frame);
+    let to = place.start();
+    let from = frame.start();
     image::put_image(
         &mut store[to..to + PageNumber::SIZE],
         &frames[from..from + PageNumber::SIZE],
@@ -66,14 +70,12 @@ pub fn write_out(
     requires { Writable pages rec frames.now store.old frame.0 }
     ensures { store.new ≡ written_out_by pages (page_by residents.now) rec frames.now store.old frame.0 }
 {
-    if rec.dirty != 1 {
-        return;
+    if let Some(place) = dirty_place(rec, pages) {
+        store_image(place, residents, frames, store, frame);
     }
-    let place = place_of(rec, pages);
-    store_image(place, residents, frames, store, frame);
 }
 
-// The same for a page without a swizzled word, which needs no table.
+// The same for a page without a swizzled word, which needs no table, and no second look at its words.
 pub fn write_bytes_out(
     rec: FrameRecord,
     pages: u16,
@@ -84,9 +86,7 @@ pub fn write_bytes_out(
     requires { Writable pages rec frames.now store.old frame.0 × (childless frames.now frame.0 ≡ true) }
     ensures { WrittenAsIs pages rec frames.now frame.0 store.old store.new }
 {
-    if rec.dirty != 1 {
-        return;
+    if let Some(place) = dirty_place(rec, pages) {
+        store_bytes(place, frames, store, frame);
     }
-    let place = place_of(rec, pages);
-    store_bytes(place, frames, store, frame);
 }

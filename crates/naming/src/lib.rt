@@ -5,7 +5,6 @@ pub mod stored;
 
 ghost use Rattle.std.specs.Prelude.{◌≡◌, ◌+◌, ◌*◌, ◌≤◌, ◌<◌, length};
 ghost use Rattle.page.specs.Figures.{page_size, most_pages, most_stores};
-ghost use Rattle.seen.specs.Seen.{Table};
 ghost use Rattle.naming.specs.NamedByTables.{named_by, loadable_by};
 
 use page::{PageNumber, StoreNumber, StorePlace};
@@ -24,11 +23,11 @@ pub fn is_named(
     requires { (n ≤ most_pages) × (of_store.0 < most_stores) × (page_size * (n * of_store.0 + n) ≤ length store.now) × (page.0 < most_pages) }
     ensures { result ≡ named_by residents.now seen.now store.now n of_store.0 page.0 }
 {
-    let q = page.0 as usize;
-    if seen::is_noted(seen, of_store, q) {
+    let q = usize::from(page);
+    if seen.is_noted(of_store, q) {
         return true;
     }
-    stored::in_store(store, residents, n, of_store, PageNumber::word(page))
+    stored::in_store(store, residents, n, of_store, page.word())
 }
 
 // May the stored page come in (rule 14), of n pages in its store. The table is used up.
@@ -39,12 +38,12 @@ pub fn is_loadable(
     page: PageNumber,
     seen: &mut Seen,
 ) -> bool
-    requires { (n ≤ most_pages) × (of_store.0 < most_stores) × (page_size * (n * of_store.0 + n) ≤ length store.now) × (page.0 < n) × Table seen.old }
+    requires { (n ≤ most_pages) × (of_store.0 < most_stores) × (page_size * (n * of_store.0 + n) ≤ length store.now) × (page.0 < n) }
     ensures { result ≡ loadable_by seen.old store.now n of_store.0 page.0 }
 {
-    let at = StorePlace::start(StorePlace::of(of_store, page, n as u16));
+    let at = StorePlace::of(of_store, page, n as u16).start();
     if !seen::words::has_word(store, at) {
         return true;
     }
-    seen::mark_page(store, at, n, of_store, seen)
+    seen.mark_page(of_store, store, at, n)
 }

@@ -17,16 +17,14 @@ pub fn in_store(
     requires { (n ≤ most_pages) × (of_store.0 < most_stores) × (page_size * (n * of_store.0 + n) ≤ length store.now) }
     ensures { result ≡ in_store residents.now store.now n of_store.0 n w }
 {
-    let mut p: usize = 0;
-    while p < n {
+    for p in 0..n {
         let page = PageNumber(p as u16);
-        let at = StorePlace::start(StorePlace::of(of_store, page, n as u16));
+        let at = StorePlace::of(of_store, page, n as u16).start();
         if seen::words::has(store, at, w) {
             if !residents::is_resident(residents, of_store, page) {
                 return true;
             }
         }
-        p += 1;
     }
     false
 }

@@ -1,9 +1,10 @@
 -- A buffer of pages: slot, byte, page and payload, and what is read after one of them was put. Assumes nothing.
 use Rattle.std.specs.Prelude.{◌≡◌, refl, ◌≢◌, Bool, List, ◌++◌, ℕ, ◌+◌, ◌*◌, ◌-◌, ◌≤◌, ◌<◌, length, take, drop, get_or}
-use Rattle.std.proofs.Common.{sym, ap, ◌∙◌, append_assoc, arith, add_assoc, zero-add, le_refl, length-take, length-drop, ext_get_or, get_or-take, get_or-drop, get_or-append-add, length-take-le, take_all, drop-drop}
+use Rattle.std.proofs.Common.{sym, ap, ◌∙◌, arith, add_assoc, zero-add, le_refl, length-take, length-drop, ext_get_or, get_or-take, get_or-drop, get_or-append-add, length-take-le}
 use Rattle.std.proofs.Math.Decide.{dec_lt, dec_le, ℕ_discrete}
 use Rattle.std.proofs.Math.ListN.{get_or-append}
 use Rattle.std.proofs.Math.Seq.{paste, length-paste, length_paste_head, paste-zero}
+use Rattle.std.proofs.lemmas.Slice.{put_mid-paste}
 use borrow.Rule.Slice.PartMut.{put_mid}
 use Rattle.page.specs.Figures.{page_size, slot_count, payload_start, payload_size, word_size, word_radix}
 use Rattle.page.specs.Word.{is_marked, name_of, name_at, word_at, put_word, put_word-length, put_word-before, put_word-after, word_at-same, word_at-before, word_at-after, word_at-ext}
@@ -261,10 +262,7 @@ part-is-page l q = let k : 256 * q + 256 - 256 * q ≡ 256 = omega arith in rw k
 -- and what code made of it, put back
 pub put-part : (l : List ℕ) (q : ℕ) (ys g : List ℕ) → ys ≡ g → length g ≡ page_size → put_mid (page_size * q) (page_size * q + page_size - page_size * q) l ys ≡ put_page l q g
 unfolding put_page
-put-part l q ys g e h =
-    let k : 256 * q + 256 - 256 * q ≡ 256 = omega arith in
-    let t : take 256 g ≡ g = take_all 256 g (omega arith) in
-    rw (e, k, drop-drop 256 (256 * q) l, t, append_assoc (take (256 * q) l) g (drop (256 * q + 256) l))
+put-part l q ys g e h = put_mid-paste (256 * q) _ l ys g 256 e (omega arith) (sym h)
 
 -- a word of a page that is a list of its own
 pub slot-first : (b : List ℕ) (k : ℕ) → slot b 0 k ≡ word_at b (word_size * k)

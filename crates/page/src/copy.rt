@@ -4,55 +4,41 @@ ghost use Rattle.page.specs.Figures.{page_size};
 ghost use Rattle.page.specs.Page.{page_of, put_page};
 ghost use Rattle.page.specs.Octets.{Octets};
 
-use crate::{FrameIndex, PageNumber, StorePlace, wide};
+use crate::{FrameIndex, PageIndex, PageNumber, StorePlace};
 
 // The bytes of `src` over those of `dst`, of which there are as many. Each of them is below 256, which a caller may need of a list.
 pub fn copy_into(dst: &mut [u8], src: &[u8])
     requires { length src.now ≡ length dst.old }
     ensures { (dst.new ≡ src.now) × Octets src.now }
 {
-    let mut i = 0;
-    while i < src.len() {
-        dst[i] = src[i];
-        i += 1;
-    }
+    dst.copy_from_slice(src);
 }
 
-// The page at `from` of one buffer over the page at `to` of another: both are counted in pages.
-fn copy_page(dst: &mut [u8], to: usize, src: &[u8], from: usize)
-    requires { (page_size * to + page_size ≤ length dst.old) × (page_size * from + page_size ≤ length src.now) }
-    ensures { (dst.new ≡ put_page dst.old to (page_of src.now from)) × Octets (page_of src.now from) }
+// The page at `from` of one buffer over the page at `to` of another.
+pub fn copy_page<D: PageIndex, S: PageIndex>(dst: &mut [u8], to: D, src: &[u8], from: S)
+    requires { (page_size * D.index to + page_size ≤ length dst.old) × (page_size * S.index from + page_size ≤ length src.now) }
+    ensures { (dst.new ≡ put_page dst.old (D.index to) (page_of src.now (S.index from))) × Octets (page_of src.now (S.index from)) }
 {
-    let start = PageNumber::SIZE * to;
-    let first = PageNumber::SIZE * from;
+    let start = to.start();
+    let first = from.start();
     copy_into(
         &mut dst[start..start + PageNumber::SIZE],
         &src[first..first + PageNumber::SIZE],
     );
 }
 
-// A stored page over a frame.
+// A stored page over a frame. It stays beside `copy_page` for its callers, and for residency's edit that names it.
 pub fn to_frame(frames: &mut [u8], frame: FrameIndex, store: &[u8], place: StorePlace)
     requires { (page_size * frame.0 + page_size ≤ length frames.old) × (page_size * place.0 + page_size ≤ length store.now) }
     ensures { (frames.new ≡ put_page frames.old frame.0 (page_of store.now place.0)) × Octets (page_of store.now place.0) }
 {
-    copy_page(
-        frames,
-        wide::from_u8(frame.0),
-        store,
-        wide::from_u16(place.0),
-    );
+    copy_page(frames, frame, store, place);
 }
 
-// A frame over a stored page.
+// A frame over a stored page, beside `copy_page` as well.
 pub fn to_store(store: &mut [u8], place: StorePlace, frames: &[u8], frame: FrameIndex)
     requires { (page_size * place.0 + page_size ≤ length store.old) × (page_size * frame.0 + page_size ≤ length frames.now) }
     ensures { (store.new ≡ put_page store.old place.0 (page_of frames.now frame.0)) × Octets (page_of frames.now frame.0) }
 {
-    copy_page(
-        store,
-        wide::from_u16(place.0),
-        frames,
-        wide::from_u8(frame.0),
-    );
+    copy_page(store, place, frames, frame);
 }

@@ -3,32 +3,46 @@
 
 pub mod copy;
 pub mod slot;
-pub mod wide;
 pub mod word;
 
-ghost use Rattle.std.specs.Prelude.{◌≡◌, ◌+◌, ◌*◌, ◌≤◌, ◌<◌};
+ghost use Rattle.std.specs.Prelude.{◌≡◌, ℕ, ◌+◌, ◌*◌, ◌≤◌, ◌<◌};
 ghost use Rattle.page.specs.Word.{frame_word, number_word};
 ghost use Rattle.page.specs.Figures.{page_size, most_pages, most_stores};
 ghost use Rattle.page.specs.StorePlaces.{store_place};
 
 // A page number. Its figures are those of a page.
 #[repr(C)]
-#[derive(Clone, Copy)]
+#[derive(Clone, Copy, PartialEq, Eq)]
 pub struct PageNumber(pub u16);
 
 // A frame index. Its figures are those of a frame and of its record.
 #[repr(C)]
-#[derive(Clone, Copy)]
+#[derive(Clone, Copy, PartialEq, Eq)]
 pub struct FrameIndex(pub u8);
 
 // Which of up to four stores a page is of.
 #[repr(C)]
-#[derive(Clone, Copy)]
+#[derive(Clone, Copy, PartialEq, Eq)]
 pub struct StoreNumber(pub u8);
 
 // A page's place in the buffer of the stores, counted in pages.
-#[derive(Clone, Copy)]
+#[derive(Clone, Copy, PartialEq, Eq)]
 pub struct StorePlace(pub u16);
+
+// Which page of a buffer that is counted in pages.
+pub trait PageIndex: Copy {
+    ghost index: { Self → ℕ };
+
+    fn index(self) -> u16
+        ensures { result ≡ index self };
+
+    // Where it starts there.
+    final fn start(self) -> usize
+        ensures { result ≡ page_size * index self }
+    {
+        PageNumber::SIZE * usize::from(self.index())
+    }
+}
 
 impl PageNumber {
     pub const SIZE: usize = 256;
@@ -43,16 +57,40 @@ impl PageNumber {
     pub const MOST: usize = 4096;
 
     // The name of this page.
-    pub fn word(page: PageNumber) -> u32
-        ensures { result ≡ number_word page.0 }
+    pub fn word(self) -> u32
+        ensures { result ≡ number_word self.0 }
     {
-        page.0 as u32
+        u32::from(self)
+    }
+}
+
+impl From<PageNumber> for usize {
+    ghost from_gives = { λ page n. n ≡ page.0 };
+
+    fn from(page: PageNumber) -> usize {
+        usize::from(page.0)
+    }
+}
+
+impl From<PageNumber> for u32 {
+    ghost from_gives = { λ page n. n ≡ page.0 };
+
+    fn from(page: PageNumber) -> u32 {
+        u32::from(page.0)
     }
 }
 
 impl StoreNumber {
     // The largest T.
     pub const MOST: usize = 4;
+}
+
+impl From<StoreNumber> for usize {
+    ghost from_gives = { λ of_store n. n ≡ of_store.0 };
+
+    fn from(of_store: StoreNumber) -> usize {
+        usize::from(of_store.0)
+    }
 }
 
 impl FrameIndex {
@@ -67,17 +105,33 @@ impl FrameIndex {
     pub const MAX_PINS: u16 = 65535;
 
     // The name of this frame, to which a word is then swizzled.
-    pub fn word(frame: FrameIndex) -> u32
-        ensures { result ≡ frame_word frame.0 }
+    pub fn word(self) -> u32
+        ensures { result ≡ frame_word self.0 }
     {
-        word::SWIZZLE_BIT + frame.0 as u32
+        word::SWIZZLE_BIT + u32::from(self.0)
     }
 
-    // Where it starts in the frames.
-    pub fn start(frame: FrameIndex) -> usize
-        ensures { result ≡ page_size * frame.0 }
+    // Where it starts in the frames, for callers that don't import `PageIndex`.
+    pub fn start(self) -> usize
+        ensures { result ≡ page_size * self.0 }
     {
-        PageNumber::SIZE * wide::from_u8(frame.0)
+        PageIndex::start(self)
+    }
+}
+
+impl PageIndex for FrameIndex {
+    ghost index = { λ frame. frame.0 };
+
+    fn index(self) -> u16 {
+        u16::from(self.0)
+    }
+}
+
+impl From<FrameIndex> for usize {
+    ghost from_gives = { λ frame n. n ≡ frame.0 };
+
+    fn from(frame: FrameIndex) -> usize {
+        usize::from(frame.0)
     }
 }
 
@@ -87,13 +141,29 @@ impl StorePlace {
         requires { (of_store.0 < most_stores) × (page.0 < most_pages) × (pages ≤ most_pages) }
         ensures { result.0 ≡ store_place pages of_store.0 page.0 }
     {
-        StorePlace(pages * of_store.0 as u16 + page.0)
+        StorePlace(pages * u16::from(of_store.0) + page.0)
     }
 
-    // Where it starts in the store.
-    pub fn start(place: StorePlace) -> usize
-        ensures { result ≡ page_size * place.0 }
+    // Where it starts in the stores, for callers that don't import `PageIndex`.
+    pub fn start(self) -> usize
+        ensures { result ≡ page_size * self.0 }
     {
-        PageNumber::SIZE * wide::from_u16(place.0)
+        PageIndex::start(self)
+    }
+}
+
+impl PageIndex for StorePlace {
+    ghost index = { λ place. place.0 };
+
+    fn index(self) -> u16 {
+        self.0
+    }
+}
+
+impl From<StorePlace> for usize {
+    ghost from_gives = { λ place n. n ≡ place.0 };
+
+    fn from(place: StorePlace) -> usize {
+        usize::from(place.0)
     }
 }

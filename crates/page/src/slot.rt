@@ -10,10 +10,11 @@ pub fn slot_start(frame: FrameIndex, slot: usize) -> usize
     requires { slot < slot_count }
     ensures { result ≡ page_size * frame.0 + word_size * slot }
 {
-    FrameIndex::start(frame) + word::SIZE * slot
+    frame.start() + word::SIZE * slot
 }
 
 // The word in a slot.
+#[tactic(auto, unfolding(crate::specs::Page::slot))]
 pub fn slot_word(frames: &[u8], frame: FrameIndex, slot: usize) -> u32
     requires { (page_size * frame.0 + page_size ≤ length frames.now) × (slot < slot_count) }
     ensures { result ≡ slot_word frames.now frame.0 slot }
@@ -30,6 +31,7 @@ pub fn slot_name(frames: &[u8], frame: FrameIndex, slot: usize) -> u32
 }
 
 // Puts a word into a slot.
+#[tactic(auto, unfolding(crate::specs::Page::put_slot))]
 pub fn put_in_slot(frames: &mut [u8], frame: FrameIndex, slot: usize, w: u32)
     requires { (page_size * frame.0 + page_size ≤ length frames.old) × (slot < slot_count) }
     ensures { frames.new ≡ put_slot frames.old frame.0 slot w }

@@ -3,8 +3,6 @@ ghost use Rattle.std.specs.Prelude.{◌≡◌, ◌+◌, ◌-◌, ◌%◌, ◌≤
 ghost use Rattle.page.specs.Word.{word_at, put_word, is_marked, name_of, name_at, marked, renamed, is_number, is_marked_number, half_radix, frame_in, frame_word};
 ghost use Rattle.page.specs.Figures.{most_frames};
 
-use crate::wide;
-
 // Bit 31: set where the word names a frame.
 pub const SWIZZLE_BIT: u32 = 0x8000_0000;
 
@@ -27,11 +25,7 @@ pub fn word_at(b: &[u8], at: usize) -> u32
     requires { at + 4 ≤ length b.now }
     ensures { result ≡ word_at b.now at }
 {
-    let b0 = wide::digit(b[at]);
-    let b1 = wide::digit(b[at + 1]);
-    let b2 = wide::digit(b[at + 2]);
-    let b3 = wide::digit(b[at + 3]);
-    b0 + 256 * b1 + 65536 * b2 + 16777216 * b3
+    u32::from_le_bytes([b[at], b[at + 1], b[at + 2], b[at + 3]])
 }
 
 // The low half of the word in the four bytes from `at` on, which is that of what the word names.
@@ -39,9 +33,7 @@ pub fn half_at(b: &[u8], at: usize) -> u32
     requires { at + 2 ≤ length b.now }
     ensures { result ≡ word_at b.now at % half_radix }
 {
-    let b0 = wide::digit(b[at]);
-    let b1 = wide::digit(b[at + 1]);
-    b0 + 256 * b1
+    u32::from(u16::from_le_bytes([b[at], b[at + 1]]))
 }
 
 // Puts a word into the four bytes from `at` on.
@@ -49,10 +41,7 @@ pub fn put_word(b: &mut [u8], at: usize, w: u32)
     requires { at + 4 ≤ length b.old }
     ensures { b.new ≡ put_word b.old at w }
 {
-    b[at] = (w % 256) as u8;
-    b[at + 1] = (w / 256 % 256) as u8;
-    b[at + 2] = (w / 65536 % 256) as u8;
-    b[at + 3] = (w / 16777216 % 256) as u8;
+    b[at..at + SIZE].copy_from_slice(&w.to_le_bytes());
 }
 
 // Has the word a mark. The most words have none, and are told by one comparison.
@@ -84,6 +73,7 @@ pub fn name_at(b: &[u8], at: usize) -> u32
 }
 
 // The word with this name, with a mark or without.
+#[tactic(auto, unfolding(crate::specs::Word::marked))]
 pub fn marked(locked: bool, name: u32) -> u32
     requires { name < frame_word most_frames }
     ensures { result ≡ marked locked name }

@@ -1,11 +1,30 @@
 -- The structs that stand for answers at the host boundary: document 01's number and values for each, and 0 in every field beside a refusal.
-use Rattle.std.specs.Prelude.{ℕ, true, false, List}
+use Rattle.std.specs.Prelude.{ℕ, true, false, List, Result, Ok, Err}
+use Rattle.rules.specs.declared.refusal.Refusal.{Refusal}
+use Rattle.rules.specs.RefusalNumbers.{number_of, refused_by}
+use Rattle.rules.specs.Tests.{verdict}
 use Rattle.machine.specs.declared.Pool.{Pool}
-use Rattle.machine.specs.Machine.{frame_index, store_number, page_number}
-use Rattle.machine.specs.Answers.{Answer, refused, done, handle, payload, number, frame, nowhere, Out}
+use Rattle.machine.specs.Machine.{frame_index, store_number, page_number, zero_pool}
+use Rattle.machine.specs.Answers.{Answer, refused, done, handle, payload, number, frame, nowhere, is_store, Out}
+use Rattle.pagepool.specs.declared.answers.Done.{Done}
 use Rattle.pagepool.specs.declared.answers.Fixed.{Fixed}
 use Rattle.pagepool.specs.declared.answers.Named.{Named}
 use Rattle.pagepool.specs.declared.answers.Found.{Found}
+use Rattle.pagepool.specs.declared.answers.Place.{Place}
+
+-- ---- calls without an answer of their own
+
+-- by a refusal's number, 0 where the call was accepted
+unfoldable pub done_by : ℕ → Answer
+done_by n = verdict n refused done
+
+abbrev pub done_of : Pool → Result (Unit {0}) Refusal → Done
+done_of x a = record { pool = x; refusal = refused_by a }
+
+-- open's: "Refused, it hands back all-zero records"
+abbrev pub opened_of : Result Pool Refusal → Done
+opened_of (Ok x) = record { pool = x; refusal = 0 }
+opened_of (Err r) = record { pool = zero_pool; refusal = number_of r }
 
 -- ---- root and fix, which give no answer of another kind
 
@@ -58,3 +77,18 @@ found_of done = no_frame 0 0
 found_of (handle f t p looks) = no_frame 0 0
 found_of (payload b a n) = no_frame 0 0
 found_of (number p l) = no_frame 0 0
+
+-- ---- show and peek
+
+-- no payload: the empty part at the start of the frames, with the refusal's number
+abbrev pub no_place : ℕ → Place
+no_place n = record { refusal = n; in_store = false; start = 0; size = 0 }
+
+abbrev pub place_of : Answer → Place
+place_of (payload b a n) = record { refusal = 0; in_store = is_store b; start = a; size = n }
+place_of (refused n) = no_place n
+place_of done = no_place 0
+place_of (handle f t p n) = no_place 0
+place_of (number p l) = no_place 0
+place_of (frame f n) = no_place 0
+place_of (nowhere n) = no_place 0

@@ -1,11 +1,18 @@
-// The answers that are enums in the pool, as structs: the refusal's number, 0 where the call was accepted, beside the values, all 0 beside a refusal.
+// The structs that stand for answers in C, each made of the pool and what a call answers. The pool comes first in each that has one, so that it is copied out before anything else is written there.
 ghost use Rattle.std.specs.Prelude.{◌≡◌};
-ghost use Rattle.machine.specs.Answers.{fix_answer, word_answer, find_answer};
-ghost use Rattle.pagepool.specs.Structs.{fixed_of, named_of, found_of};
+ghost use Rattle.machine.specs.Answers.{fix_answer, word_answer, find_answer, payload_answer};
+ghost use Rattle.pagepool.specs.Structs.{done_of, opened_of, fixed_of, named_of, found_of, place_of};
 
-use pool::{
-    FindAnswer, Fix, FixAnswer, FrameIndex, Handle, PageNumber, Pool, StoreNumber, WordAnswer,
-};
+use pool::{FrameIndex, Handle, PageNumber, Payload, Pinned, Pool, Refusal, StoreNumber};
+use rules::refusal;
+
+// The answer of a call without an answer of its own: the records, and the refusal's number, 0 where it was accepted.
+#[repr(C)]
+#[derive(Clone, Copy)]
+pub struct Done {
+    pub pool: Pool,
+    pub refusal: u8,
+}
 
 // The answer of root and fix: the records, the handle and the looks of the sweep.
 #[repr(C)]
@@ -36,47 +43,78 @@ pub struct Found {
     pub compared: u16,
 }
 
-// The struct for an answer of root or fix.
-pub fn from_fix(fix: Fix) -> Fixed
-    ensures { result ≡ fixed_of (fix_answer fix.answer) fix.pool }
+// Where a payload lies, as numbers: in the store or in the frames, from `start` on, `size` bytes. Beside a refusal: no bytes, at the start of the frames.
+#[repr(C)]
+#[derive(Clone, Copy)]
+pub struct Place {
+    pub refusal: u8,
+    pub in_store: bool,
+    pub start: usize,
+    pub size: usize,
+}
+
+// The struct for an answer of a call without one of its own.
+pub fn from_done(pool: Pool, answer: Result<(), Refusal>) -> Done
+    ensures { result ≡ done_of pool answer }
 {
-    let answer = fix.answer;
-    let pool = fix.pool;
-    match answer {
-        FixAnswer::Fixed(handle, looks) => Fixed {
-            refusal: 0,
-            handle,
-            looks,
-            pool,
+    Done {
+        pool,
+        refusal: refusal::refusal_number(answer),
+    }
+}
+
+// The struct for an answer of open, with all-zero records beside a refusal.
+pub fn from_open(opened: Result<Pool, Refusal>) -> Done
+    ensures { result ≡ opened_of opened }
+{
+    match opened {
+        Ok(pool) => Done { pool, refusal: 0 },
+        Err(refusal) => Done {
+            pool: pool::no_pool(),
+            refusal: refusal.number(),
         },
-        FixAnswer::Refused(refusal) => {
+    }
+}
+
+// The struct for an answer of root or fix.
+pub fn from_fix(pool: Pool, answer: Result<Pinned, Refusal>) -> Fixed
+    ensures { result ≡ fixed_of (fix_answer answer) pool }
+{
+    match answer {
+        Ok(pinned) => Fixed {
+            pool,
+            refusal: 0,
+            handle: pinned.handle,
+            looks: pinned.looks,
+        },
+        Err(refusal) => {
             let handle = Handle {
                 frame: FrameIndex(0),
                 store: StoreNumber(0),
                 page: PageNumber(0),
             };
             Fixed {
-                refusal,
+                pool,
+                refusal: refusal.number(),
                 handle,
                 looks: 0,
-                pool,
             }
         }
     }
 }
 
 // The struct for an answer of word.
-pub fn from_word(answer: WordAnswer) -> Named
+pub fn from_word(answer: Result<pool::Named, Refusal>) -> Named
     ensures { result ≡ named_of (word_answer answer) }
 {
     match answer {
-        WordAnswer::Names(page, locked) => Named {
+        Ok(named) => Named {
             refusal: 0,
-            locked,
-            page,
+            locked: named.locked,
+            page: named.page,
         },
-        WordAnswer::Refused(refusal) => Named {
-            refusal,
+        Err(refusal) => Named {
+            refusal: refusal.number(),
             locked: false,
             page: PageNumber(0),
         },
@@ -84,27 +122,49 @@ pub fn from_word(answer: WordAnswer) -> Named
 }
 
 // The struct for an answer of find.
-pub fn from_find(answer: FindAnswer) -> Found
+pub fn from_find(answer: Result<pool::Found, Refusal>) -> Found
     ensures { result ≡ found_of (find_answer answer) }
 {
     match answer {
-        FindAnswer::At(frame, compared) => Found {
-            refusal: 0,
-            present: true,
-            frame,
-            compared,
+        Ok(found) => match found.frame {
+            Some(frame) => Found {
+                refusal: 0,
+                present: true,
+                frame,
+                compared: found.compared,
+            },
+            None => Found {
+                refusal: 0,
+                present: false,
+                frame: FrameIndex(0),
+                compared: found.compared,
+            },
         },
-        FindAnswer::Absent(compared) => Found {
-            refusal: 0,
-            present: false,
-            frame: FrameIndex(0),
-            compared,
-        },
-        FindAnswer::Refused(refusal) => Found {
-            refusal,
+        Err(refusal) => Found {
+            refusal: refusal.number(),
             present: false,
             frame: FrameIndex(0),
             compared: 0,
+        },
+    }
+}
+
+// The struct for an answer of show or peek.
+pub fn from_payload(answer: Result<Payload, Refusal>) -> Place
+    ensures { result ≡ place_of (payload_answer answer) }
+{
+    match answer {
+        Ok(payload) => Place {
+            refusal: 0,
+            in_store: payload.in_store,
+            start: payload.start,
+            size: payload.size,
+        },
+        Err(refusal) => Place {
+            refusal: refusal.number(),
+            in_store: false,
+            start: 0,
+            size: 0,
         },
     }
 }

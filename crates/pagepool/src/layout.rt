@@ -1,36 +1,24 @@
 // Structs with a value of its own in every field, by which a host tests that its declarations have the layout used here.
-use crate::answers::{Fixed, Found, Named};
+use crate::answers::{Done, Fixed, Found, Named, Place};
 use depths::{Added, Share, Tally};
 use drawing::Drawn;
 use generator::Generator;
-use pool::{Done, FrameIndex, FrameRecord, Handle, PageNumber, Place, Pool, StoreNumber};
+use pool::{FrameIndex, FrameRecord, Handle, PageNumber, Pool, StoreNumber};
 
 // Records in none of which a number stands twice.
 fn marked_pool() -> Pool {
-    let blank = FrameRecord {
-        used: 0,
-        dirty: 0,
-        usage: 0,
-        slot: 0,
-        parent: FrameIndex(0),
-        store: StoreNumber(0),
-        pins: 0,
-        page: PageNumber(0),
-    };
-    let mut records = [blank; FrameIndex::MOST];
-    let mut i = 0;
-    while i < FrameIndex::MOST {
-        records[i] = FrameRecord {
-            used: 192 + i as u8,
-            dirty: 255 - i as u8,
-            usage: i as u8,
-            slot: 64 + i as u8,
-            parent: FrameIndex(128 + i as u8),
-            store: StoreNumber(63 - i as u8),
-            pins: 1000 + i as u16,
-            page: PageNumber(2000 + i as u16),
+    let mut records = pool::no_pool().records;
+    for i in 0..FrameIndex::MOST as u8 {
+        records[usize::from(i)] = FrameRecord {
+            used: 192 + i,
+            dirty: 255 - i,
+            usage: i,
+            slot: 64 + i,
+            parent: FrameIndex(128 + i),
+            store: StoreNumber(63 - i),
+            pins: 1000 + u16::from(i),
+            page: PageNumber(2000 + u16::from(i)),
         };
-        i += 1;
     }
     Pool {
         records,

@@ -7,18 +7,18 @@ mod layout;
 
 ghost use Rattle.std.specs.Prelude.{◌≡◌};
 ghost use Rattle.machine.specs.Machine.{state};
-ghost use Rattle.machine.specs.Answers.{out, done_answer, place_of};
+ghost use Rattle.machine.specs.Answers.{out};
 ghost use Rattle.machine.specs.Calls.{open_call, root_call, fix_call, unfix_call, show_call, peek_call, word_call, write_call, link_call, unlink_call, evict_call, settle_call, find_call};
 ghost use Rattle.generator.specs.Generator.{seed_read};
 ghost use Rattle.drawing.specs.Drawing.{drawn_out};
 ghost use Rattle.depths.specs.Tallying.{add_out, share_out, report_out};
-ghost use Rattle.pagepool.specs.Structs.{fixed_out, named_of, found_of};
+ghost use Rattle.pagepool.specs.Structs.{done_by, fixed_out, named_of, found_of, place_of};
 
-use answers::{Fixed, Found, Named};
+use answers::{Done, Fixed, Found, Named, Place};
 use depths::{Added, Share, Tally};
 use drawing::Drawn;
 use generator::Generator;
-use pool::{Done, Handle, PageNumber, Place, Pool, StoreNumber};
+use pool::{Buffers, Handle, PageNumber, Pool, StoreNumber};
 
 // The most resident pages of each store, as open takes them.
 #[repr(C)]
@@ -36,10 +36,10 @@ pub extern "C" fn pool_open(
     stores: u8,
     ceilings: Ceilings,
 ) -> Done
-    ensures { out (done_answer result.refusal) (state result.pool frames.new store.now directory.new) ≡ open_call stores ceilings.most frames.old store.now directory.old }
+    ensures { out (done_by result.refusal) (state result.pool frames.new store.now directory.new) ≡ open_call stores ceilings.most frames.old store.now directory.old }
 {
     let most = ceilings.most;
-    pool::open(frames, store, directory, stores, most)
+    answers::from_open(pool::open(frames, store, directory, stores, most))
 }
 
 // Pins page 0 of a store.
@@ -53,7 +53,14 @@ pub extern "C" fn pool_root(
 ) -> Fixed
     ensures { record { fixed = result; frames = frames.now; store = store.now; directory = directory.now } ≡ fixed_out (root_call (state pool frames.now store.now directory.now) of_store.0) }
 {
-    answers::from_fix(pool::root(pool, frames, store, directory, of_store))
+    let mut pool = pool;
+    let buffers = Buffers {
+        frames,
+        store,
+        directory,
+    };
+    let answer = pool::root(&mut pool, buffers, of_store);
+    answers::from_fix(pool, answer)
 }
 
 // Pins the page that a slot of a handle's page names.
@@ -68,7 +75,9 @@ pub extern "C" fn pool_fix(
 ) -> Fixed
     ensures { record { fixed = result; frames = frames.new; store = store.new; directory = directory.new } ≡ fixed_out (fix_call (state pool frames.old store.old directory.old) handle slot) }
 {
-    answers::from_fix(pool::fix(pool, frames, store, directory, handle, slot))
+    let mut pool = pool;
+    let answer = pool::fix(&mut pool, frames, store, directory, handle, slot);
+    answers::from_fix(pool, answer)
 }
 
 // Takes one pin off a handle's page.
@@ -80,9 +89,16 @@ pub extern "C" fn pool_unfix(
     directory: &[u8],
     handle: Handle,
 ) -> Done
-    ensures { out (done_answer result.refusal) (state result.pool frames.now store.now directory.now) ≡ unfix_call (state pool frames.now store.now directory.now) handle }
+    ensures { out (done_by result.refusal) (state result.pool frames.now store.now directory.now) ≡ unfix_call (state pool frames.now store.now directory.now) handle }
 {
-    pool::unfix(pool, frames, store, directory, handle)
+    let mut pool = pool;
+    let buffers = Buffers {
+        frames,
+        store,
+        directory,
+    };
+    let answer = pool::unfix(&mut pool, buffers, handle);
+    answers::from_done(pool, answer)
 }
 
 // Where the payload of the handle's page lies, for the host to read in its own buffer.
@@ -96,7 +112,12 @@ pub extern "C" fn pool_show(
 ) -> Place
     ensures { result ≡ place_of (show_call (state pool frames.now store.now directory.now) handle).answer }
 {
-    pool::show_place(pool, frames, store, directory, handle)
+    let buffers = Buffers {
+        frames,
+        store,
+        directory,
+    };
+    answers::from_payload(pool::show_place(&pool, buffers, handle))
 }
 
 // Where the payload of a page of a store lies, in its frame if it is resident, otherwise in the store.
@@ -111,7 +132,12 @@ pub extern "C" fn pool_peek(
 ) -> Place
     ensures { result ≡ place_of (peek_call (state pool frames.now store.now directory.now) of_store.0 page).answer }
 {
-    pool::peek_place(pool, frames, store, directory, of_store, page)
+    let buffers = Buffers {
+        frames,
+        store,
+        directory,
+    };
+    answers::from_payload(pool::peek_place(&pool, buffers, of_store, page))
 }
 
 // The page number in a slot of the handle's page, and whether that page is locked.
@@ -126,7 +152,12 @@ pub extern "C" fn pool_word(
 ) -> Named
     ensures { result ≡ named_of (word_call (state pool frames.now store.now directory.now) handle slot).answer }
 {
-    answers::from_word(pool::word(pool, frames, store, directory, handle, slot))
+    let buffers = Buffers {
+        frames,
+        store,
+        directory,
+    };
+    answers::from_word(pool::word(&pool, buffers, handle, slot))
 }
 
 // Puts bytes at a payload offset of the handle's page.
@@ -140,9 +171,11 @@ pub extern "C" fn pool_write(
     offset: usize,
     bytes: &[u8],
 ) -> Done
-    ensures { out (done_answer result.refusal) (state result.pool frames.new store.now directory.now) ≡ write_call (state pool frames.old store.now directory.now) handle offset bytes.now }
+    ensures { out (done_by result.refusal) (state result.pool frames.new store.now directory.now) ≡ write_call (state pool frames.old store.now directory.now) handle offset bytes.now }
 {
-    pool::write(pool, frames, store, directory, handle, offset, bytes)
+    let mut pool = pool;
+    let answer = pool::write(&mut pool, frames, store, directory, handle, offset, bytes);
+    answers::from_done(pool, answer)
 }
 
 // Stores a page number in an empty slot of the handle's page, with the mark of a locked page or without.
@@ -157,9 +190,13 @@ pub extern "C" fn pool_link(
     page: PageNumber,
     locked: bool,
 ) -> Done
-    ensures { out (done_answer result.refusal) (state result.pool frames.new store.now directory.now) ≡ link_call (state pool frames.old store.now directory.now) handle slot page locked }
+    ensures { out (done_by result.refusal) (state result.pool frames.new store.now directory.now) ≡ link_call (state pool frames.old store.now directory.now) handle slot page locked }
 {
-    pool::link(pool, frames, store, directory, handle, slot, page, locked)
+    let mut pool = pool;
+    let answer = pool::link(
+        &mut pool, frames, store, directory, handle, slot, page, locked,
+    );
+    answers::from_done(pool, answer)
 }
 
 // Clears a slot of the handle's page.
@@ -172,9 +209,11 @@ pub extern "C" fn pool_unlink(
     handle: Handle,
     slot: usize,
 ) -> Done
-    ensures { out (done_answer result.refusal) (state result.pool frames.new store.now directory.now) ≡ unlink_call (state pool frames.old store.now directory.now) handle slot }
+    ensures { out (done_by result.refusal) (state result.pool frames.new store.now directory.now) ≡ unlink_call (state pool frames.old store.now directory.now) handle slot }
 {
-    pool::unlink(pool, frames, store, directory, handle, slot)
+    let mut pool = pool;
+    let answer = pool::unlink(&mut pool, frames, store, directory, handle, slot);
+    answers::from_done(pool, answer)
 }
 
 // Takes a page of a store out of its frame.
@@ -187,17 +226,21 @@ pub extern "C" fn pool_evict(
     of_store: StoreNumber,
     page: PageNumber,
 ) -> Done
-    ensures { out (done_answer result.refusal) (state result.pool frames.new store.new directory.new) ≡ evict_call (state pool frames.old store.old directory.old) of_store.0 page }
+    ensures { out (done_by result.refusal) (state result.pool frames.new store.new directory.new) ≡ evict_call (state pool frames.old store.old directory.old) of_store.0 page }
 {
-    pool::evict(pool, frames, store, directory, of_store, page)
+    let mut pool = pool;
+    let answer = pool::evict(&mut pool, frames, store, directory, of_store, page);
+    answers::from_done(pool, answer)
 }
 
 // Writes the image of each dirty page to its store.
 #[unsafe(no_mangle)]
 pub extern "C" fn pool_settle(pool: Pool, frames: &[u8], store: &mut [u8], directory: &[u8]) -> Done
-    ensures { out (done_answer result.refusal) (state result.pool frames.now store.new directory.now) ≡ settle_call (state pool frames.now store.old directory.now) }
+    ensures { out (done_by result.refusal) (state result.pool frames.now store.new directory.now) ≡ settle_call (state pool frames.now store.old directory.now) }
 {
-    pool::settle(pool, frames, store, directory)
+    let mut pool = pool;
+    let answer = pool::settle(&mut pool, frames, store, directory);
+    answers::from_done(pool, answer)
 }
 
 // The frame that holds a page of a store, and how many entries of its chain were compared.
@@ -212,7 +255,12 @@ pub extern "C" fn pool_find(
 ) -> Found
     ensures { result ≡ found_of (find_call (state pool frames.now store.now directory.now) of_store.0 page).answer }
 {
-    answers::from_find(pool::find(pool, frames, store, directory, of_store, page))
+    let buffers = Buffers {
+        frames,
+        store,
+        directory,
+    };
+    answers::from_find(pool::find(&pool, buffers, of_store, page))
 }
 
 // The generator of a seed.
@@ -234,7 +282,12 @@ pub extern "C" fn pool_draw(
 ) -> Drawn
     ensures { result ≡ drawn_out (state pool frames.now store.now directory.now) generator }
 {
-    drawing::draw_record(pool, frames, store, directory, generator)
+    let buffers = Buffers {
+        frames,
+        store,
+        directory,
+    };
+    drawing::draw_record(&pool, buffers, generator)
 }
 
 // Adds a recording to a tally.

@@ -1,2 +1,3 @@
+pub mod CallNumbers
 pub mod Lines
 pub mod Listing

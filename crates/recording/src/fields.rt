@@ -1,11 +1,14 @@
 // The fields of a record.
-ghost use Rattle.std.specs.Prelude.{◌≡◌, ◌+◌, ◌*◌, ◌≤◌};
+ghost use Rattle.std.specs.Prelude.{◌≡◌, ◌+◌, ◌*◌, ◌≤◌, true, false, MatchResult};
+ghost use Rattle.rules.specs.declared.refusal.Refusal.TheVariants.{NoCall};
+ghost use Rattle.recording.specs.CallNumbers.{number_of_call};
 ghost use Rattle.machine.specs.Machine.{page_number};
 ghost use Rattle.page.specs.Figures.{byte_radix};
-ghost use Rattle.recording.specs.Listing.{page_in_record, handle_in, parent_in, slot_in, offset_in, length_in, data_in, rule17};
+ghost use Rattle.recording.specs.Listing.{call_in, page_in_record, handle_in, parent_in, slot_in, offset_in, length_in, data_in, rule17};
 
+use crate::call::Call;
 use page::{FrameIndex, PageNumber, StoreNumber};
-use pool::Handle;
+use pool::{Handle, Refusal};
 
 // Where the fields stand.
 pub const CALL: usize = 0;
@@ -25,30 +28,24 @@ const DATA: usize = 7;
 // The listing has one store.
 pub const STORE: StoreNumber = StoreNumber(0);
 
-// How many calls there are, from 1 on, and the most bytes of data.
-const CALLS: u8 = 9;
-
+// The most bytes of data.
 const MOST_DATA: u8 = 9;
 
-// Rule 17: is the call one of 1 to 9 and the length at most 9.
-pub fn is_call(entry: &[u8; 16]) -> bool
-    ensures { result ≡ (rule17 entry.now).1 }
+// Rule 17: the call, if it is one of 1 to 9 and the length at most 9.
+pub fn call(entry: &[u8; 16]) -> Result<Call, Refusal>
+    ensures { MatchResult result (λ k. ((rule17 entry.now).1 ≡ true) × (call_in entry.now ≡ number_of_call k)) (λ r. (r ≡ NoCall) × ((rule17 entry.now).1 ≡ false)) }
 {
-    let call = entry[CALL];
-    if call < 1 {
-        return false;
+    if MOST_DATA < entry[LENGTH] {
+        return Err(Refusal::NoCall);
     }
-    if CALLS < call {
-        return false;
-    }
-    entry[LENGTH] <= MOST_DATA
+    Call::try_from(entry[CALL])
 }
 
 // The page number in two bytes, little-endian.
 fn page_of(low: u8, high: u8) -> PageNumber
     ensures { result ≡ page_number (low + byte_radix * high) }
 {
-    PageNumber(low as u16 + 256 * (high as u16))
+    PageNumber(u16::from_le_bytes([low, high]))
 }
 
 // The page of a record.
@@ -88,14 +85,14 @@ pub fn parent(entry: &[u8; 16]) -> Handle
 pub fn slot(entry: &[u8; 16]) -> usize
     ensures { result ≡ slot_in entry.now }
 {
-    page::wide::from_u8(entry[SLOT])
+    usize::from(entry[SLOT])
 }
 
 // The payload offset of a record.
 pub fn offset(entry: &[u8; 16]) -> usize
     ensures { result ≡ offset_in entry.now }
 {
-    page::wide::from_u8(entry[OFFSET])
+    usize::from(entry[OFFSET])
 }
 
 // The data of a record, as many bytes as its length says.
@@ -104,6 +101,6 @@ pub fn bytes(entry: &[u8; 16]) -> &[u8]
     ensures { result.now ≡ data_in entry.now }
 {
     let whole: &[u8] = entry;
-    let end = DATA + page::wide::from_u8(entry[LENGTH]);
+    let end = DATA + usize::from(entry[LENGTH]);
     &whole[DATA..end]
 }

@@ -28,25 +28,24 @@ pub fn empty() -> FrameRecord
 pub fn root(of_store: StoreNumber) -> FrameRecord
     ensures { result ≡ root_record of_store.0 }
 {
-    let mut next = empty();
-    next.used = 1;
-    next.store = of_store;
-    next
+    FrameRecord {
+        used: 1,
+        store: of_store,
+        ..empty()
+    }
 }
 
-// A page's that is loaded for a slot of its parent's frame.
+// A page's that is loaded for a slot of its parent's frame: resident, as a root is, and with a pin.
 pub fn loaded(of_store: StoreNumber, page: PageNumber, parent: FrameIndex, slot: u8) -> FrameRecord
     ensures { result ≡ loaded_record of_store.0 page.0 parent.0 slot }
 {
     FrameRecord {
-        used: 1,
-        dirty: 0,
         usage: 1,
         slot,
         parent,
-        store: of_store,
         pins: 1,
         page,
+        ..root(of_store)
     }
 }
 
@@ -54,10 +53,7 @@ pub fn loaded(of_store: StoreNumber, page: PageNumber, parent: FrameIndex, slot:
 fn warmer(usage: u8) -> u8
     ensures { result ≡ min max_usage (usage + 1) }
 {
-    if usage < FrameIndex::MAX_USAGE {
-        return usage + 1;
-    }
-    FrameIndex::MAX_USAGE
+    usage.saturating_add(1).min(FrameIndex::MAX_USAGE)
 }
 
 // One pin more, and one usage more.
@@ -65,10 +61,11 @@ pub fn pinned(rec: FrameRecord) -> FrameRecord
     requires { rec.pins < max_pins }
     ensures { result ≡ one_pin_more rec }
 {
-    let mut next = rec;
-    next.pins = rec.pins + 1;
-    next.usage = warmer(rec.usage);
-    next
+    FrameRecord {
+        pins: rec.pins + 1,
+        usage: warmer(rec.usage),
+        ..rec
+    }
 }
 
 // One pin off.
@@ -76,25 +73,22 @@ pub fn unpinned(rec: FrameRecord) -> FrameRecord
     requires { 0 < rec.pins }
     ensures { result ≡ one_pin_less rec }
 {
-    let mut next = rec;
-    next.pins -= 1;
-    next
+    FrameRecord {
+        pins: rec.pins - 1,
+        ..rec
+    }
 }
 
 // Changed since it was loaded or settled.
 pub fn dirtied(rec: FrameRecord) -> FrameRecord
     ensures { result ≡ now_dirty rec }
 {
-    let mut next = rec;
-    next.dirty = 1;
-    next
+    FrameRecord { dirty: 1, ..rec }
 }
 
 // As it is in the store.
 pub fn cleaned(rec: FrameRecord) -> FrameRecord
     ensures { result ≡ now_clean rec }
 {
-    let mut next = rec;
-    next.dirty = 0;
-    next
+    FrameRecord { dirty: 0, ..rec }
 }

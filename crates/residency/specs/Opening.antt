@@ -1,16 +1,12 @@
--- What a refused open hands back, and the roots that open brings in, one after the other. Assumes nothing.
+-- The roots that open brings in, one after the other. Assumes nothing.
 use Rattle.std.specs.Prelude.{ℕ, ◌+◌, ◌≡◌, refl, List, set, replicate}
 use Rattle.std.proofs.Common.{◌∙◌, add-one}
 use Rattle.page.specs.Figures.{record_count}
 use Rattle.page.specs.Page.{page_of, put_page}
 use Rattle.page.specs.StorePlaces.{store_place}
-use Rattle.machine.specs.declared.Done.{Done}
 use Rattle.machine.specs.declared.FrameRecord.{FrameRecord}
-use Rattle.machine.specs.Machine.{blank, root_record, root_records, zero_pool}
+use Rattle.machine.specs.Machine.{blank, root_record, root_records}
 use Rattle.machine.specs.Calls.{root_frames}
-
-abbrev pub refused_open : ℕ → Done
-refused_open n = record { refusal = n; pool = zero_pool }
 
 -- the records of no root, and of one more
 pub no-root : {r : FrameRecord} → r ≡ blank → replicate record_count r ≡ root_records 0

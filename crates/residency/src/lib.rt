@@ -5,6 +5,6 @@ mod opening;
 mod releasing;
 mod settling;
 
-pub use opening::open;
+pub use opening::{no_pool, open};
 pub use releasing::{evict, unfix};
 pub use settling::settle;

@@ -4,21 +4,25 @@ ghost use Rattle.machine.specs.Machine.{state};
 ghost use Rattle.machine.specs.Answers.{out, done_answer};
 ghost use Rattle.machine.specs.Calls.{settle_call};
 
-use machine::{Done, Pool};
+use machine::{Buffers, Pool, Refusal};
+use residents::Tables;
 
 // Writes the image of each dirty page to the store, and marks it clean.
-pub fn settle(pool: Pool, frames: &[u8], store: &mut [u8], directory: &[u8]) -> Done
-    ensures { out (done_answer result.refusal) (state result.pool frames.now store.new directory.now) ≡ settle_call (state pool frames.now store.old directory.now) }
+pub fn settle(
+    pool: &mut Pool,
+    frames: &[u8],
+    store: &mut [u8],
+    directory: &[u8],
+) -> Result<(), Refusal>
+    ensures { out (done_answer result) (state pool.new frames.now store.new directory.now) ≡ settle_call (state pool.old frames.now store.old directory.now) }
 {
-    let mut residents = residents::NONE;
-    let mut seen = seen::NONE;
-    let refusal = guard::table_refusal(pool, frames, store, directory, &mut residents, &mut seen);
-    if refusal != 0 {
-        return Done { pool, refusal };
-    }
-    let settled = moves::settle_pages(pool, &residents, frames, store);
-    Done {
-        pool: settled,
-        refusal: 0,
-    }
+    let mut tables = Tables::cleared();
+    let buffers = Buffers {
+        frames,
+        store,
+        directory,
+    };
+    guard::pool_rules(pool, buffers, &mut tables)?;
+    moves::settle_pages(pool, &tables.residents, frames, store);
+    Ok(())
 }

@@ -1,17 +1,17 @@
 -- Frames found by the table of the page in each frame, and that where records and frames agree they are those found by the records. Assumes nothing.
-use Prim.Native.Nat.{ℕ, zero, suc, ◌+◌, ◌/◌, ◌<◌, ◌≤◌}
-use Rattle.std.specs.Prelude.{◌≡◌, ◌≢◌, false, List, length}
-use Rattle.std.proofs.Math.Path.{refl, sym}
-use Rattle.std.proofs.Common.{◌∙◌, ap, arith}
-use Rattle.std.proofs.Math.Bool.{true}
-use Rattle.std.proofs.Math.Decide.{ℕ_discrete}
-use borrow.Author.Tests.{eq-eqb, ne_eqb, eqb-true, lt-ltb, not-false}
-use Rattle.std.proofs.Math.Dec.{eqb}
+use Rattle.std.specs.Prelude.{ℕ, zero, suc, ◌+◌, ◌/◌, ◌<◌, ◌≤◌, ◌≡◌, ◌≢◌, ◌==◌, true, false, not, nat_lt, List, length, take, drop, eqb, Option, Some, None, MatchOption}
+use Rattle.std.specs.List.{position, position_or_len}
+use Rattle.std.proofs.Common.{refl, sym, ◌∙◌, ap, subst, arith, add-one, zero-add, eq-eqb, ne_eqb, eqb-true, lt-ltb, ltb-true, length-take, drop-cons}
+use Rattle.std.proofs.lemmas.Bool.{not-false}
+use Rattle.std.proofs.lemmas.List.Sums.{prefix_len-le-length}
+use Rattle.std.proofs.lemmas.Option.{cond_some}
+use Rattle.std.proofs.Math.Decide.{ℕ_discrete, dec_lt}
+use Rattle.page.specs.declared.FrameIndex.{FrameIndex}
 use Rattle.page.specs.declared.PageNumber.{PageNumber}
 use Rattle.page.specs.Figures.{page_size, most_frames, most_pages, most_stores}
 use Rattle.page.specs.StorePlaces.{store_place}
 use Rattle.rules.specs.Tests.{pick, ◌and◌, first_broken}
-use Rattle.rules.specs.TestLaws.{case, on, off, both, and_yes, and_no, or-none, pick_yes}
+use Rattle.rules.specs.TestLaws.{case, on, off, both, and_yes, and_no, or-none, pick_yes, pick_no}
 use Rattle.machine.specs.Machine.{State, is_used, record_at, page_in, store_in, place_in, occupied, found_from, found_in}
 use Rattle.machine.specs.Sweep.{after, empty_from, first_empty}
 use Rattle.machine.proofs.Laws.SweepLaws.{after-in}
@@ -24,6 +24,10 @@ use Rattle.residents.specs.Residents.{key_of, key_by, holds_page}
 use Rattle.residents.specs.ResidentLaws.{key-place, holds-page}
 use Rattle.residents.specs.Handed.{Handed}
 
+-- r is the frame x of the F, or no frame where x is F
+abbrev pub Told : ℕ → ℕ → Option FrameIndex → Type 0
+Told F x r = MatchOption r (x ≡ F) (λ f. (f.0 < F) × (x ≡ f.0))
+
 -- the first frame from i on whose page has the key k, among n of them, and else the frame after those
 unfoldable pub found_by : List ℕ → ℕ → ℕ → ℕ → ℕ
 found_by residents k zero i = i
@@ -33,6 +37,42 @@ found_by residents k (suc n) i = pick (eqb (key_by residents i) k) i (found_by r
 unfoldable pub empty_by : List ℕ → ℕ → ℕ → ℕ → ℕ
 empty_by residents F zero h = F
 empty_by residents F (suc n) h = pick (holds_page residents h) (empty_by residents F n (after F h)) h
+
+-- ---- the frame with a key as the place in the list of the first n keys
+
+found-place : (residents : List ℕ) (k n i : ℕ) → i + n ≤ length residents → found_by residents k n i ≡ i + position_or_len (λ x. x == k) (take n (drop i residents))
+unfolding found_by
+found-place residents k zero i l = omega arith
+found-place residents k (suc n) i l =
+    rw (drop-cons residents i 0 (omega arith)) (elim (case (eqb (key_by residents i) k)) [
+      | on e ↦ rw e (sym (pick_yes _ refl (omega arith)))
+      | off e ↦ rw e (sym (pick_no _ refl (let h : found_by residents k n (i + 1) ≡ i + 1 + position_or_len (λ x. x == k) (take n (drop (suc i) residents)) = rw (← add-one i) (found-place residents k n (i + 1) (omega arith)) in omega arith)))
+    ])
+
+module _ (residents : List ℕ) (k n : ℕ) (l : n ≤ length residents) where
+  abbrev keys : List ℕ
+  keys = take n residents
+
+  abbrev place_of : ℕ
+  place_of = position_or_len (λ x. x == k) keys
+
+  found-there : found_by residents k n 0 ≡ place_of
+  found-there = found-place residents k n 0 (omega arith) ∙ zero-add place_of
+
+  few-keys : length keys ≡ n
+  few-keys = omega (arith, length-take n residents)
+
+  pub told-some : {f : ℕ} → position (λ x. x == k) keys ≡ Some f → (f < n) × (found_by residents k n 0 ≡ f)
+  told-some {f} e =
+      let h = cond_some (nat_lt place_of (length keys)) place_of f e in
+      let below : place_of < length keys = ltb-true _ _ h.0 in
+      (omega (arith, h.1, few-keys), found-there ∙ h.1)
+
+  pub told-none : position (λ x. x == k) keys ≡ None → found_by residents k n 0 ≡ n
+  told-none e = elim (dec_lt place_of (length keys)) [
+    | yes h ↦ let t : Some place_of ≡ None = rw (lt-ltb place_of (length keys) h) at e in cc
+    | no h ↦ let m : place_of ≤ length keys = prefix_len-le-length (λ x. not (x == k)) keys in omega (arith, found-there, few-keys)
+  ]
 
 module _ (s : State) (K : Kept s) {residents : List ℕ} {seen : Seen} (H : Handed s.pool s.frames residents seen) where
   in-range : {f : ℕ} → f < s.pool.count → f < most_frames
@@ -98,6 +138,9 @@ module _ (s : State) (K : Kept s) {residents : List ℕ} {seen : Seen} (H : Hand
   pub empty-by : empty_by residents s.pool.count s.pool.count s.pool.hand.0 ≡ first_empty s.pool
   empty-by = empty-from s.pool.count s.pool.hand.0 K.agreed.hand
 
+  pub told-empty : (r : Option FrameIndex) → Told s.pool.count (empty_by residents s.pool.count s.pool.count s.pool.hand.0) r → Told s.pool.count (first_empty s.pool) r
+  told-empty r h = subst (λ (x : ℕ). Told s.pool.count x r) empty-by h
+
 -- ---- a page looked up after rules 1, 2, 28 and 6: n is the refusal by them, and F the count that the frames' length gives
 
 module _ (s : State) (t : ℕ) (q : PageNumber) {residents : List ℕ} {seen : Seen} {n F : ℕ} (e : (n ≡ first_broken (page_rules s t q)) × (n ≡ 0 → Handed s.pool s.frames residents seen)) (z : n ≡ 0) (c : F ≡ length s.frames / page_size) where
@@ -119,3 +162,6 @@ module _ (s : State) (t : ℕ) (q : PageNumber) {residents : List ℕ} {seen : S
 
   pub at-found : {f : ℕ} → f ≡ found_by residents (key_of t q.0) F 0 → f ≡ found_in s.pool t q.0
   at-found i = i ∙ ap (λ (m : ℕ). found_by residents (key_of t q.0) m 0) counted-frames ∙ found-by s kept (e.1 z) t q.0 page-rules.below
+
+  pub told-found : (r : Option FrameIndex) → Told F (found_by residents (key_of t q.0) F 0) r → Told s.pool.count (found_in s.pool t q.0) r
+  told-found r h = subst (λ (m : ℕ). Told m (found_in s.pool t q.0) r) counted-frames (subst (λ (x : ℕ). Told F x r) (at-found refl) h)

@@ -1,19 +1,15 @@
 -- The sweep over what it sees of the frames, and that it is the sweep over the records, by any class. Assumes nothing.
-use Prim.Native.Nat.{ℕ, zero, suc, ◌+◌, ◌-◌, ◌%◌, ◌<◌, ◌≤◌}
-use Rattle.std.specs.Prelude.{◌≡◌, ◌≢◌, Bool, true, false, not, List, eqb, ltb, length}
-use Rattle.std.proofs.Math.Path.{refl, sym}
-use Rattle.std.proofs.Common.{◌∙◌, ap, arith, ne_eqb, lt-ltb, le-ltb, length-set, get_or-set_same, get_or-set_other, ext_get_or}
+use Rattle.std.specs.Prelude.{ℕ, zero, suc, ◌+◌, ◌-◌, ◌%◌, ◌<◌, ◌≤◌, ◌≡◌, ◌≢◌, Bool, not, List, eqb, ltb, length, get_or, set, Some, None, is_some, unwrap_or}
+use Rattle.std.proofs.Common.{refl, sym, ◌∙◌, ap, arith, ne_eqb, lt-ltb, le-ltb, length-set, get_or-set_same, get_or-set_other, ext_get_or}
 use Rattle.std.proofs.Math.Decide.{dec_lt, ℕ_discrete}
-use Rattle.std.proofs.Math.ListN.{get_or, set}
 use Rattle.std.proofs.Math.Seq.{set-get_or}
 use Rattle.page.specs.Figures.{most_frames, max_usage}
 use Rattle.machine.specs.declared.FrameRecord.{FrameRecord}
-use Rattle.machine.specs.declared.Standing.{Standing}
 use Rattle.machine.specs.declared.Pool.{Pool}
 use Rattle.rules.specs.Tests.{pick, ◌and◌}
-use Rattle.rules.specs.TestLaws.{and_yes, and_no, pick_yes, pick_no, pick_two}
+use Rattle.rules.specs.TestLaws.{and_yes, and_no, pick_no, pick_two}
 use Rattle.machine.specs.Machine.{blank, frame_index, with_usage, record_at, is_of, at_ceiling}
-use Rattle.machine.specs.Sweep.{Class, rest, warm, yield, Kind, class_of, kind, kind_for, standing, Swept, after, look_leaves, look_takes, most_looks, sweep_from, sweep}
+use Rattle.machine.specs.Sweep.{Class, rest, warm, yield, Kind, kind, kind_for, Swept, after, look_leaves, look_takes, most_looks, sweep_from, sweep}
 use Rattle.machine.proofs.Laws.SweepLaws.{after-in, Cooler, UsageBlind, looked, looked-cooler, looked-here, looked-other, for-usage-blind, cooled-from}
 use Rattle.scan.specs.declared.Walk.{Walk}
 
@@ -42,12 +38,16 @@ pub record WalkEnd : Type 0 where
 
 -- at most m looks more after n looks, the hand at h
 unfoldable pub walk_from : ℕ → ℕ → ℕ → List ℕ → ℕ → WalkEnd
-walk_from F zero n us h = record { walk = record { taken = false; frame = frame_index 0; looks = n; hand = frame_index h }; left = us }
+walk_from F zero n us h = record { walk = record { frame = None; looks = n; hand = frame_index h }; left = us }
 walk_from F (suc m) n us h =
     let next = set us h (looked_at (get_or us h 0)) in
     pick (eqb (get_or us h 0) 0)
-    (record { walk = record { taken = true; frame = frame_index h; looks = n + 1; hand = frame_index (after F h) }; left = next })
+    (record { walk = record { frame = Some (frame_index h); looks = n + 1; hand = frame_index (after F h) }; left = next })
     (walk_from F m (n + 1) next (after F h))
+
+-- the end of a sweep that leaves the records rs; where no frame was taken, 0 stands for one
+abbrev pub swept_as : Walk → List FrameRecord → Swept
+swept_as r rs = record { taken = is_some r.frame; frame = unwrap_or r.frame (frame_index 0); looks = r.looks; records = rs; hand = r.hand }
 
 -- the sweep of F frames from h on, over what it saw, us, ended as r and left vs
 pub record Walked (F h : ℕ) (us vs : List ℕ) (r : Walk) : Type 0 where
@@ -107,14 +107,6 @@ cools-same rs ts qs vs n a b = ext_get_or blank ts qs (a.size ∙ sym b.size) ea
 
 -- ---- what the code sees
 
-module _ (T : ℕ) (r : FrameRecord) (fs : List ℕ) (f u : ℕ) {resting : Bool} where
-  -- a frame at rest, and one that isn't
-  pub sight-resting : resting ≡ true → sight rest u ≡ sight (pick resting rest (kind T fs r f)) u
-  sight-resting e = ap (λ (c : Class). sight c u) (pick_yes _ e refl)
-
-  pub sight-by : {a : Standing} → a ≡ standing T r fs f → resting ≡ false → sight (class_of a) u ≡ sight (pick resting rest (kind T fs r f)) u
-  sight-by e i = ap (λ (a : Standing). sight (class_of a) u) e ∙ ap (λ (c : Class). sight c u) (pick_no _ i refl)
-
 -- at rest are, for a store at its ceiling, the frames that hold no page of it
 pub sight-for : (p : Pool) (fs : List ℕ) (t : ℕ) (r : FrameRecord) (f u : ℕ) {resting : Bool} → resting ≡ (at_ceiling p t and not (is_of t r))
     → sight (pick resting rest (kind p.stores fs r f)) u ≡ sight (kind_for p fs t r f) u
@@ -124,7 +116,7 @@ sight-for p fs t r f u e = rw e refl
 -- ---- what a look at a number does
 
 module _ (F m n : ℕ) (us : List ℕ) (h : ℕ) where
-  pub walk-takes : get_or us h 0 ≡ 0 → walk_from F (suc m) n us h ≡ record { walk = record { taken = true; frame = frame_index h; looks = n + 1; hand = frame_index (after F h) }; left = us }
+  pub walk-takes : get_or us h 0 ≡ 0 → walk_from F (suc m) n us h ≡ record { walk = record { frame = Some (frame_index h); looks = n + 1; hand = frame_index (after F h) }; left = us }
   unfolding walk_from looked_at pick
   walk-takes e =
       let l : set us h (get_or us h 0) ≡ us = set-get_or us h 0 in
@@ -178,7 +170,7 @@ Few rs F = (g : ℕ) → g < F → (record_at rs g).usage ≤ max_usage
 
 -- from the records rs the one ended as the other, and its records are seen as what that left
 record Alike (k : Kind) (F : ℕ) (rs : List FrameRecord) (v : Swept) (e : WalkEnd) : Type 0 where
-  ended : e.walk ≡ record { taken = v.taken; frame = v.frame; looks = v.looks; hand = v.hand }
+  ended : v ≡ swept_as e.walk v.records
   sees : Sees k v.records e.left F
   kept : (g : ℕ) → F ≤ g → record_at v.records g ≡ record_at rs g
 
@@ -234,12 +226,12 @@ module _ (k : Kind) (K : UsageBlind k) (F : ℕ) (most : F ≤ most_frames) wher
 
 -- the same sweep, where no usage is above the largest: it ends alike
 module _ (p : Pool) (fs : List ℕ) (t : ℕ) (us vs : List ℕ) (r : Walk) (most : p.count ≤ most_frames) (hand : p.hand.0 < p.count) (few : Few p.records p.count) (s : Sees (kind_for p fs t) p.records us p.count) (w : Walked p.count p.hand.0 us vs r) where
-  pub same_end : r ≡ record { taken = (sweep p fs t).taken; frame = (sweep p fs t).frame; looks = (sweep p fs t).looks; hand = (sweep p fs t).hand }
-  same_end = w.ended ∙ (alike (kind_for p fs t) (for-usage-blind p fs t) p.count most (most_looks p.count) 0 p.records us p.hand.0 hand few s).ended
+  pub same_end : sweep p fs t ≡ swept_as r (sweep p fs t).records
+  same_end = (alike (kind_for p fs t) (for-usage-blind p fs t) p.count most (most_looks p.count) 0 p.records us p.hand.0 hand few s).ended ∙ ap (λ (x : Walk). swept_as x (sweep p fs t).records) (sym w.ended)
 
   -- and leaves the same records
-  pub same-sweep : (ts : List FrameRecord) → Cools p.records ts vs p.count → sweep p fs t ≡ record { taken = r.taken; frame = r.frame; looks = r.looks; records = ts; hand = r.hand }
+  pub same-sweep : (ts : List FrameRecord) → Cools p.records ts vs p.count → sweep p fs t ≡ swept_as r ts
   same-sweep ts c =
       let a = cools-swept (kind_for p fs t) (for-usage-blind p fs t) p.count most (most_looks p.count) 0 p.records us p.hand.0 hand few s in
       let e : ts ≡ (sweep p fs t).records = cools-same p.records ts _ vs p.count c (rw w.left a) in
-      rw (same_end, e)
+      same_end ∙ ap (swept_as r) (sym e)

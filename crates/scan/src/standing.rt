@@ -8,6 +8,7 @@ use machine::{FrameRecord, Standing};
 use page::FrameIndex;
 
 // The reason why the page of a frame stays, the first that holds.
+#[tactic(auto, unfolding(machine::specs::Sweep::standing, rules::specs::Tests::pick))]
 pub fn of(rec: FrameRecord, frames: &[u8], frame: FrameIndex, stores: u8) -> Standing
     requires { page_size * frame.0 + page_size ≤ length frames.now }
     ensures { result ≡ standing stores rec frames.now frame.0 }

@@ -4,8 +4,9 @@ use Rattle.std.proofs.Common.{sym, ◌∙◌, ap, add-one, arith}
 use borrow.Author.Tests.{eq-eqb, ne_eqb, eqb-true, eqb-false, not-false}
 use Rattle.std.proofs.Math.Dec.{eqb}
 use Rattle.page.specs.Figures.{slot_count, word_size}
-use Rattle.page.specs.Word.{word_at, half_radix}
-use Rattle.page.proofs.NameLaws.{name-half}
+use Rattle.std.proofs.Math.Decide.{ℕ_discrete}
+use Rattle.page.specs.Word.{word_at, name_of, half_radix}
+use Rattle.page.proofs.NameLaws.{name-half, name-nothing, nothing-named}
 use Rattle.page.specs.Page.{words_from}
 use Rattle.rules.specs.Tests.{some}
 use Rattle.rules.specs.TestLaws.{clash, is-off, some-zero, some-suc, true-some, some-true, some-false}
@@ -58,6 +59,13 @@ among-hit w m x e = is_among w (m + 1) x m (omega arith) e
 pub among-zero : (w : ℕ → ℕ) (x : ℕ) → among w 0 x ≡ false
 unfolding among
 among-zero w x = some-zero (λ k. eqb (w k) x)
+
+-- a word names something where it isn't 0
+pub word-any : (w : ℕ) {b : Bool} → b ≡ not (eqb w 0) → b ≡ not (eqb (name_of w) 0)
+word-any w e = elim (ℕ_discrete w 0) [
+  | yes z ↦ e ∙ ap not (eq-eqb w 0 z ∙ sym (eq-eqb (name_of w) 0 (nothing-named w z)))
+  | no n ↦ e ∙ ap not (ne_eqb w 0 n ∙ sym (ne_eqb (name_of w) 0 (λ z. n (name-nothing w z))))
+]
 
 -- no number but 0
 pub not-any : (w : ℕ → ℕ) (m : ℕ) → has_any w m ≡ false → (k : ℕ) → k < m → w k ≡ 0

@@ -1,5 +1,5 @@
 -- A value that a loop makes of numbers, one after the other. Assumes nothing.
-use Rattle.std.specs.Prelude.{ℕ, zero, suc, ◌+◌, ◌≡◌, Bool, true, false, ◌&&◌}
+use Rattle.std.specs.Prelude.{ℕ, zero, suc, ◌<◌, ◌+◌, ◌≡◌, Bool, true, false, ◌&&◌}
 use Rattle.std.proofs.Math.Path.{refl, ap}
 use Rattle.std.proofs.Common.{sym, ◌∙◌, add-one}
 use Rattle.rules.specs.Tests.{◌and◌, ◌or◌, every, some}
@@ -36,6 +36,10 @@ pub every-fold : (t : ℕ → Bool) (n : ℕ) → fold (every_of t) true n ≡ e
 unfolding fold every
 every-fold t zero = refl
 every-fold t (suc n) = ap (λ (b : Bool). b and t n) (every-fold t n)
+
+-- what a test tells of the first n numbers is the flag's
+abbrev pub Tests : (ℕ → Bool → Type 0) → ℕ → (ℕ → Bool) → Type 0
+Tests test n t = (k : ℕ) (b : Bool) → k < n → test k b → b ≡ t k
 
 -- a flag that is set where the test holds, and one that is cleared where it doesn't
 pub or_same : (a : Bool) {b : Bool} → b ≡ false → (a or b) ≡ a

@@ -1,5 +1,5 @@
 -- The table of the page numbers seen, of up to four stores, and what it tells of a row of numbers of one of them. Its form shows in `Seen`, `none`, `noted`, `OneStore` and `Marks` alone, and no other crate goes by it.
-use Rattle.std.specs.Prelude.{ℕ, ◌/◌, ◌%◌, ◌^◌, ◌<◌, ◌≤◌, ◌≡◌, ◌≢◌, Bool, true, false, not, List, eqb, ltb, length, get_or, set, replicate}
+use Rattle.std.specs.Prelude.{ℕ, ◌/◌, ◌%◌, ◌^◌, ◌<◌, ◌≤◌, ◌≡◌, ◌≢◌, Bool, true, false, not, List, eqb, ltb, length, get_or, set, replicate, Option, MatchOption}
 use Rattle.std.specs.Int.Bits.{bit_or}
 use Rattle.page.specs.Figures.{slot_count, most_pages}
 use Rattle.rules.specs.Tests.{◌and◌, ◌or◌, every}
@@ -68,10 +68,17 @@ pub record Marked (t m : ℕ) (w : ℕ → ℕ) (N : ℕ) (before after : Seen) 
 pub record MarksOn (t m n : ℕ) (w : ℕ → ℕ) (N : ℕ) (now after : Seen) (r : Bool) : Type 0 where
   pub onward : (before : Seen) → Marked t m w N before now true → Marked t n w N before after r
 
--- going on so as far as the first k, all of them fresh; or, where k is past n, one of the first n wasn't
-pub record MarksTo (t m k n : ℕ) (w : ℕ → ℕ) (N : ℕ) (now after : Seen) : Type 0 where
-  pub most : k ≤ n → MarksOn t m k w N now after true
-  pub past : n < k → MarksOn t m n w N now after false
+-- going on so as far as the first k of n, all of them fresh; where there is no k, one of the first n wasn't
+abbrev pub MarksTo : ℕ → ℕ → Option ℕ → ℕ → (ℕ → ℕ) → ℕ → Seen → Seen → Type 0
+MarksTo t m upto n w N now after = MatchOption upto (MarksOn t m n w N now after false) (λ k. (k ≤ n) × MarksOn t m k w N now after true)
+
+-- what is read of the first n slots is the row's number, where it can be a page's
+abbrev pub Reads : (ℕ → ℕ → Type 0) → ℕ → (ℕ → ℕ) → Type 0
+Reads read n w = (k x : ℕ) → k < n → read k x → x < most_pages → w k ≡ x
+
+-- what is read of slot k is neither 0 nor below N
+abbrev pub Large : (ℕ → ℕ → Type 0) → ℕ → ℕ → Type 0
+Large read k N = (x : ℕ) × read k x × (x ≢ 0) × (N ≤ x)
 
 -- the numbers in an array as a row, and that each is a page's
 abbrev pub row_of : List ℕ → ℕ → ℕ

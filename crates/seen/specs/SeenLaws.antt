@@ -1,6 +1,8 @@
 -- What noting a number makes of the table, and how a row of numbers is marked in it, one number after the other. Assumes nothing.
-use Rattle.std.specs.Prelude.{ℕ, zero, suc, ◌+◌, ◌*◌, ◌^◌, ◌<◌, ◌≤◌, ◌≡◌, ◌≢◌, Bool, true, false, List, eqb, ltb, length, set}
+use Rattle.std.specs.Prelude.{ℕ, zero, suc, Option, MatchOption, ◌+◌, ◌*◌, ◌^◌, ◌<◌, ◌≤◌, ◌≡◌, ◌≢◌, Bool, true, false, List, eqb, ltb, length, set}
 use Rattle.std.proofs.Math.Path.{refl}
+use Rattle.std.specs.Option.{option_eq}
+use Rattle.std.proofs.Common.{None, Some}
 use Rattle.std.proofs.Common.{sym, ◌∙◌, ap, add-one, add-zero, add-suc, arith, length-set, get_or-set_same, get_or-set_other}
 use Rattle.std.proofs.Math.Bool.{not}
 use Rattle.std.proofs.Math.Decide.{dec_lt, ℕ_discrete}
@@ -10,14 +12,15 @@ use Rattle.std.proofs.Math.ListN.{get_or, get_or-eq_default}
 use Rattle.std.proofs.lemmas.List.{length-replicate, get_or-replicate}
 use Rattle.std.proofs.Math.Seq.{set_out}
 use Rattle.page.specs.Figures.{word_size, most_pages}
-use Rattle.page.specs.Word.{name_at}
+use Rattle.page.specs.Word.{word_at, name_of, name_at}
+use Rattle.page.proofs.NameLaws.{name-number}
 use Rattle.page.specs.Page.{words_from}
 use Rattle.rules.specs.Tests.{◌and◌, ◌or◌, every}
 use Rattle.rules.specs.TestLaws.{clash, case, on, off, same, is-off, both, and-true, and_yes, and_no, or_left, or_right, or-second, or-none, or_off, every-zero, every_true, true-every, every-false}
 use Rattle.seen.specs.Fold.{or_same}
 use Rattle.seen.specs.Among.{among, among-zero, among-hit, among_none, has_any, not-any}
 use Rattle.seen.specs.BitLaws.{bit-none, bit-set, one_bit, bit-other}
-use Rattle.seen.specs.Seen.{Seen, none, noted, Table, Tells, OneStore, Marks, WithinStore, Notes, fresh, Marked, MarksOn}
+use Rattle.seen.specs.Seen.{Seen, none, noted, Table, Tells, OneStore, Marks, WithinStore, Notes, fresh, Marked, MarksOn, MarksTo, Large}
 
 -- ---- the table's form: nothing noted, and a number noted by its bit, those of 0 taken back
 
@@ -310,3 +313,25 @@ marks_then t w N m k n now seen after r A B = record { onward = λ before M. B.o
 pub marks-over : (t : ℕ) (b : List ℕ) (a m k n N : ℕ) (now seen : Seen) → N ≤ most_pages → has_any (words_from b (a + word_size * k)) n ≡ false → MarksOn t m k (words_from b a) N now seen true → MarksOn t m (k + n) (words_from b a) N now seen true
 marks-over t b a m k n N now seen few none A =
     marks_then t (words_from b a) N m k (k + n) now seen seen true A (marks-zeros t (words_from b a) N k seen few n (λ j l. ap (name_at b) (omega arith) ∙ not-any (words_from b (a + 4 * k)) n none j l))
+
+-- a word that is a page's number as it stands is its own name
+pub own_name : (b : List ℕ) (a w : ℕ) → w ≡ word_at b a → w < most_pages → name_at b a ≡ w
+own_name b a w e l = ap name_of (sym e) ∙ name-number w l
+
+-- as far as the marking went on
+module _ (t : ℕ) (w : ℕ → ℕ) (N m k n : ℕ) (now seen after : Seen) (A : MarksOn t m k w N now seen true) where
+  pub marks-to : (r : Option ℕ) → MarksTo t k r n w N seen after → MarksTo t m r n w N now after
+  marks-to None B = marks_then t w N m k n now seen after false A B
+  marks-to (Some j) B = (B.0, marks_then t w N m k j now seen after true A B.1)
+
+  -- all of the n were fresh, or one wasn't, where what is read is the row's numbers
+  pub marks-all : (read : ℕ → ℕ → Type 0) → ((j x : ℕ) → j < n → read j x → w j ≡ x) → (r : Option ℕ) → MarksTo t k r n w N seen after → MatchOption r (Unit {0}) (λ j. j < n → Large read j N) → (b : Bool) → b ≡ option_eq eqb r (Some n) → MarksOn t m n w N now after b
+  marks-all read exact None B L b e = rw e (marks_then t w N m k n now seen after false A B)
+  marks-all read exact (Some j) B L b e = elim (ℕ_discrete j n) [
+    | yes i ↦ let h : b ≡ true = e ∙ eq-eqb j n i in rw (h, ← i) (marks_then t w N m k j now seen after true A B.1)
+    | no i ↦
+        let h : b ≡ false = e ∙ ne_eqb j n i in
+        let l : j < n = omega (arith, B.0) in
+        let x = L l in
+        rw h (marks-false t w N m now (j + 1) n (omega arith) after (marks-large t w N m now j x.0 (exact j x.0 l x.1) x.2 x.3 after (marks_then t w N m k j now seen after true A B.1)))
+  ]

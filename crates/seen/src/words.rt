@@ -1,9 +1,10 @@
-// The words of a page, looked at side by side: none of these loops leaves early. Words are taken as they stand, with their marks, where that is enough.
+// The words of a page, looked at side by side. Words are taken as they stand, with their marks, where that is enough.
 ghost use Rattle.std.specs.Prelude.{◌≡◌, false, ◌+◌, ◌*◌, ◌≤◌, length};
 ghost use Rattle.page.specs.Figures.{word_size, payload_start, slot_count};
 ghost use Rattle.page.specs.Page.{words_from};
 ghost use Rattle.seen.specs.Among.{among, has_any, has_word};
 
+use crate::flags;
 use page::{PageNumber, word};
 
 // The halves of a page's words.
@@ -14,15 +15,10 @@ pub fn has_any(buffer: &[u8], at: usize, count: usize) -> bool
     requires { at + word_size * count ≤ length buffer.now }
     ensures { result ≡ has_any (words_from buffer.now at) count }
 {
-    let mut hit = false;
-    let mut k: usize = 0;
-    while k < count {
-        if word::word_at(buffer, at + word::SIZE * k) != word::NOTHING {
-            hit = true;
-        }
-        k += 1;
-    }
-    hit
+    flags::any_below(
+        count,
+        |k| word::word_at(buffer, at + word::SIZE * k) != word::NOTHING,
+    )
 }
 
 // Is one of the 16 words from byte `at` on not 0.
@@ -39,15 +35,10 @@ fn has_half(buffer: &[u8], at: usize, name: u32) -> bool
     ensures { result ≡ false → among (words_from buffer.now at) slot_count name ≡ false }
 {
     let half = name % word::HALF_RADIX;
-    let mut hit = false;
-    let mut k: usize = 0;
-    while k < HALVES {
-        if word::half_at(buffer, at + word::HALF_SIZE * k) == half {
-            hit = true;
-        }
-        k += 1;
-    }
-    hit
+    flags::any_below(
+        HALVES,
+        |k| word::half_at(buffer, at + word::HALF_SIZE * k) == half,
+    )
 }
 
 // Has one of the 16 words from byte `at` on this name.
@@ -55,15 +46,10 @@ fn has_name(buffer: &[u8], at: usize, name: u32) -> bool
     requires { at + payload_start ≤ length buffer.now }
     ensures { result ≡ among (words_from buffer.now at) slot_count name }
 {
-    let mut hit = false;
-    let mut k: usize = 0;
-    while k < PageNumber::SLOTS {
-        if word::name_at(buffer, at + word::SIZE * k) == name {
-            hit = true;
-        }
-        k += 1;
-    }
-    hit
+    flags::any_below(
+        PageNumber::SLOTS,
+        |k| word::name_at(buffer, at + word::SIZE * k) == name,
+    )
 }
 
 // The same, for a search of many pages: names are looked at only where a half fits.

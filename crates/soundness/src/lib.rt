@@ -14,15 +14,13 @@ fn is_store_sound(store: &[u8], n: u16, of_store: StoreNumber, seen: &mut Seen) 
     requires { (n ≤ most_pages) × (of_store.0 < most_stores) × (page_size * (n * of_store.0 + n) ≤ length store.now) × Tells of_store.0 seen.old (λ _. false) }
     ensures { (result ≡ sound_store store.now n of_store.0) × WithinStore of_store.0 seen.old seen.new }
 {
-    let mut p: u16 = 0;
-    while p < n {
-        let at = StorePlace::start(StorePlace::of(of_store, PageNumber(p), n));
+    for p in 0..n {
+        let at = StorePlace::of(of_store, PageNumber(p), n).start();
         if seen::words::has_word(store, at) {
-            if !seen::mark_page(store, at, n as usize, of_store, seen) {
+            if !seen.mark_page(of_store, store, at, usize::from(n)) {
                 return false;
             }
         }
-        p += 1;
     }
     true
 }
@@ -32,13 +30,11 @@ pub fn is_sound(store: &[u8], n: u16, stores: u8) -> bool
     requires { (n ≤ most_pages) × (stores ≤ most_stores) × (length store.now ≡ page_size * (n * stores)) }
     ensures { result ≡ sound store.now n stores }
 {
-    let mut seen = seen::NONE;
-    let mut t: u8 = 0;
-    while t < stores {
+    let mut seen = Seen::new();
+    for t in 0..stores {
         if !is_store_sound(store, n, StoreNumber(t), &mut seen) {
             return false;
         }
-        t += 1;
     }
     true
 }

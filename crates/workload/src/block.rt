@@ -1,66 +1,47 @@
 // The records of a workload, some at a time: each is drawn, put among the records, run, and its line put into a text.
-ghost use Rattle.std.specs.Prelude.{◌+◌, ◌*◌, ◌≤◌, ◌≡◌, ◌++◌, length, take};
-ghost use Rattle.io.specs.Counts.{IsPrefixLen};
+ghost use Rattle.std.specs.Prelude.{◌+◌, ◌*◌, ◌≤◌, ◌≡◌};
+ghost use Rattle.arrayvec.specs.ArrayVec.{array_vec_len};
 ghost use Rattle.machine.specs.Machine.{state};
-ghost use Rattle.workload.specs.Workload.{worked, worked_from, begun};
+ghost use Rattle.workload.specs.Workload.{worked, worked_from};
 
+use arrayvec::ArrayVec;
 use generator::Generator;
-use page::copy;
-use pool::Pool;
+use pool::{Buffers, Pool};
+use printing::Text;
 
 // The bytes of a record.
-pub const RECORD: usize = 16;
+const RECORD: usize = 16;
 
-// What some records leave: the pool, the generator, and where their lines end in the text.
-#[derive(Drop)]
-pub struct Run {
-    pub pool: Pool,
-    pub generator: Generator,
-    pub end: usize,
-}
+const SIZE: usize = printing::LINES * RECORD;
 
-// Puts a record among others, from `at` on.
-fn put_entry(entries: &mut [u8], at: usize, entry: &[u8; 16])
-    requires { at + 16 ≤ length entries.old }
-    ensures { take (at + 16) entries.new ≡ take at entries.old ++ entry.now }
-{
-    let whole: &[u8] = entry;
-    copy::copy_into(&mut entries[at..at + RECORD], whole);
-}
+// The bytes of records one after another: of as many as a text has room for the lines.
+pub type Entries = ArrayVec<u8, SIZE>;
 
 // Draws so many records and runs each on the pool that the one before left.
 pub fn run_records(
-    pool: Pool,
+    pool: &mut Pool,
     frames: &mut [u8],
     store: &mut [u8],
     directory: &mut [u8],
-    generator: Generator,
-    count: usize,
-    entries: &mut [u8],
-    text: &mut [u8],
-) -> Run
-    requires { (16 * count ≤ length entries.old) × (24 * count ≤ length text.old) }
-    ensures prefix_len { IsPrefixLen result.end text.new }
-    ensures generator_after { worked (take (16 * count) entries.new) (take result.end text.new) (state result.pool frames.new store.new directory.new) result.generator ≡ worked_from count (begun (state pool frames.old store.old directory.old) generator) }
+    generator: &mut Generator,
+    count: u32,
+    entries: &mut Entries,
+    text: &mut Text,
+)
+    requires { (array_vec_len entries.old + 16 * count ≤ 4096) × (array_vec_len text.old + 24 * count ≤ 6144) }
+    ensures { worked entries.new.items text.new.items (state pool.new frames.new store.new directory.new) generator.new ≡ worked_from count (worked entries.old.items text.old.items (state pool.old frames.old store.old directory.old) generator.old) }
 {
-    let mut pool = pool;
-    let mut generator = generator;
-    let mut end = 0;
-    let mut i = 0;
-    while i < count {
-        let drawn = drawing::draw_record(pool, frames, store, directory, generator);
+    for _ in 0..count {
+        let buffers = Buffers {
+            frames,
+            store,
+            directory,
+        };
+        let drawn = drawing::draw_record(pool, buffers, *generator);
         let entry = drawn.entry;
-        put_entry(entries, RECORD * i, &entry);
+        entries.try_extend_from_slice(&entry).unwrap();
         let line = recording::list_record(pool, frames, store, directory, &entry);
-        end = printing::put_line(text, end, line);
-        pool = line.pool;
-        let after = drawn.generator;
-        generator = after;
-        i += 1;
-    }
-    Run {
-        pool,
-        generator,
-        end,
+        printing::push_line(text, line);
+        *generator = drawn.generator;
     }
 }

@@ -1,32 +1,24 @@
 -- `changes::link` meets its contract. Assumes nothing.
-use mathlib.Core.Path.{refl, ap, ◌∙◌}
-use native.Mathlib.Omega.{arith}
+use Rattle.std.proofs.Common.{ap, ◌∙◌, arith}
 use Rattle.page.specs.Word.{marked}
-use Rattle.machine.specs.Machine.{State, state, record_at}
+use Rattle.machine.specs.Machine.{state}
 use Rattle.machine.specs.Calls.{link_call}
-use Rattle.machine.proofs.Laws.RuleLaws.{EditKept, done-no}
+use Rattle.machine.proofs.Laws.RuleLaws.{handed-on-out}
 use Rattle.changes.specs.Changed.{linkable, link-done}
-use borrow.Author.Rules.{rules}
 use Rattle.changes.proofs.link.Goals as goal
 
-pub link_refusal-refusal-requires : goal.link_refusal-refusal-requires
-link_refusal-refusal-requires c = (ap (record_at c.args.pool.records) c.record_place-at.ensures, refl, refl, record { no_page = refl; none_seen = refl })
-
--- refused
-pub returns-then-refusal-ne0 : goal.returns-then-refusal-ne0
+pub returns-in_err-link_rules : goal.returns-in_err-link_rules
 unfolding link_call
-returns-then-refusal-ne0 c = done-no _ _ _ c.link_refusal-refusal.ensures c.if-refusal-ne0.true
-
-pub marked-word-requires : goal.marked-word-requires
-marked-word-requires c =
-    let page-in-bits = c.well_formed.1.1.1.1.1.1.0 in
-    omega (arith, c.word.ensures, page-in-bits)
+returns-in_err-link_rules c = handed-on-out _ _ _ _ _ _ c.from_residual.ensures.1 c.in_err-link_rules.ensures
 
 pub put_in_slot-requires : goal.put_in_slot-requires
-put_in_slot-requires c = let k = (linkable ((state c.args.pool c.args.frames.now c.args.store.now c.args.directory.now)) c.args.handle c.args.slot c.args.page c.link_refusal-refusal.ensures c.if-refusal-ne0.false) in (omega arith, omega arith)
+put_in_slot-requires c = let k = linkable (state c.args.pool.now c.args.frames.now c.args.store.now c.args.directory.now) _ _ _ c.in_ok-link_rules.ensures in (omega arith, omega arith)
+
+pub mark_dirty-requires : goal.mark_dirty-requires
+mark_dirty-requires c = let k = linkable (state c.args.pool.now c.args.frames.now c.args.store.now c.args.directory.now) _ _ _ c.in_ok-link_rules.ensures in omega arith
 
 -- the word is in the slot, and the page is dirty
 pub returns : goal.returns
 returns c =
-    link-done ((state c.args.pool c.args.frames.now c.args.store.now c.args.directory.now)) c.args.handle c.args.slot c.args.page c.args.locked c.link_refusal-refusal.ensures c.if-refusal-ne0.false c.record_place-at.ensures c.dirtied.ensures c.put_in_slot.ensures
+    link-done (state c.args.pool.now c.args.frames.now c.args.store.now c.args.directory.now) _ _ c.mark_dirty.ensures c.args.page c.args.locked c.in_ok-link_rules.ensures c.put_in_slot.ensures
     (c.marked-word.ensures ∙ ap (marked c.args.locked) c.word.ensures)

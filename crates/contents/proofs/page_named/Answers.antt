@@ -1,14 +1,11 @@
 -- `contents::page_named` meets its contract: a page number, or the page in the frame that a swizzled word names. Assumes nothing.
-use Prim.Native.Nat.{◌<◌}
-use mathlib.Core.Path.{refl, sym, ap, ◌∙◌}
-use native.Mathlib.Omega.{arith}
+use Rattle.std.proofs.Common.{◌<◌, refl, sym, ap, ◌∙◌, arith}
 use Rattle.page.specs.Figures.{most_frames}
-use Rattle.page.specs.Word.{Number, Swizzled, number-yes, number-no}
+use Rattle.page.specs.Word.{number-yes, number-no}
 use Rattle.rules.specs.TestLaws.{pick_yes, pick_no}
 use Rattle.machine.specs.Machine.{page_number}
 use Rattle.machine.specs.Moves.{plain}
 use Rattle.residents.specs.Residents.{page_by}
-use borrow.Author.Rules.{rules}
 use Rattle.contents.proofs.page_named.Goals as goal
 
 pub overflow_cast-number : goal.overflow_cast-number

@@ -1,32 +1,24 @@
 -- `contents::word` meets its contract. Assumes nothing.
-use mathlib.Core.Path.{refl, ap, ◌∙◌}
-use native.Mathlib.Omega.{arith}
+use Rattle.std.proofs.Common.{ap, ◌∙◌, arith}
 use Rattle.page.specs.Word.{is_marked, name_of}
-use Rattle.machine.specs.Machine.{State, state, record_at}
+use Rattle.machine.specs.Buffers.{buffered}
 use Rattle.machine.specs.Calls.{word_call}
-use Rattle.machine.proofs.Laws.RuleLaws.{answer-no}
 use Rattle.contents.specs.Words.{slot-within, resolvable, word-names}
-use borrow.Author.Rules.{rules}
+use Rattle.machine.proofs.Laws.RuleLaws.{handed-on-answer}
 use Rattle.contents.proofs.word.Goals as goal
 
-pub slot_refusal-refusal-requires : goal.slot_refusal-refusal-requires
-slot_refusal-refusal-requires c = (ap (record_at c.args.pool.records) c.record_place-at.ensures, record { no_page = refl; none_seen = refl })
-
--- refused
-pub returns-then-refusal-ne0 : goal.returns-then-refusal-ne0
+pub returns-in_err-word_rules : goal.returns-in_err-word_rules
 unfolding word_call
-returns-then-refusal-ne0 c = answer-no _ _ _ c.slot_refusal-refusal.ensures.0 c.if-refusal-ne0.true
+returns-in_err-word_rules c = handed-on-answer _ _ _ _ _ _ c.from_residual.ensures.1 c.in_err-word_rules.ensures.0
 
 pub slot_word-word-requires : goal.slot_word-word-requires
-slot_word-word-requires c =
-    let within = slot-within ((state c.args.pool c.args.frames.now c.args.store.now c.args.directory.now)) c.args.handle c.args.slot c.slot_refusal-refusal.ensures c.if-refusal-ne0.false in
-    (within.0, omega (arith, within.1))
+slot_word-word-requires c = let k = slot-within (buffered c.args.pool.now c.args.buffers) c.args.handle c.args.slot c.in_ok-word_rules.ensures in (k.0, omega arith)
 
-pub page_named-page-requires : goal.page_named-page-requires
-page_named-page-requires c = resolvable ((state c.args.pool c.args.frames.now c.args.store.now c.args.directory.now)) c.args.handle c.args.slot c.slot_refusal-refusal.ensures c.if-refusal-ne0.false (c.name_of.ensures ∙ ap name_of c.slot_word-word.ensures)
+pub page_named-requires : goal.page_named-requires
+page_named-requires c = resolvable (buffered c.args.pool.now c.args.buffers) _ _ c.in_ok-word_rules.ensures (c.name_of.ensures ∙ ap name_of c.slot_word-word.ensures)
 
 -- the page that the word names, and its mark
 pub returns : goal.returns
 returns c =
     let read = c.slot_word-word.ensures in
-    word-names ((state c.args.pool c.args.frames.now c.args.store.now c.args.directory.now)) c.args.handle c.args.slot c.slot_refusal-refusal.ensures c.if-refusal-ne0.false (c.name_of.ensures ∙ ap name_of read) c.page_named-page.ensures (c.is_marked.ensures ∙ ap is_marked read)
+    word-names (buffered c.args.pool.now c.args.buffers) _ _ c.in_ok-word_rules.ensures (c.name_of.ensures ∙ ap name_of read) c.page_named.ensures (c.is_marked.ensures ∙ ap is_marked read)

@@ -6,4 +6,4 @@ pub returns-then-counts-ne-DEPTHS : goal.returns-then-counts-ne-DEPTHS
 returns-then-counts-ne-DEPTHS c = share-refused _ _ _ c.if-counts-ne-DEPTHS.true
 
 pub returns : goal.returns
-returns c = share-done _ _ _ _ _ c.if-counts-ne-DEPTHS.false c.depths_within.ensures c.first-within.ensures
+returns c = rw c.from.ensures (share-done _ _ _ _ _ c.if-counts-ne-DEPTHS.false c.depths_within.ensures c.first-within.ensures)

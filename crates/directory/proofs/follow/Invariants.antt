@@ -1,7 +1,5 @@
-use borrow.Author.Rules.{rules}
-use native.Mathlib.Omega.{arith}
 use Rattle.directory.specs.Pass.{awaited_count}
-use Rattle.directory.specs.ChainPasses.{Along, along-start, along-end, along-beyond, along-stray, along-step, along-fewer}
+use Rattle.directory.specs.ChainPasses.{Along}
 use Rattle.directory.proofs.follow.Given as goal
 
 abbrev pub invariant-loop-x : goal.invariant-loop-x

@@ -1,12 +1,9 @@
--- `guard::is_locked` meets its contract: a root, and then the mark of the parent's word. Assumes nothing.
-use mathlib.Core.Path.{ap, ◌∙◌}
-use mathlib.Core.Bool.{not}
-use borrow.Author.Tests.{lt-ltb, le-ltb}
+-- `guard::is_locked` meets its contract: a root isn't locked, and another page is by the word that names it. Assumes nothing.
+use Rattle.std.proofs.Common.{ap, ◌∙◌, not, lt-ltb, le-ltb}
 use Rattle.page.specs.Word.{is_marked}
 use Rattle.page.specs.Page.{slot}
 use Rattle.rules.specs.TestLaws.{and_yes, and_no}
 use Rattle.guard.specs.Held.{held_locked}
-use borrow.Author.Rules.{rules}
 use Rattle.guard.proofs.is_locked.Goals as goal
 
 -- a root
@@ -17,4 +14,4 @@ returns-then-frame-stores c = and_no _ (ap not (lt-ltb _ _ c.if-frame-stores.tru
 -- by the mark
 pub returns : goal.returns
 unfolding held_locked
-returns c = and_yes (ap not (le-ltb _ _ c.if-frame-stores.false)) (c.is_marked.ensures ∙ ap is_marked (c.slot_word.ensures ∙ ap (slot _ _) c.from_u8-slot.ensures))
+returns c = and_yes (ap not (le-ltb _ _ c.if-frame-stores.false)) (c.is_marked.ensures ∙ ap is_marked (c.slot_word.ensures ∙ ap (slot _ _) c.from-slot.ensures))

@@ -9,7 +9,7 @@ use Rattle.page.specs.Page.{name}
 use Rattle.page.specs.StorePlaces.{store_place}
 use Rattle.machine.specs.declared.FrameRecord.{FrameRecord}
 use Rattle.machine.specs.declared.Pool.{Pool}
-use Rattle.rules.specs.Tests.{◌or◌, ◌⇒◌}
+use Rattle.rules.specs.Tests.{◌or◌}
 use Rattle.rules.specs.TestLaws.{case, on, off, use⇒, make⇒, both, and-true, or-second, or_left, or_right, every_true, true-every}
 use Rattle.machine.specs.Machine.{is_root, is_used, record_at, page_in, store_in, place_in, occupied, ceiling_of, held}
 use Rattle.machine.specs.Agreement.{parent_of, parent_slot_of, is_blank, root_in_place, roots_in_place, pages_apart, hand_in_range, fields_in_range, all_in_range, empty_blank, parents_name, stores_agree, points_back, swizzled_point_back, absent, numbers_absent, numbers_once, reaches_root, all_reach_root, ceilings_hold, agree}

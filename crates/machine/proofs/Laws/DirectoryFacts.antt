@@ -10,7 +10,7 @@ use Rattle.std.proofs.Math.ListN.{length}
 use Rattle.page.specs.Figures.{most_frames, record_count}
 use Rattle.page.specs.StorePlaces.{store_place}
 use Rattle.machine.specs.declared.Pool.{Pool}
-use Rattle.rules.specs.Tests.{pick, ◌⇒◌}
+use Rattle.rules.specs.Tests.{pick}
 use Rattle.rules.specs.TestLaws.{case, on, off, both, and-true, use⇒, make⇒, every_true, true-every, pick_yes, pick_no}
 use Rattle.machine.specs.Machine.{is_used, record_at, page_in, place_in, occupied, found_in}
 use Rattle.machine.proofs.Laws.AgreementFacts.{occupied-lt}

@@ -1,9 +1,7 @@
 -- Records and answers as they are computed, each field: what the theorem leaves free. All other computed cases stand in crate cases. Assumes nothing.
-use Rattle.std.specs.Prelude.{◌≡◌, refl, List, [], ◌∷◌, ◌++◌, map, ℕ, replicate}
-use Rattle.machine.specs.declared.FixAnswer.TheVariants.{Fixed}
-use Rattle.machine.specs.declared.FindAnswer.TheVariants.{At, Absent}
+use Rattle.std.specs.Prelude.{◌≡◌, refl, [], ◌∷◌, ◌++◌, map, ℕ, replicate, Some, None, Ok}
 use Rattle.machine.specs.Machine.{page_number, frame_index, store_number, root_record, loaded_record, pinned, with_usage, zero_pool}
-use Rattle.machine.specs.Answers.{Answer, handle, frame, nowhere, fix_answer, find_answer}
+use Rattle.machine.specs.Answers.{handle, frame, nowhere, fix_answer, find_answer}
 
 -- "with pins 0, heat 0, clean": the root of store 2
 pub root-row : root_record 2 ≡ record { used = 1; dirty = 0; usage = 0; slot = 0; parent = frame_index 0; store = store_number 2; pins = 0; page = page_number 0 }
@@ -24,6 +22,9 @@ zero_row = refl
 
 -- an answer in code has the values of the definition's: frame 2, page 7 of store 1 after 5 looks; frame 2 after 3 entries, and nowhere after 4
 pub answer-values :
-    (fix_answer (Fixed (record { frame = frame_index 2; store = store_number 1; page = page_number 7 }) 5) ∷ find_answer (At (frame_index 2) 3) ∷ find_answer (Absent 4) ∷ [])
+    (fix_answer (Ok (record { handle = record { frame = frame_index 2; store = store_number 1; page = page_number 7 }; looks = 5 }))
+    ∷ find_answer (Ok (record { frame = Some (frame_index 2); compared = 3 }))
+    ∷ find_answer (Ok (record { frame = None; compared = 4 }))
+    ∷ [])
     ≡ (handle 2 1 7 5 ∷ frame 2 3 ∷ nowhere 4 ∷ [])
 answer-values = refl

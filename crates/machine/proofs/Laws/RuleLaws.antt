@@ -1,16 +1,19 @@
 -- What calls share. No broken rule, as a record of facts; rules that code tests in parts; and what a call answers and leaves, by the refusal's number. Assumes nothing.
-use Rattle.std.specs.Prelude.{ℕ, ◌<◌, ◌≡◌, refl, true, false, not, List, [], ◌∷◌, ◌++◌, eqb, ltb}
-use Rattle.std.proofs.Common.{sym, ◌∙◌, ap, eqb-true, ltb-true}
+use Rattle.std.specs.Prelude.{ℕ, ◌<◌, ◌≡◌, refl, true, false, not, List, [], ◌∷◌, ◌++◌, Result, Err, IsErrAnd, eqb, ltb}
+use Rattle.std.proofs.Common.{◌∙◌, ap, eqb-true, ltb-true}
 use Rattle.std.proofs.lemmas.Bool.{not-true}
+use Rattle.std.proofs.lemmas.Result.{err_from_is_err_and}
 use Rattle.page.specs.declared.PageNumber.{PageNumber}
 use Rattle.page.specs.Figures.{slot_count}
 use Rattle.machine.specs.declared.Pool.{Pool}
 use Rattle.machine.specs.declared.Handle.{Handle}
+use Rattle.rules.specs.declared.refusal.Refusal.{Refusal}
+use Rattle.rules.specs.RefusalNumbers.{number_of, not-accepted}
 use Rattle.rules.specs.Tests.{◌and◌, Rule, first_broken, verdict}
 use Rattle.rules.specs.TestLaws.{and-true, first-kept, pick-either, verdict-no, verdict-yes, numbered, broken-then, parts-kept}
 use Rattle.machine.specs.Machine.{State, is_used, record_at, page_in, store_in, occupied}
 use Rattle.machine.proofs.Laws.AgreementFacts.{make-occupied}
-use Rattle.machine.specs.Answers.{Answer, refused, done, Out, out, done_answer}
+use Rattle.machine.specs.Answers.{Answer, refused, answered, Out, out}
 use Rattle.machine.specs.Rules.{handle_fits, locked, rule3, rule4, rule6, rule26, rule28}
 use Rattle.machine.specs.Calls.{decide, pool_rules, store_rules, handle_rules, word_rules, edit_rules, page_rules, show_call, peek_call, word_call, find_call}
 use Rattle.machine.proofs.Laws.Ready.{Kept, rules-kept}
@@ -204,20 +207,29 @@ answer-no s rules accepted e h = ap (λ (o : Out). o.answer) (decide-no s rules 
 pub answer-yes : (s : State) (rules : List Rule) (left : State) {n : ℕ} {x a : Answer} → n ≡ first_broken rules → n ≡ 0 → x ≡ a → x ≡ (decide s rules (out a left)).answer
 answer-yes s rules left e h i = i ∙ ap (λ (o : Out). o.answer) (decide-yes s rules e h refl)
 
--- an answer without a value of its own
-pub done_refused : {n : ℕ} → (n ≡ 0 → ⊥) → done_answer n ≡ refused n
-unfolding done_answer
-done_refused h = sym (verdict-no refused done refl h)
+-- a call's answer in code: refused by the first broken rule, or accepted where none is
+pub refused-out : {A : Type 0} (f : A → Answer) (s : State) (rules : List Rule) (accepted : Out) (r : Refusal) → number_of r ≡ first_broken rules → out (answered f (Err r)) s ≡ decide s rules accepted
+refused-out f s rules accepted r e = decide-no s rules accepted e (not-accepted r)
 
-pub done-accepted : done_answer 0 ≡ done
-unfolding done_answer
-done-accepted = sym (verdict-yes refused refl refl refl)
+pub refused-answer : {A : Type 0} (f : A → Answer) (s : State) (rules : List Rule) (accepted : Out) (r : Refusal) → number_of r ≡ first_broken rules → answered f (Err r) ≡ (decide s rules accepted).answer
+refused-answer f s rules accepted r e = answer-no s rules accepted e (not-accepted r)
 
-pub done-no : (s : State) (rules : List Rule) (accepted : Out) {n : ℕ} → n ≡ first_broken rules → (n ≡ 0 → ⊥) → out (done_answer n) s ≡ decide s rules accepted
-done-no s rules accepted e h = ap (λ (a : Answer). out a s) (done_refused h) ∙ decide-no s rules accepted e h
+-- a refusal that `?` hands on: the answer r has the refusal e of the first broken rule
+pub handed-on-out : {A : Type 0} (f : A → Answer) (s : State) (rules : List Rule) (accepted : Out) (r : Result A Refusal) (e : Refusal) → IsErrAnd r (λ x. x ≡ e) → number_of e ≡ first_broken rules → out (answered f r) s ≡ decide s rules accepted
+handed-on-out f s rules accepted r e h n =
+    let p = err_from_is_err_and r h in
+    rw (p.1, p.2) (refused-out f s rules accepted e n)
 
-pub done-yes : (s : State) (rules : List Rule) {n : ℕ} {t u : State} → n ≡ first_broken rules → n ≡ 0 → t ≡ u → out (done_answer 0) t ≡ decide s rules (out done u)
-done-yes s rules {t = t} e h i = decide-yes s rules e h (ap (λ (a : Answer). out a t) done-accepted ∙ ap (out done) i)
+pub handed-on-answer : {A : Type 0} (f : A → Answer) (s : State) (rules : List Rule) (accepted : Out) (r : Result A Refusal) (e : Refusal) → IsErrAnd r (λ x. x ≡ e) → number_of e ≡ first_broken rules → answered f r ≡ (decide s rules accepted).answer
+handed-on-answer f s rules accepted r e h n =
+    let p = err_from_is_err_and r h in
+    rw (p.1, p.2) (refused-answer f s rules accepted e n)
+
+pub accepted-out : (s : State) (rules : List Rule) {x accepted : Out} → 0 ≡ first_broken rules → x ≡ accepted → x ≡ decide s rules accepted
+accepted-out s rules e i = decide-yes s rules e refl i
+
+pub accepted-answer : (s : State) (rules : List Rule) (left : State) {x a : Answer} → 0 ≡ first_broken rules → x ≡ a → x ≡ (decide s rules (out a left)).answer
+accepted-answer s rules left e i = answer-yes s rules left e refl i
 
 -- ---- calls that change nothing
 

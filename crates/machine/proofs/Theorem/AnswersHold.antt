@@ -9,7 +9,7 @@ use Rattle.page.specs.Page.{name, lock, byte, page_of, bytes_from, payload_at, p
 use Rattle.page.proofs.StorePlaceLaws.{store-room, place-lt}
 use Rattle.machine.specs.declared.Handle.{Handle}
 use Rattle.machine.specs.Machine.{page_number}
-use Rattle.machine.specs.Answers.{Answer, refused, payload, in_frames, in_store, number, frame, Out, cut}
+use Rattle.machine.specs.Answers.{Answer, refused, payload, in_frames, in_store, number, Out, cut}
 use Rattle.machine.specs.Calls.{show_call, peek_call, word_call, fix_call}
 use Rattle.machine.specs.History.{Point, accepted}
 use Rattle.machine.specs.Demand3.{at, of_handle, map_of, GivesPayload}

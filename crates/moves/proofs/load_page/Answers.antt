@@ -1,13 +1,8 @@
 -- `load_page` meets its contract: the parent's old word is read before the page is copied. Assumes nothing.
-use mathlib.Core.Path.{refl}
-use native.Mathlib.Omega.{arith}
+use Rattle.std.proofs.Common.{refl}
 use Rattle.moves.specs.MoveSteps.{renamed-put}
 use Rattle.moves.specs.InAndOut.{brought_in}
-use borrow.Author.Rules.{rules}
 use Rattle.moves.proofs.load_page.Goals as goal
-
-pub of-place-requires : goal.of-place-requires
-of-place-requires c = let p = c.requires.placeable in (omega (arith, p.store), omega (arith, p.page), p.pages)
 
 pub returns : goal.returns
 unfolding brought_in

@@ -1,8 +1,6 @@
 -- `naming::is_loadable` meets its contract. Assumes nothing.
-use borrow.Author.Rules.{rules}
-use Rattle.rules.specs.TestLaws.{call-no}
 use Rattle.naming.specs.NamedByTables.{loadable_by, loadable-empty}
-use mathlib.Core.Path.{sym, ◌∙◌}
+use Rattle.std.proofs.Common.{sym, ◌∙◌}
 use Rattle.naming.proofs.is_loadable.Goals as goal
 
 pub returns-then-not-has_word : goal.returns-then-not-has_word

@@ -1,7 +1,6 @@
 -- `pagepool::pool_find` meets its contract. Assumes nothing.
 use mathlib.Core.Path.{◌∙◌, ap}
 use Rattle.pagepool.specs.Structs.{found_of}
-use borrow.Author.Rules.{rules}
 use Rattle.pagepool.proofs.pool_find.Goals as goal
 
 pub returns : goal.returns

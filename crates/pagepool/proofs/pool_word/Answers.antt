@@ -1,7 +1,6 @@
 -- `pagepool::pool_word` meets its contract. Assumes nothing.
 use mathlib.Core.Path.{◌∙◌, ap}
 use Rattle.pagepool.specs.Structs.{named_of}
-use borrow.Author.Rules.{rules}
 use Rattle.pagepool.proofs.pool_word.Goals as goal
 
 pub returns : goal.returns

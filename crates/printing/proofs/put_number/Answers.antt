@@ -1,19 +1,28 @@
 -- `printing::put_number` meets its contract: a u16 has at most 5 digits. Assumes nothing.
-use Rattle.std.specs.Prelude.{◌+◌, ◌<◌, length, refl}
 use Rattle.std.proofs.Common.{arith}
-use Rattle.printing.specs.PrintingLaws.{few, none-put, put-after}
+use Rattle.std.proofs.lemmas.Result.{IfOk-at_ok}
+use Rattle.printing.specs.PrintingLaws.{few, number-put}
 use Rattle.printing.proofs.put_number.Goals as goal
 
-pub loop-i-init : goal.loop-i-init
-loop-i-init c =
-    let e = c.decimal-k.ensures in
-    (omega arith, few _ _ e.len c.ranges.n.fits, refl, none-put c.args.text.now c.args.at)
+pub unwrap-requires : goal.unwrap-requires
+unwrap-requires g c =
+    let five = few _ _ (rw c.from.ensures at c.decimal-count.ensures.len) c.ranges.n.fits in
+    c.try_extend_from_slice.ensures.variant.1 (omega (arith, five))
+
+pub push-requires : goal.push-requires
+push-requires g c =
+    let five = few _ _ (rw c.from.ensures at c.decimal-count.ensures.len) c.ranges.n.fits in
+    let size = IfOk-at_ok _ c.unwrap.ensures c.try_extend_from_slice.ensures.len in
+    (omega arith, omega (arith, five, size))
+
+pub returns-clause-size : goal.returns-clause-size
+returns-clause-size g c =
+    let five = few _ _ (rw c.from.ensures at c.decimal-count.ensures.len) c.ranges.n.fits in
+    let size = IfOk-at_ok _ c.unwrap.ensures c.try_extend_from_slice.ensures.len in
+    omega (arith, five, size)
 
 pub returns-clause-text_after : goal.returns-clause-text_after
-returns-clause-text_after c =
-    let e = c.decimal-k.ensures in
-    let l = c.loop-i in
-    let a = c.args in
-    let k = c.decimal-k.result in
-    let h : a.at + k < length l.text = omega arith in
-    put-after l.text a.text.now _ a.at a.n k l.i a.after h l.invariant.0 c.loop-i-test.false c.ranges.n.fits e.len e.digits l.invariant.3
+returns-clause-text_after g c =
+    let e = c.decimal-count.ensures in
+    let put = IfOk-at_ok _ c.unwrap.ensures c.try_extend_from_slice.ensures.ok in
+    number-put _ _ _ _ c.ranges.n.fits (rw c.from.ensures at e.len) (rw c.from.ensures at e.digits) put c.push.ensures.items

@@ -1,17 +1,12 @@
 -- `recording::list_record` meets its contract: rule 17, and then the call by its number. Assumes nothing.
-use Prim.Native.Nat.{ℕ}
-use mathlib.Core.Path.{◌≡◌, ◌∙◌, ap}
-use mathlib.Core.Bool.{true}
-use mathlib.Core.List.{List}
-use borrow.Author.Rules.{rules}
-use Rattle.rules.specs.TestLaws.{call-no, call-yes}
-use Rattle.machine.specs.Machine.{State, state}
+use Rattle.std.proofs.Common.{ℕ, ◌≡◌, ◌∙◌, ap, List, true}
+use Rattle.machine.specs.Machine.{State}
 use Rattle.machine.specs.Answers.{refused}
 use Rattle.machine.specs.History.{Call, row}
+use Rattle.recording.specs.CallNumbers.{number_of_call}
 use Rattle.recording.specs.Listing.{call_of, rule17, listed}
 use Rattle.recording.specs.Lines.{line_for, listed_out}
-use Rattle.recording.proofs.ListingLaws.{line-listed, record-refused, record-runs, Fields, fields-of, last-call, is-root, is-fix, is-unfix, is-write, is-link, is-unlink, is-evict, is-settle, is-find}
-use mathlib.Core.Path.{sym}
+use Rattle.recording.proofs.ListingLaws.{line-listed, record-refused, record-runs, fields-of, is-root, is-fix, is-unfix, is-write, is-link, is-unlink, is-evict, is-settle, is-find}
 use Rattle.recording.proofs.list_record.Goals as goal
 
 -- past rule 17 the call's line is the record's
@@ -19,45 +14,36 @@ runs : (s : State) (es : List ℕ) (k : Call) → (rule17 es).1 ≡ true → cal
 runs s es k kept e = ap (listed_out es) (record-runs s es k kept e)
 
 -- no call: 17
-pub returns-then-not-is_call : goal.returns-then-not-is_call
+pub returns-in-Err : goal.returns-in-Err
 unfolding line_for
-returns-then-not-is_call c = line-listed c.args.entry.now (refused 17) _ c.bare.ensures (record-refused (state c.args.pool c.args.frames.now c.args.store.now c.args.directory.now) c.args.entry.now (sym c.is_call.ensures ∙ c.if-not-is_call.true))
+returns-in-Err c = line-listed c.args.entry.now (refused 17) (rw c.in-Err.ensures.0 at c.refused.ensures) (record-refused _ c.args.entry.now c.in-Err.ensures.1)
 
 pub write-requires : goal.write-requires
-write-requires c = ((fields-of c.args.entry.now (sym c.is_call.ensures ∙ c.if-not-is_call.false))).short
+write-requires c = (fields-of c.args.entry.now c.in-Ok.ensures.0).short
 
--- root
-pub returns-in-1 : goal.returns-in-1
-returns-in-1 c = c.root.ensures ∙ runs _ c.args.entry.now _ (sym c.is_call.ensures ∙ c.if-not-is_call.false) (is-root _ c.in-1.is)
+pub returns-in-Root : goal.returns-in-Root
+returns-in-Root c = c.root.ensures ∙ runs _ c.args.entry.now _ c.in-Ok.ensures.0 (is-root _ (c.in-Ok.ensures.1 ∙ ap number_of_call c.in-Root.is))
 
--- fix
-pub returns-in-2 : goal.returns-in-2
-returns-in-2 c = c.fix.ensures ∙ runs _ c.args.entry.now _ (sym c.is_call.ensures ∙ c.if-not-is_call.false) (is-fix _ c.in-2.is)
+pub returns-in-Fix : goal.returns-in-Fix
+returns-in-Fix c = c.fix.ensures ∙ runs _ c.args.entry.now _ c.in-Ok.ensures.0 (is-fix _ (c.in-Ok.ensures.1 ∙ ap number_of_call c.in-Fix.is))
 
--- unfix
-pub returns-in-3 : goal.returns-in-3
-returns-in-3 c = c.unfix.ensures ∙ runs _ c.args.entry.now _ (sym c.is_call.ensures ∙ c.if-not-is_call.false) (is-unfix _ c.in-3.is)
+pub returns-in-Unfix : goal.returns-in-Unfix
+returns-in-Unfix c = c.unfix.ensures ∙ runs _ c.args.entry.now _ c.in-Ok.ensures.0 (is-unfix _ (c.in-Ok.ensures.1 ∙ ap number_of_call c.in-Unfix.is))
 
--- write
-pub returns-in-4 : goal.returns-in-4
-returns-in-4 c = c.write.ensures ∙ runs _ c.args.entry.now _ (sym c.is_call.ensures ∙ c.if-not-is_call.false) (is-write _ c.in-4.is)
+pub returns-in-Write : goal.returns-in-Write
+returns-in-Write c = c.write.ensures ∙ runs _ c.args.entry.now _ c.in-Ok.ensures.0 (is-write _ (c.in-Ok.ensures.1 ∙ ap number_of_call c.in-Write.is))
 
--- link
-pub returns-in-5 : goal.returns-in-5
-returns-in-5 c = c.link.ensures ∙ runs _ c.args.entry.now _ (sym c.is_call.ensures ∙ c.if-not-is_call.false) (is-link _ c.in-5.is)
+pub returns-in-Link : goal.returns-in-Link
+returns-in-Link c = c.link.ensures ∙ runs _ c.args.entry.now _ c.in-Ok.ensures.0 (is-link _ (c.in-Ok.ensures.1 ∙ ap number_of_call c.in-Link.is))
 
--- unlink
-pub returns-in-6 : goal.returns-in-6
-returns-in-6 c = c.unlink.ensures ∙ runs _ c.args.entry.now _ (sym c.is_call.ensures ∙ c.if-not-is_call.false) (is-unlink _ c.in-6.is)
+pub returns-in-Unlink : goal.returns-in-Unlink
+returns-in-Unlink c = c.unlink.ensures ∙ runs _ c.args.entry.now _ c.in-Ok.ensures.0 (is-unlink _ (c.in-Ok.ensures.1 ∙ ap number_of_call c.in-Unlink.is))
 
--- evict
-pub returns-in-7 : goal.returns-in-7
-returns-in-7 c = c.evict.ensures ∙ runs _ c.args.entry.now _ (sym c.is_call.ensures ∙ c.if-not-is_call.false) (is-evict _ c.in-7.is)
+pub returns-in-Evict : goal.returns-in-Evict
+returns-in-Evict c = c.evict.ensures ∙ runs _ c.args.entry.now _ c.in-Ok.ensures.0 (is-evict _ (c.in-Ok.ensures.1 ∙ ap number_of_call c.in-Evict.is))
 
--- settle
-pub returns-in-8 : goal.returns-in-8
-returns-in-8 c = c.settle.ensures ∙ runs _ c.args.entry.now _ (sym c.is_call.ensures ∙ c.if-not-is_call.false) (is-settle _ c.in-8.is)
+pub returns-in-Settle : goal.returns-in-Settle
+returns-in-Settle c = c.settle.ensures ∙ runs _ c.args.entry.now _ c.in-Ok.ensures.0 (is-settle _ (c.in-Ok.ensures.1 ∙ ap number_of_call c.in-Settle.is))
 
--- find
-pub returns-in_default : goal.returns-in_default
-returns-in_default c = c.find.ensures ∙ runs _ c.args.entry.now _ (sym c.is_call.ensures ∙ c.if-not-is_call.false) (is-find _ (last-call _ (fields-of c.args.entry.now (sym c.is_call.ensures ∙ c.if-not-is_call.false)) c.in_default.in_default-own.rest))
+pub returns-in-Find : goal.returns-in-Find
+returns-in-Find c = c.find.ensures ∙ runs _ c.args.entry.now _ c.in-Ok.ensures.0 (is-find _ (c.in-Ok.ensures.1 ∙ ap number_of_call c.in-Find.is))

@@ -1,13 +1,7 @@
 -- `scan::first_empty` meets its contract. The loop's invariant: the first empty frame is the first from `frame` on, of those not passed yet. Assumes nothing.
-use Prim.Native.Nat.{ℕ, suc, ◌≤◌, ◌<◌, ◌-◌, ◌+◌}
-use mathlib.Core.Path.{◌≡◌, refl, sym, ◌∙◌}
-use mathlib.Core.Bool.{true, false}
-use mathlib.Core.List.{List}
-use native.Mathlib.Omega.{arith}
-use native.Mathlib.Nat.{sub-zero}
-use borrow.Author.Rules.{rules}
+use Rattle.std.proofs.Common.{ℕ, suc, ◌+◌, ◌-◌, ◌<◌, ◌≤◌, ◌≡◌, refl, sym, ◌∙◌, true, false, List, arith}
 use Rattle.page.specs.declared.FrameIndex.{FrameIndex}
-use Rattle.rules.specs.TestLaws.{call-no, call-yes, pick_yes, pick_no}
+use Rattle.rules.specs.TestLaws.{pick_yes, pick_no}
 use Rattle.machine.specs.Machine.{frame_index}
 use Rattle.machine.specs.Sweep.{after}
 use Rattle.residents.specs.Residents.{holds_page}
@@ -27,16 +21,13 @@ module _ (residents : List ℕ) (n i h : ℕ) where
   unfolding empty_by
   past l = let s : n - i ≡ 0 = omega arith in rw s
 
-pub loop-passed-init : goal.loop-passed-init
-loop-passed-init c = (omega arith, omega arith, rw sub-zero)
-
 -- this frame is empty
 pub returns-then-not-holds_page : goal.returns-then-not-holds_page
-returns-then-not-holds_page c = sym (c.loop-passed.invariant.2 ∙ here _ _ _ _ c.loop-passed-test.true (sym c.holds_page.ensures ∙ c.if-not-holds_page.true))
+returns-then-not-holds_page c = (c.loop-passed.invariant.0, c.loop-passed.invariant.1 ∙ here _ _ _ _ c.loop-passed-test.true (sym c.holds_page.ensures ∙ c.if-not-holds_page.true))
 
 pub loop-passed-preserved : goal.loop-passed-preserved
-loop-passed-preserved c = (omega arith, c.next_frame-frame.ensures.1, c.loop-passed.invariant.2 ∙ on _ _ _ _ _ c.loop-passed-test.true (sym c.holds_page.ensures ∙ c.if-not-holds_page.false) c.next_frame-frame.ensures.0)
+loop-passed-preserved c = (c.next_frame-frame.ensures.1, c.loop-passed.invariant.1 ∙ on _ _ _ _ _ c.loop-passed-test.true (sym c.holds_page.ensures ∙ c.if-not-holds_page.false) c.next_frame-frame.ensures.0)
 
 -- none is
 pub returns : goal.returns
-returns c = sym (c.loop-passed.invariant.2 ∙ past _ _ _ _ c.loop-passed-test.false)
+returns c = c.loop-passed.invariant.1 ∙ past _ _ _ _ c.loop-passed-test.false

@@ -6,7 +6,7 @@ use Rattle.workload.proofs.Blocks.{Reached}
 use Rattle.workload.proofs.run_all.Given as goal
 
 abbrev pub invariant-loop-left : goal.invariant-loop-left
-invariant-loop-left g l = (l.left ≤ l.count) × Reached (state l.initial.turn.pool l.initial.frames l.initial.store l.initial.directory) l.initial.turn.generator (l.count - l.left) (summed (state l.turn.pool l.frames l.store l.directory) l.turn.generator l.turn.sum)
+invariant-loop-left g l = (l.left ≤ l.count) × Reached (state l.initial.run.pool l.initial.frames l.initial.store l.initial.directory) l.initial.run.generator (l.count - l.left) (summed (state l.run.pool l.frames l.store l.directory) l.run.generator l.run.sum)
 
 abbrev pub decreases-loop-left : goal.decreases-loop-left
 decreases-loop-left g l = l.left

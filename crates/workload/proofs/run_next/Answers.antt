@@ -6,4 +6,7 @@ use Rattle.workload.proofs.run_next.Goals as goal
 pub returns : goal.returns
 returns g c =
     let a = c.args in
-    block-summed a.count (state a.turn.pool a.frames.now a.store.now a.directory.now) a.turn.generator a.turn.sum c.run_records-run.ensures.generator_after c.add-sum.ensures
+    let run = a.run.now in
+    let records = rw (c.new-entries.ensures, c.new-text.ensures) at c.run_records.ensures in
+    let sum = rw (c.replace-so_far.ensures.value, c.as_slice.ensures.value) at c.add-run.ensures in
+    block-summed a.count (state run.pool a.frames.now a.store.now a.directory.now) run.generator run.sum records sum

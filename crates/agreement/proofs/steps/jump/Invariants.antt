@@ -1,10 +1,6 @@
-use Prim.Native.Nat.{◌≤◌, ◌-◌}
 use Rattle.rules.specs.Deciding.{Decides}
 use Rattle.agreement.specs.ParentSteps.{AtRoot, Jumped}
 use Rattle.agreement.proofs.steps.jump.Given as goal
 
 abbrev pub invariant-loop-f : goal.invariant-loop-f
-invariant-loop-f l = (l.f ≤ l.count) × Jumped l.count l.initial.table l.table l.f × Decides l.at_root (AtRoot l.f l.table)
-
-abbrev pub decreases-loop-f : goal.decreases-loop-f
-decreases-loop-f l = l.count - l.f
+invariant-loop-f l = Jumped l.count l.initial.table l.table l.f × Decides l.at_root (AtRoot l.f l.table)

@@ -1,26 +1,19 @@
--- `contents::part::part_at` meets its contract: in the store, in the frames. Assumes nothing.
-use native.Mathlib.Omega.{arith}
-use Rattle.rules.specs.TestLaws.{case, on, off}
-use Rattle.machine.specs.Answers.{lent}
-use Rattle.contents.specs.Places.{handed-part}
-use borrow.Author.Rules.{rules}
+-- `contents::part::part_at` meets its contract: in the store, in the frames, and refused. Assumes nothing.
+use Rattle.std.proofs.Common.{◌≡◌, ◌+◌, arith}
+use Rattle.page.specs.Page.{bytes_from}
+use Rattle.machine.specs.Answers.{lent, cut}
+use Rattle.contents.specs.Places.{cut-part}
 use Rattle.contents.proofs.part.part_at.Goals as goal
+use Rattle.contents.proofs.part.part_at.Goals.{then-payload, else-payload}
 
-pub overflow_add-end : goal.overflow_add-end
-overflow_add-end c =
-    elim (case c.args.place.in_store) [
-      | on e ↦ omega (arith, c.requires.store e)
-      | off e ↦ omega (arith, c.requires.frames e)
-    ]
+pub returns-after-payload : goal.returns-after-payload
+returns-after-payload c = elim c.if-payload.branch [
+  | then-payload w ↦ rw (w.buffer-is, c.in-Ok.is, w.if-payload.true, cut-part (lent c.args.store) c.in-Ok.payload.start c.in-Ok.payload.size)
+  | else-payload w ↦ rw (w.buffer-is, c.in-Ok.is, w.if-payload.false, cut-part (lent c.args.frames) c.in-Ok.payload.start c.in-Ok.payload.size)
+]
 
-pub slice_bounds-result-end : goal.slice_bounds-result-end
-slice_bounds-result-end c = c.requires.store c.if-place.true
-
-pub returns-then-place : goal.returns-then-place
-returns-then-place c = handed-part (lent c.args.frames) (lent c.args.store) c.args.place c.if-place.true
-
-pub slice_bounds-result-end-2 : goal.slice_bounds-result-end-2
-slice_bounds-result-end-2 c = c.requires.frames c.if-place.false
-
-pub returns : goal.returns
-returns c = handed-part (lent c.args.frames) (lent c.args.store) c.args.place c.if-place.false
+pub returns-in-Err : goal.returns-in-Err
+unfolding cut bytes_from
+returns-in-Err c =
+    let z : 0 + c.args.frames.ref_ptr.1 ≡ c.args.frames.ref_ptr.1 = omega arith in
+    rw (c.in-Err.is, c.number.ensures, z)

@@ -1,5 +1,5 @@
 -- `counting::refusal::sizes_fit` meets its contract: the tests of rule 1. Assumes nothing.
-use native.Mathlib.Omega.{arith}
+use Rattle.std.proofs.Common.{arith}
 use Rattle.counting.specs.RefusalLaws.{other-counters, too_short, too_long, room-decides}
 use Rattle.counting.proofs.refusal.sizes_fit.Goals as goal
 

@@ -1,10 +1,9 @@
 -- `imaged_word` meets its contract: bit 31 of the word tells what it names. Assumes nothing.
-use mathlib.Core.Path.{sym, ap, ◌∙◌}
+use Rattle.std.proofs.Common.{sym, ap, ◌∙◌}
 use Rattle.page.specs.Word.{renamed, frame_in, number-yes, number-no}
 use Rattle.page.proofs.NameLaws.{number-as-word}
 use Rattle.machine.proofs.Laws.PlainLaws.{imaged-low, plain-swizzled}
 use Rattle.residents.specs.Residents.{page_by}
-use borrow.Author.Rules.{rules}
 use Rattle.moves.proofs.image.imaged_word.Goals as goal
 
 -- it names no frame

@@ -1,17 +1,10 @@
 -- `put_image` meets its contract: before slot k the words are those of the image. Assumes nothing.
-use borrow.Author.Rules.{rules}
-use Prim.Native.Nat.{ℕ, ◌≤◌, ◌<◌, ◌-◌, ◌+◌, ◌*◌}
-use mathlib.Core.Path.{◌≡◌, sym, ap, ◌∙◌}
-use mathlib.Core.List.{List}
-use native.Mathlib.Omega.{arith}
-use native.Mathlib.Numerals.{add-one}
-use lib.ListN.{length}
-use Rattle.page.specs.Figures.{page_size, slot_count, word_size, most_frames}
+use Rattle.std.proofs.Common.{ℕ, ◌+◌, ◌*◌, ◌<◌, ◌≡◌, sym, ◌∙◌, List, add-one}
+use Rattle.page.specs.Figures.{slot_count, word_size, most_frames}
 use Rattle.page.specs.Word.{word_at, name_of, put_word, put_word-length, frame_word}
 use Rattle.page.specs.Page.{slot-first, put_slot-first}
 use Rattle.machine.specs.Moves.{imaged, image_to}
 use Rattle.machine.proofs.Laws.MoveLaws.{image-suc, image-zero}
-use Rattle.residents.specs.Residents.{page_by}
 use Rattle.moves.specs.WriteOut.{Named}
 use Rattle.moves.proofs.image.put_image.Goals as goal
 
@@ -24,17 +17,13 @@ named : (g : List ℕ) (k o : ℕ) → k < slot_count → Named g 0 → o ≡ wo
 named g k o l h ho = rw (ho, ← slot-first g k) (h k l)
 
 pub loop-k-init : goal.loop-k-init
-loop-k-init c = (omega arith, omega arith, c.copy_into.ensures.0 ∙ sym (image-zero _ _))
+loop-k-init c = (c.copy_from_slice.ensures.len ∙ c.requires.0, c.copy_from_slice.ensures.after ∙ sym (image-zero _ _))
 
 pub imaged_word-requires : goal.imaged_word-requires
 imaged_word-requires c = named _ _ _ c.loop-k-test.true c.requires.2 c.word_at-w.ensures
 
 pub loop-k-preserved : goal.loop-k-preserved
 loop-k-preserved c = (
-  omega arith,
-  rw c.put_word.ensures (put_word-length _ _ _ ∙ c.loop-k.invariant.1),
-  step _ _ _ _ _ _ _ c.loop-k.invariant.2 c.word_at-w.ensures c.imaged_word.ensures c.put_word.ensures,
+  rw c.put_word.ensures (put_word-length _ _ _ ∙ c.loop-k.invariant.0),
+  step _ _ _ _ _ _ _ c.loop-k.invariant.1 c.word_at-w.ensures c.imaged_word.ensures c.put_word.ensures,
 )
-
-pub returns : goal.returns
-returns c = let k : c.loop-k.k ≡ slot_count = omega arith in c.loop-k.invariant.2 ∙ ap (image_to _ _) k

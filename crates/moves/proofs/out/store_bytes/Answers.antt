@@ -1,8 +1,7 @@
 -- `store_bytes` meets its contract: what was copied is the page, its own image. Assumes nothing.
-use mathlib.Core.Path.{sym, ap, ◌∙◌}
+use Rattle.std.proofs.Common.{sym, ap, ◌∙◌}
 use Rattle.page.specs.Page.{put_page}
 use Rattle.moves.specs.MoveSteps.{own-image}
-use borrow.Author.Rules.{rules}
 use Rattle.moves.proofs.out.store_bytes.Goals as goal
 
 pub returns : goal.returns

@@ -1,17 +1,11 @@
 -- `naming::stored::in_store` meets its contract: no page passed that is in no frame has w. Assumes nothing.
-use borrow.Author.Rules.{rules}
-use Prim.Native.Nat.{◌≤◌, ◌-◌}
-use mathlib.Core.Path.{◌≡◌, sym, ◌∙◌}
-use mathlib.Core.Bool.{false}
-use mathlib.Core.Logic.{⊎_elim}
-use native.Mathlib.Omega.{arith}
-use Rattle.rules.specs.TestLaws.{call-yes, call-no}
-use Rattle.naming.specs.Stored.{in_store, in-no-page, in-page, pass-other, pass-resident}
+use Rattle.std.proofs.Common.{sym, ◌∙◌, arith}
+use Rattle.naming.specs.Stored.{in-no-page, in-page, pass-other, pass-resident}
 use Rattle.naming.proofs.stored.in_store.Goals as goal
 use Rattle.naming.proofs.stored.in_store.Goals.{then-has+else-not-is_resident, else-has}
 
 pub loop-p-init : goal.loop-p-init
-loop-p-init c = (omega arith, in-no-page _ _ _ _ _)
+loop-p-init c = in-no-page _ _ _ _ _
 
 -- a page in no frame has it
 pub returns-then-not-is_resident : goal.returns-then-not-is_resident
@@ -20,17 +14,7 @@ returns-then-not-is_resident c =
     (sym (rw (c.start-at.ensures, c.of.ensures) at c.has.ensures) ∙ c.if-has.true) (sym c.is_resident.ensures ∙ c.if-not-is_resident.true))
 
 pub loop-p-preserved : goal.loop-p-preserved
-loop-p-preserved c = (
-  omega arith,
-  elim c.if-has.branch [
-    | then-has+else-not-is_resident w ↦ pass-resident _ _ _ _ _ _ (sym w.is_resident.ensures ∙ w.if-not-is_resident.false)
-    | else-has w ↦ pass-other _ _ _ _ _ _ (sym (rw (c.start-at.ensures, c.of.ensures) at c.has.ensures) ∙ w.if-has.false)
-  ]
-      ∙ c.loop-p.invariant.1,
-)
-
--- none has
-pub returns : goal.returns
-returns c =
-    let e : c.loop-p.p ≡ c.args.n = omega arith in
-    sym (rw e at c.loop-p.invariant.1)
+loop-p-preserved c = elim c.if-has.branch [
+  | then-has+else-not-is_resident w ↦ pass-resident _ _ _ _ _ _ (sym w.is_resident.ensures ∙ w.if-not-is_resident.false)
+  | else-has w ↦ pass-other _ _ _ _ _ _ (sym (rw (c.start-at.ensures, c.of.ensures) at c.has.ensures) ∙ w.if-has.false)
+] ∙ c.loop-p.invariant

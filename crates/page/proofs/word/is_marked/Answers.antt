@@ -1,6 +1,5 @@
 -- `page::word::is_marked` meets its contract. Assumes nothing.
-use mathlib.Core.Path.{sym}
-use native.Mathlib.Omega.{arith}
+use Rattle.std.proofs.Common.{arith, sym}
 use Rattle.page.proofs.NameLaws.{unmarked-low, mark-above}
 use Rattle.page.proofs.word.is_marked.Goals as goal
 

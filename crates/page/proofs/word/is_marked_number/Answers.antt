@@ -1,6 +1,5 @@
 -- `page::word::is_marked_number` meets its contract. Assumes nothing.
-use mathlib.Core.Path.{sym}
-use native.Mathlib.Omega.{arith}
+use Rattle.std.proofs.Common.{arith, sym}
 use Rattle.page.proofs.NameLaws.{marked-number, marked-no-number}
 use Rattle.page.proofs.word.is_marked_number.Goals as goal
 

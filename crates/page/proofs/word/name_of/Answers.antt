@@ -1,8 +1,6 @@
 -- `page::word::name_of` meets its contract. Assumes nothing.
-use mathlib.Core.Path.{sym, ◌∙◌}
-use native.Mathlib.Omega.{arith}
+use Rattle.std.proofs.Common.{arith, sym, ◌∙◌}
 use Rattle.page.proofs.NameLaws.{marked-name, unmarked-name}
-use borrow.Author.Rules.{rules}
 use Rattle.page.proofs.word.name_of.Goals as goal
 
 pub overflow_sub-result : goal.overflow_sub-result

@@ -1,7 +1,6 @@
 -- `recording::calls::link` meets its contract. Assumes nothing.
 use Rattle.recording.proofs.ListingLaws.{line-listed}
-use borrow.Author.Rules.{rules}
 use Rattle.recording.proofs.calls.link.Goals as goal
 
 pub returns : goal.returns
-returns c = line-listed _ _ _ c.of_done.ensures (rw (c.parent-parent.ensures, c.slot-slot.ensures, c.page-page.ensures) at c.link.ensures)
+returns c = line-listed _ _ c.of_done.ensures (rw (c.parent-parent.ensures, c.slot-slot.ensures, c.page-page.ensures) at c.link-answer.ensures)

@@ -1,7 +1,6 @@
 -- `recording::calls::root` meets its contract. Assumes nothing.
 use Rattle.recording.proofs.ListingLaws.{line-listed}
-use borrow.Author.Rules.{rules}
 use Rattle.recording.proofs.calls.root.Goals as goal
 
 pub returns : goal.returns
-returns c = line-listed _ _ _ c.of_fix.ensures c.root.ensures
+returns c = line-listed _ _ c.of_fix.ensures c.root.ensures

@@ -1,7 +1,6 @@
 -- `recording::calls::unfix` meets its contract. Assumes nothing.
 use Rattle.recording.proofs.ListingLaws.{line-listed}
-use borrow.Author.Rules.{rules}
 use Rattle.recording.proofs.calls.unfix.Goals as goal
 
 pub returns : goal.returns
-returns c = line-listed _ _ _ c.of_done.ensures (rw c.handle-handle.ensures at c.unfix.ensures)
+returns c = line-listed _ _ c.of_done.ensures (rw c.handle-handle.ensures at c.unfix.ensures)

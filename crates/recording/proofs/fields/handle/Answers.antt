@@ -1,5 +1,4 @@
 -- `recording::fields::handle` meets its contract. Assumes nothing.
-use borrow.Author.Rules.{rules}
 use Rattle.recording.proofs.fields.handle.Goals as goal
 
 pub returns : goal.returns

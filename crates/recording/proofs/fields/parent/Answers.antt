@@ -1,5 +1,4 @@
 -- `recording::fields::parent` meets its contract. Assumes nothing.
-use borrow.Author.Rules.{rules}
 use Rattle.recording.proofs.fields.parent.Goals as goal
 
 pub returns : goal.returns

@@ -1,8 +1,11 @@
 -- `recording::lines::of_done` meets its contract. Assumes nothing.
-use mathlib.Core.Path.{◌∙◌}
-use Rattle.recording.proofs.ListingLaws.{done-line}
-use borrow.Author.Rules.{rules}
+use Rattle.recording.specs.Lines.{line_for}
 use Rattle.recording.proofs.lines.of_done.Goals as goal
 
-pub returns : goal.returns
-returns c = c.bare.ensures ∙ done-line _ _ _
+pub returns-in-Ok : goal.returns-in-Ok
+unfolding line_for
+returns-in-Ok c = rw c.in-Ok.is c.bare.ensures
+
+pub returns-in-Err : goal.returns-in-Err
+unfolding line_for
+returns-in-Err c = rw c.in-Err.is c.refused.ensures

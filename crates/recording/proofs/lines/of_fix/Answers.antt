@@ -1,12 +1,11 @@
--- `recording::lines::of_fix` meets its contract: a handle, or a refusal. Assumes nothing.
+-- `recording::lines::of_fix` meets its contract. Assumes nothing.
 use Rattle.recording.specs.Lines.{line_for}
-use borrow.Author.Rules.{rules}
 use Rattle.recording.proofs.lines.of_fix.Goals as goal
 
-pub returns-in-Fixed : goal.returns-in-Fixed
+pub returns-in-Ok : goal.returns-in-Ok
 unfolding line_for
-returns-in-Fixed c = rw c.in-Fixed.is c.placed.ensures
+returns-in-Ok c = rw c.in-Ok.is c.placed.ensures
 
-pub returns-in-Refused : goal.returns-in-Refused
+pub returns-in-Err : goal.returns-in-Err
 unfolding line_for
-returns-in-Refused c = rw c.in-Refused.is c.bare.ensures
+returns-in-Err c = rw c.in-Err.is c.refused.ensures

@@ -1,5 +1,4 @@
 -- `seen::words::has_word` meets its contract. Assumes nothing.
-use borrow.Author.Rules.{rules}
 use Rattle.seen.specs.Among.{has_word}
 use Rattle.seen.proofs.words.has_word.Goals as goal
 

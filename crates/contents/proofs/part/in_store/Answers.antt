@@ -1,6 +1,0 @@
--- `contents::part::in_store` meets its contract. Assumes nothing.
-use borrow.Author.Rules.{rules}
-use Rattle.contents.proofs.part.in_store.Goals as goal
-
-pub returns : goal.returns
-returns c = rw c.start.ensures

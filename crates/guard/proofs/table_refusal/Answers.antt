@@ -1,7 +1,0 @@
--- `guard::table_refusal` meets its contract. Assumes nothing.
-use Rattle.guard.specs.Held.{number-tested}
-use borrow.Author.Rules.{rules}
-use Rattle.guard.proofs.table_refusal.Goals as goal
-
-pub returns : goal.returns
-returns c = (number-tested c.table_tested.ensures.0, c.table_tested.ensures.1)

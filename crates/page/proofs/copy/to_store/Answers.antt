@@ -1,6 +1,0 @@
--- `page::copy::to_store` meets its contract. Assumes nothing.
-use borrow.Author.Rules.{rules}
-use Rattle.page.proofs.copy.to_store.Goals as goal
-
-pub returns : goal.returns
-returns c = rw (c.from_u16.ensures, c.from_u8.ensures) at c.copy_page.ensures

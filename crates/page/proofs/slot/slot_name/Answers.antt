@@ -1,8 +1,0 @@
--- `page::slot::slot_name` meets its contract. Assumes nothing.
-use mathlib.Core.Path.{◌∙◌, ap}
-use Rattle.page.specs.Word.{name_of}
-use borrow.Author.Rules.{rules}
-use Rattle.page.proofs.slot.slot_name.Goals as goal
-
-pub returns : goal.returns
-returns c = c.name_of.ensures ∙ ap name_of c.slot_word.ensures

@@ -1,0 +1,6 @@
+-- `pagepool::pool_link` meets its contract. Assumes nothing.
+use Rattle.pagepool.specs.StructLaws.{done-out}
+use Rattle.pagepool.proofs.pool_link.Goals as goal
+
+pub returns : goal.returns
+returns c = done-out _ _ _ _ _ c.from_done.ensures c.link-answer.ensures

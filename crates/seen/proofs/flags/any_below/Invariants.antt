@@ -1,0 +1,7 @@
+use Rattle.std.proofs.Common.{◌≡◌, ℕ, Bool}
+use Rattle.rules.specs.Tests.{some}
+use Rattle.seen.specs.Fold.{Tests}
+use Rattle.seen.proofs.flags.any_below.Given as goal
+
+abbrev pub invariant-loop-k : goal.invariant-loop-k
+invariant-loop-k g l = (t : ℕ → Bool) → Tests (goal.F-post g l.test) l.count t → l.hit ≡ some l.k t
