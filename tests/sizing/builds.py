@@ -8,7 +8,7 @@ import time
 from shared import Copy, compare
 
 # all that the command and the stand-ins call; flock may be missing
-TOOLS = ["bash", "cat", "chmod", "dirname", "flock", "mkdir", "rm", "sed", "sleep"]
+TOOLS = ["bash", "cat", "chmod", "dirname", "flock", "mkdir", "mv", "rm", "sed", "sleep"]
 # writes the archive where it is missing, says so, and fails where a file asks for it
 ARCHIVE = """#!/bin/bash
 cd "$(dirname "$0")"
@@ -21,14 +21,16 @@ echo "archive ends" >> log
 mkdir -p target/staticlib
 echo > target/staticlib/libpagepool.a
 """
-# makes a program that says what it was handed, where it finds the archive that is named
+# makes a program that says what it was handed, where it finds the archive that is named; puts it in its place whole, as cargo does, since
+# another use may be about to run the one that is there
 CARGO = """#!/bin/bash
 folder=$(dirname "$0")/..
 echo "cargo $*" | sed "s|$folder|.|g; s|/tools/\\.\\.||g" >> "$folder/log"
 [ -e "$POOL_ARCHIVES/libpagepool.a" ] || exit 1
 mkdir -p "$folder/target/cargo/release"
-printf '#!/bin/bash\\necho "$@"\\n' > "$folder/target/cargo/release/sizing"
-chmod +x "$folder/target/cargo/release/sizing"
+printf '#!/bin/bash\\necho "$@"\\n' > "$folder/target/cargo/release/sizing.$$"
+chmod +x "$folder/target/cargo/release/sizing.$$"
+mv -f "$folder/target/cargo/release/sizing.$$" "$folder/target/cargo/release/sizing"
 """
 BUILT = "cargo build --release --offline --locked --quiet --manifest-path {0}/hits/Cargo.toml --target-dir {0}/target/cargo"
 
