@@ -1,11 +1,8 @@
--- `Seen::mark_numbers` meets its contract: the numbers before that at the index are marked. Assumes nothing.
-use Rattle.std.proofs.Common.{refl, arith}
-use Rattle.seen.specs.Fold.{flag-and}
-use Rattle.seen.specs.SeenLaws.{marked-none, marked_more}
+-- `Seen::mark_numbers` meets its contract. Assumes nothing.
 use Rattle.seen.proofs.Seen.mark_numbers.Goals as goal
 
-pub loop-x-init : goal.loop-x-init
-loop-x-init c = marked-none _ _ _ _ (rw c.self.view_is at c.self.invariant)
+pub returns : goal.returns
+returns c = rw (← c.self.view_is) c.mark_numbers.ensures
 
-pub loop-x-preserved : goal.loop-x-preserved
-loop-x-preserved c = marked_more _ _ _ _ c.loop-x.x-index (omega arith) c.loop-x.self _ refl (λ n. c.requires.0 c.loop-x.x-index (omega arith)) _ _ c.note_alone-fresh.ensures _ _ (flag-and c.loop-x.fresh _) c.loop-x.invariant
+pub invariant_of-self : goal.invariant_of-self
+invariant_of-self c = c.mark_numbers.ensures.within.table c.self.invariant

@@ -1,7 +1,6 @@
-use Rattle.std.proofs.Common.{◌≡◌, ℕ, Bool}
-use Rattle.rules.specs.Tests.{some}
-use Rattle.seen.specs.Fold.{Tests}
+use Rattle.std.proofs.Common.{◌≡◌, ℕ, Bool, false}
+use Rattle.seen.specs.Fold.{fold, some_of, Tests}
 use Rattle.seen.proofs.flags.any_below.Given as goal
 
 abbrev pub invariant-loop-k : goal.invariant-loop-k
-invariant-loop-k g l = (t : ℕ → Bool) → Tests (goal.F-post g l.test) l.count t → l.hit ≡ some l.k t
+invariant-loop-k g l = (t : ℕ → Bool) → Tests (goal.F-post g l.test) l.count t → l.hit ≡ fold (some_of t) false l.k

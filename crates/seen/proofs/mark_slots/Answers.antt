@@ -1,7 +1,7 @@
--- `Seen::mark_slots` meets its contract: the first slots are marked, and then the others, unless they are all empty. Assumes nothing.
+-- `seen::mark_slots` meets its contract: the first slots are marked, and then the others, unless they are all empty. Assumes nothing.
 use Rattle.std.proofs.Common.{◌≡◌, arith}
 use Rattle.seen.specs.SeenLaws.{marks-false, marks-over, marks-to}
-use Rattle.seen.proofs.Seen.mark_slots.Goals as goal
+use Rattle.seen.proofs.mark_slots.Goals as goal
 
 -- a number in the first slots was noted before
 pub returns-in_err-k-clause-marked : goal.returns-in_err-k-clause-marked
