@@ -1,6 +1,6 @@
 -- The definition in steps, as loops take them. Assumes nothing.
-use Rattle.std.specs.Prelude.{◌≡◌, ℕ, zero, suc, ◌-◌, ◌*◌, ◌/◌, ◌%◌, ◌^◌, ◌<◌, ◌≤◌, List, ◌∷◌, bit_xor, refl}
-use Rattle.std.proofs.Common.{sym, ap, pow-suc, div-lt_iff_lt-mul, mod-eq_of_lt, sub-one, arith}
+use Rattle.std.specs.Prelude.{◌≡◌, ℕ, zero, suc, ◌+◌, ◌-◌, ◌*◌, ◌/◌, ◌%◌, ◌^◌, ◌<◌, ◌≤◌, List, ◌∷◌, length, drop, bit_xor, slice_index, refl}
+use Rattle.std.proofs.Common.{sym, ap, pow-suc, div-lt_iff_lt-mul, mod-eq_of_lt, add-one, sub-one, arith, drop_of_length-le, drop-cons}
 use Rattle.checksum.specs.Checksum.{shifted, shifted_out, with_byte, with_bytes, octets}
 
 -- ---- bits of a byte
@@ -18,6 +18,16 @@ pub none_out : (k c : ℕ) → k ≤ 0 → shifted_out k c ≡ c
 unfolding shifted_out
 none_out zero c h = refl
 none_out (suc k) c h = absurd (omega arith)
+
+-- ---- bytes of a list, from byte i on
+
+pub one_in : (c : ℕ) (bs : List ℕ) (i : ℕ) → i < length bs → with_bytes c (drop i bs) ≡ with_bytes (with_byte c (slice_index bs i)) (drop (i + 1) bs)
+unfolding with_bytes
+one_in c bs i h = rw (add-one i, drop-cons bs i 0)
+
+pub none_in : (c : ℕ) (bs : List ℕ) (i : ℕ) → length bs ≤ i → with_bytes c (drop i bs) ≡ c
+unfolding with_bytes
+none_in c bs i h = rw (drop_of_length-le bs h)
 
 -- ---- bytes of a number
 

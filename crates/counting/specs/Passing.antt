@@ -1,14 +1,15 @@
 -- What the loop over a recording keeps, and how it goes on by one reference. Assumes nothing.
 use Rattle.std.specs.Prelude.{ℕ, zero, suc, ◌+◌, ◌-◌, ◌*◌, ◌/◌, ◌%◌, ◌^◌, ◌<◌, ◌≤◌, ◌≡◌, refl, List, ◌∷◌, length, get_or, set, drop, replicate}
 use Rattle.std.proofs.Math.Path.{sym}
-use Rattle.std.proofs.Common.{ap, ◌∙◌, length-set, drop-cons, get_or-set_same, get_or-set_other, arith}
+use Rattle.std.proofs.Common.{ap, ◌∙◌, length-set, drop-cons, get_or-set_same, get_or-set_other, arith, eq-eqb, ne_eqb}
 use Rattle.std.proofs.Math.ListN.{get_or-eq_default}
 use Rattle.std.proofs.Math.Seq.{drop-length}
+use Rattle.std.specs.Int.Count.{ones}
 use Rattle.std.proofs.Math.Numerals.{add-one}
 use Rattle.std.proofs.Math.Decide.{ℕ_discrete, dec_lt}
 use Rattle.depths.specs.Depths.{depth, depths_after, depths, last_use}
 use Rattle.depths.specs.Tallying.{depth_count, one_counted, all_counted}
-use Rattle.depths.proofs.PageListLaws.{last-le}
+use Rattle.depths.proofs.PageListLaws.{picked, passed, last-le}
 use Rattle.depths.proofs.TallyLaws.{depth_le, length-counted}
 use Rattle.counting.specs.Marks.{lowered, mark, sum_of, lower_block, lower_count, raise_block, raise_count, table_depth, Tables, past}
 use Rattle.counting.specs.MarkLaws.{sum-zero, sum-suc, mark-last}
@@ -57,6 +58,49 @@ blocks-goes f s i x l e =
     let a : i + 1 - s ≡ suc (i - s) = omega arith in
     let d : s + (i - s) ≡ i = omega arith in
     rw (e, a) (sym (sum-suc f s (i - s) ∙ ap (λ (k : ℕ). sum_of f s (i - s) + f k) d))
+
+-- ---- what each step does, as the code has it
+
+pub no-depth : (b n : List ℕ) (s t : ℕ) → s ≡ 0 → 0 ≡ table_depth b n s t
+unfolding table_depth
+no-depth b n s t e = sym (picked 0 _ (eq-eqb s 0 e))
+
+pub some-depth : (b n : List ℕ) (s t near far : ℕ) → (s ≡ 0 → ⊥) → s ≤ t
+    → near ≡ ones (get_or b ((s - 1) / 64) 0 / 2 ^ ((s - 1) % 64) / 2 ^ 1)
+    → far ≡ sum_of (λ (k : ℕ). get_or n k 0) ((s - 1) / 64 + 1) (t / 64 + 1 - ((s - 1) / 64 + 1))
+    → near + far + 1 ≡ table_depth b n s t
+unfolding table_depth
+some-depth b n s t near far m l e f =
+    let a : t / 64 + 1 - ((s - 1) / 64 + 1) ≡ t / 64 - (s - 1) / 64 = omega arith in
+    rw (e, f, a) (sym (passed 0 _ (ne_eqb s 0 m)))
+
+pub none-counted : (c : List ℕ) (d : ℕ) → d ≡ 0 → c ≡ one_counted c d
+unfolding one_counted
+none-counted c d e = rw e
+
+pub one-counted : (c : List ℕ) (d : ℕ) → (d ≡ 0 → ⊥) → set c (d - 1) (get_or c (d - 1) 0 + 1) ≡ one_counted c d
+unfolding one_counted
+one-counted c zero n = absurd (n refl)
+one-counted c (suc k) n = let e : suc k - 1 ≡ k = omega arith in rw e
+
+module _ (b n : List ℕ) (s : ℕ) where
+  pub none-lowered : s ≡ 0 → (b ≡ lower_block b s) × (n ≡ lower_count n s)
+  unfolding lower_block lower_count
+  none-lowered e = (sym (picked b _ (eq-eqb s 0 e)), sym (picked n _ (eq-eqb s 0 e)))
+
+  pub one-lowered : (x : ℕ) → (s ≡ 0 → ⊥) → x ≡ 2 ^ ((s - 1) % 64)
+      → (set b ((s - 1) / 64) (get_or b ((s - 1) / 64) 0 - x) ≡ lower_block b s) × (set n ((s - 1) / 64) (get_or n ((s - 1) / 64) 0 - 1) ≡ lower_count n s)
+  unfolding lower_block lower_count
+  one-lowered x m e = (rw e (sym (passed b _ (ne_eqb s 0 m))), sym (passed n _ (ne_eqb s 0 m)))
+
+  pub one-raised : (x : ℕ) → x ≡ 2 ^ (s % 64)
+      → (set b (s / 64) (get_or b (s / 64) 0 + x) ≡ raise_block b s) × (set n (s / 64) (get_or n (s / 64) 0 + 1) ≡ raise_count n s)
+  unfolding raise_block raise_count
+  one-raised x e = (rw e, refl)
+
+pub mark-moved : (b n b₁ n₁ b₂ n₂ : List ℕ) (s t : ℕ) → b₁ ≡ lower_block b s → n₁ ≡ lower_count n s → b₂ ≡ raise_block b₁ t → n₂ ≡ raise_count n₁ t
+    → (b₂ ≡ raise_block (lower_block b s) t) × (n₂ ≡ raise_count (lower_count n s) t)
+mark-moved b n b₁ n₁ b₂ n₂ s t be ne bf nf = (bf ∙ ap (λ (x : List ℕ). raise_block x t) be, nf ∙ ap (λ (x : List ℕ). raise_count x t) ne)
 
 -- ---- the loop
 

@@ -1,7 +1,8 @@
 -- The rules of add as the code tests them, and what add, the share and the report then answer. Assumes nothing.
-use Rattle.std.specs.Prelude.{ℕ, ◌+◌, ◌*◌, ◌<◌, ◌≤◌, min, max, ◌≡◌, Bool, true, false, List, [], ◌∷◌, leb, ltb, length}
-use Rattle.std.proofs.Common.{refl, sym, ap, ◌∙◌, arith, eq-eqb, ne_eqb, le-leb}
+use Rattle.std.specs.Prelude.{ℕ, ◌+◌, ◌*◌, ◌<◌, ◌≤◌, min, max, ◌≡◌, Bool, true, false, List, [], ◌∷◌, leb, ltb, length, get_or, drop}
+use Rattle.std.proofs.Common.{refl, sym, ap, ◌∙◌, drop-cons, add-one, arith, eq-eqb, ne_eqb, le-leb}
 use Rattle.std.specs.List.{fold}
+use Rattle.std.proofs.Math.Seq.{drop-length}
 use Rattle.std.proofs.Math.Decide.{dec_lt}
 use Rattle.std.proofs.lemmas.Bool.{lt-leb}
 use Rattle.rules.specs.Tests.{◌and◌, first_broken}
@@ -50,6 +51,35 @@ module _ (t : Tally) (c : List ℕ) where
   sum-decides x e l s = and_yes (le-leb t.references (most_references * t.recordings) l) (ap (λ (n : ℕ). leb n t.references) (s ∙ within-whole depth_count c (omega arith)))
 
 -- ---- rule 6: the largest page decides
+
+-- of the first i pages, the largest is known
+pub record LargestOf (ps : List ℕ) (largest i : ℕ) : Type 0 where
+  pub low : largest ≤ last_page → pages_fit ps ≡ pages_fit (drop i ps)
+  pub high : last_page < largest → pages_fit ps ≡ false
+
+pub largest-start : (ps : List ℕ) → LargestOf ps 0 0
+largest-start ps = record { low = λ l. refl; high = λ l. absurd (omega arith) }
+
+module _ {ps : List ℕ} {largest i : ℕ} (p : LargestOf ps largest i) (l : i < length ps) where
+  page-here : pages_fit (drop i ps) ≡ (leb (get_or ps i 0) last_page and pages_fit (drop (i + 1) ps))
+  unfolding pages_fit
+  page-here = rw (drop-cons ps i 0 l, add-one i)
+
+  pub largest-goes : (x : ℕ) → x ≡ max largest (get_or ps i 0) → LargestOf ps x (i + 1)
+  largest-goes x e = record {
+    low = λ k. p.low (omega arith) ∙ page-here ∙ sym (and_yes (le-leb (get_or ps i 0) last_page (omega arith)) refl);
+    high = λ k. elim (dec_lt last_page largest) [
+      | yes h ↦ p.high h
+      | no h ↦ p.low (omega arith) ∙ page-here ∙ sym (and_no (pages_fit (drop (i + 1) ps)) (lt-leb (get_or ps i 0) last_page (omega arith)))
+    ];
+  }
+
+pub largest-all : {ps : List ℕ} {largest i : ℕ} → LargestOf ps largest i → i ≡ length ps → leb largest last_page ≡ pages_fit ps
+unfolding pages_fit
+largest-all {ps} {largest} {i} p e = elim (dec_lt last_page largest) [
+  | yes h ↦ lt-leb largest last_page h ∙ sym (p.high h)
+  | no h ↦ le-leb largest last_page (omega arith) ∙ sym (p.low (omega arith) ∙ (rw (e, drop-length)))
+]
 
 larger-decides : (p q : ℕ) (b : Bool) → (leb (max p q) last_page and b) ≡ (leb p last_page and (leb q last_page and b))
 unfolding ◌and◌

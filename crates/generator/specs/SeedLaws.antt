@@ -8,6 +8,16 @@ unfolding seed_read
 seed-nonzero zero e = omega arith
 seed-nonzero (suc s) e = omega arith
 
+pub seed-zero : (s : ℕ) → s ≡ 0 → 1 ≡ seed_read s
+unfolding seed_read
+seed-zero zero e = refl
+seed-zero (suc s) e = absurd (omega arith)
+
+pub seed-other : (s : ℕ) → s ≢ 0 → s ≡ seed_read s
+unfolding seed_read
+seed-other zero n = absurd (n refl)
+seed-other (suc s) n = refl
+
 -- as code reads it
 pub seed-largest : (s : ℕ) → max s 1 ≡ seed_read s
 unfolding seed_read
