@@ -1,6 +1,6 @@
 -- What calls share. No broken rule, as a record of facts; rules that code tests in parts; and what a call answers and leaves, by the refusal's number. Assumes nothing.
 use Rattle.std.specs.Prelude.{ℕ, ◌<◌, ◌≡◌, refl, true, false, not, List, [], ◌∷◌, ◌++◌, Result, Err, IsErrAnd, eqb, ltb}
-use Rattle.std.proofs.Common.{◌∙◌, ap, eqb-true, ltb-true}
+use Rattle.std.proofs.Common.{sym, ◌∙◌, ap, eqb-true, ltb-true}
 use Rattle.std.proofs.lemmas.Bool.{not-true}
 use Rattle.std.proofs.lemmas.Result.{err_from_is_err_and}
 use Rattle.page.specs.declared.PageNumber.{PageNumber}
@@ -13,7 +13,7 @@ use Rattle.rules.specs.Tests.{◌and◌, Rule, first_broken, verdict}
 use Rattle.rules.specs.TestLaws.{and-true, first-kept, pick-either, verdict-no, verdict-yes, numbered, broken-then, parts-kept}
 use Rattle.machine.specs.Machine.{State, is_used, record_at, page_in, store_in, occupied}
 use Rattle.machine.proofs.Laws.AgreementFacts.{make-occupied}
-use Rattle.machine.specs.Answers.{Answer, refused, answered, Out, out}
+use Rattle.machine.specs.Answers.{Answer, refused, done, answered, Out, out}
 use Rattle.machine.specs.Rules.{handle_fits, locked, rule3, rule4, rule6, rule26, rule28}
 use Rattle.machine.specs.Calls.{decide, pool_rules, store_rules, handle_rules, word_rules, edit_rules, page_rules, show_call, peek_call, word_call, find_call}
 use Rattle.machine.proofs.Laws.Ready.{Kept, rules-kept}
@@ -206,6 +206,19 @@ answer-no s rules accepted e h = ap (λ (o : Out). o.answer) (decide-no s rules 
 
 pub answer-yes : (s : State) (rules : List Rule) (left : State) {n : ℕ} {x a : Answer} → n ≡ first_broken rules → n ≡ 0 → x ≡ a → x ≡ (decide s rules (out a left)).answer
 answer-yes s rules left e h i = i ∙ ap (λ (o : Out). o.answer) (decide-yes s rules e h refl)
+
+-- an answer without a value of its own, by the refusal's number, 0 where the call was accepted
+pub done_refused : {n : ℕ} → (n ≡ 0 → ⊥) → verdict n refused done ≡ refused n
+done_refused h = sym (verdict-no refused done refl h)
+
+pub done-accepted : verdict 0 refused done ≡ done
+done-accepted = sym (verdict-yes refused refl refl refl)
+
+pub done-no : (s : State) (rules : List Rule) (accepted : Out) {n : ℕ} → n ≡ first_broken rules → (n ≡ 0 → ⊥) → out (verdict n refused done) s ≡ decide s rules accepted
+done-no s rules accepted e h = ap (λ (a : Answer). out a s) (done_refused h) ∙ decide-no s rules accepted e h
+
+pub done-yes : (s : State) (rules : List Rule) {n : ℕ} {t u : State} → n ≡ first_broken rules → n ≡ 0 → t ≡ u → out (verdict 0 refused done) t ≡ decide s rules (out done u)
+done-yes s rules {t = t} e h i = decide-yes s rules e h (ap (λ (a : Answer). out a t) done-accepted ∙ ap (out done) i)
 
 -- a call's answer in code: refused by the first broken rule, or accepted where none is
 pub refused-out : {A : Type 0} (f : A → Answer) (s : State) (rules : List Rule) (accepted : Out) (r : Refusal) → number_of r ≡ first_broken rules → out (answered f (Err r)) s ≡ decide s rules accepted
