@@ -1,5 +1,5 @@
 -- What the code tests for rule 2, in the order of its one pass over the frames. proofs/Same proves that all of it together is `agree`.
-use Rattle.std.specs.Prelude.{ℕ, zero, suc, ◌+◌, ◌*◌, ◌-◌, ◌/◌, ◌%◌, ◌<◌, ◌≤◌, ◌≡◌, ◌≢◌, Bool, true, false, List, eqb, ltb, leb, length, get_or}
+use Rattle.std.specs.Prelude.{ℕ, zero, suc, ◌+◌, ◌*◌, ◌-◌, ◌/◌, ◌%◌, ◌<◌, ◌≤◌, ◌≡◌, ◌≢◌, Bool, true, false, List, eqb, ltb, leb, length, get_or, set}
 use Rattle.page.specs.Figures.{slot_count, most_frames, most_stores, record_count, max_usage, max_pins}
 use Rattle.page.specs.Word.{is_marked, is_marked_number, name_of, frame_word}
 use Rattle.page.specs.Page.{slot, name}
@@ -28,6 +28,28 @@ pub record Blank (r : FrameRecord) : Type 0 where
   pub store : r.store.0 ≡ 0
   pub pins : r.pins ≡ 0
   pub page : r.page.0 ≡ 0
+
+-- a record's fields before its parent, its parent with its store, and those after them, each as the digits of one number
+abbrev pub first_fields : ℕ → ℕ → ℕ → ℕ → ℕ
+first_fields used dirty usage slot = used + 256 * dirty + 65536 * usage + 16777216 * slot
+
+abbrev pub middle_fields : ℕ → ℕ → ℕ
+middle_fields parent store = parent + 256 * store
+
+abbrev pub last_fields : ℕ → ℕ → ℕ
+last_fields pins page = pins + 65536 * page
+
+-- the fields, or those of several records or-ed together, are all 0
+pub record NoField (a m z : ℕ) : Type 0 where
+  pub first : a ≡ 0
+  pub middle : m ≡ 0
+  pub last : z ≡ 0
+
+-- with the fields of the record r too, nothing is there where nothing was and r is all zero
+pub record Gathers (r : FrameRecord) (before after : Type 0) : Type 0 where
+  pub kept : after → before
+  pub blank : after → Blank r
+  pub nothing : before → Blank r → after
 
 -- the record of frame f, a root's
 pub record RootFits (f : ℕ) (r : FrameRecord) : Type 0 where
@@ -148,6 +170,10 @@ pub record FramesFit (rs : List FrameRecord) (fs : List ℕ) (F N T : ℕ) : Typ
 abbrev pub entry : List ℕ → ℕ → ℕ
 entry t f = get_or t f 0
 
+-- the row's number k put at its place
+abbrev pub fill : (ℕ → ℕ) → ℕ → List ℕ → List ℕ
+fill row k t = set t k (row k)
+
 -- the table has the row's numbers at its first n places
 abbrev pub Entries : (ℕ → ℕ) → ℕ → List ℕ → Type 0
 Entries row n t = (f : ℕ) → f < n → entry t f ≡ row f
@@ -183,6 +209,10 @@ over_weight = 65536
 
 unfoldable pub weight : ℕ → ℕ → ℕ
 weight last w = pick (leb w last) w over_weight
+
+-- the sum of words goes on by word k
+abbrev pub add_word : (ℕ → ℕ) → ℕ → ℕ → ℕ → ℕ
+add_word w N k sum = sum + weight (N - 1) (w k)
 
 -- what the sum of 16 words tells
 pub record SumsWords (w : ℕ → ℕ) (N sum : ℕ) : Type 0 where

@@ -1,10 +1,11 @@
 -- Laws of the code's tests, for the proofs of its functions. Assumes nothing.
-use Rattle.std.specs.Prelude.{ℕ, zero, suc, ◌+◌, ◌*◌, ◌-◌, ◌/◌, ◌%◌, ◌<◌, ◌≤◌, ◌≡◌, Bool, true, false, List, eqb, length, set}
+use Rattle.std.specs.Prelude.{ℕ, zero, suc, ◌+◌, ◌*◌, ◌-◌, ◌/◌, ◌%◌, ◌<◌, ◌≤◌, ◌≡◌, Bool, true, false, List, eqb, length, set, replicate}
 use Rattle.std.proofs.Math.Path.{refl, sym, ap}
-use Rattle.std.proofs.Common.{arith, add-one, ◌∙◌, add-zero, add_assoc, le_refl, lt-ltb, le-ltb, le-leb, eq-eqb, ne_eqb, eqb-true, get_or-set_same, get_or-set_other}
+use Rattle.std.proofs.Common.{arith, add-one, ◌∙◌, add-zero, add_assoc, le_refl, lt-ltb, le-ltb, le-leb, eq-eqb, ne_eqb, eqb-true, length-set, get_or-set_same, get_or-set_other}
 use Rattle.std.proofs.Math.Decide.{ℕ_discrete, dec_lt}
 use Rattle.std.proofs.lemmas.Bool.{lt-leb}
 use mir.Val.{bool_byte}
+use Rattle.std.proofs.lemmas.List.{length-replicate}
 use Rattle.std.specs.Int.Bits.{bit_or, bit_and, or_add_and, or_zero_l}
 use Rattle.std.proofs.lemmas.Nat.{and_le_l, and_le_r}
 use Rattle.page.specs.Figures.{slot_count, most_pages}
@@ -13,9 +14,10 @@ use Rattle.machine.specs.declared.FrameRecord.{FrameRecord}
 use Rattle.rules.specs.TestLaws.{case, on, off, pick_yes, pick_no, both, and-true, and_yes, and_no, clash}
 use Rattle.machine.specs.Machine.{is_used, record_at, page_in, store_in}
 use Rattle.machine.specs.Agreement.{is_blank}
+use Rattle.seen.specs.Fold.{fold}
 use Rattle.agreement.specs.Counting.{count_if, count-zero, count_yes, count_no, count_add, count-ext, count_none, count-le}
 use Rattle.agreement.specs.Twice.{keyed}
-use Rattle.agreement.specs.Fit.{Blank, RootFits, ResidentFits, Linked, Fits, number_below, per_frame, number_in, numbers_in_frames, as_stands, over_from, is_over, used_in, marked_in_frames, numbers_met, HasWords, HasNumbers, over_weight, low_sum, entry, Entries, BelowOf, weight, SumsWords}
+use Rattle.agreement.specs.Fit.{Blank, first_fields, middle_fields, last_fields, NoField, Gathers, RootFits, ResidentFits, Linked, Fits, number_below, per_frame, number_in, numbers_in_frames, as_stands, over_from, is_over, used_in, marked_in_frames, numbers_met, HasWords, HasNumbers, over_weight, low_sum, entry, Entries, BelowOf, weight, add_word, fill, SumsWords}
 
 -- ---- the all-zero record
 
@@ -57,6 +59,28 @@ or_nothing a b e = let s : bit_or a b + bit_and a b ≡ a + b = or_add_and a b i
 pub nothing-or : (a b : ℕ) → a ≡ 0 → b ≡ 0 → bit_or a b ≡ 0
 nothing-or a b x y = rw (x, y) (or_zero_l 0)
 
+-- ---- a record's fields as digits
+
+module _ (r : FrameRecord) (x m y : ℕ) (first : x ≡ first_fields r.used r.dirty r.usage r.slot) (middle : m ≡ middle_fields r.parent.0 r.store.0) (last : y ≡ last_fields r.pins r.page.0) where
+  fields-blank : NoField x m y → Blank r
+  fields-blank n =
+      let a : first_fields r.used r.dirty r.usage r.slot ≡ 0 = sym first ∙ n.first in
+      let b : middle_fields r.parent.0 r.store.0 ≡ 0 = sym middle ∙ n.middle in
+      let z : last_fields r.pins r.page.0 ≡ 0 = sym last ∙ n.last in
+      record { used = omega arith; dirty = omega arith; usage = omega arith; slot = omega arith; parent = omega arith; store = omega arith; pins = omega arith; page = omega arith }
+
+  blank-fields : Blank r → NoField x m y
+  blank-fields b = record { first = omega (arith, first, b.used, b.dirty, b.usage, b.slot); middle = omega (arith, b.parent, b.store); last = omega (arith, b.pins, b.page) }
+
+  pub gathers : (a p z : ℕ) → Gathers r (NoField a p z) (NoField (bit_or a x) (bit_or p m) (bit_or z y))
+  gathers a p z = record {
+    kept = λ n. record { first = (or_nothing a _ n.first).0; middle = (or_nothing p _ n.middle).0; last = (or_nothing z _ n.last).0 };
+    blank = λ n. fields-blank (record { first = (or_nothing a _ n.first).1; middle = (or_nothing p _ n.middle).1; last = (or_nothing z _ n.last).1 });
+    nothing = λ n b.
+        let e = blank-fields b in
+        record { first = nothing-or a _ n.first e.first; middle = nothing-or p _ n.middle e.middle; last = nothing-or z _ n.last e.last };
+  }
+
 -- ---- a table filled place by place
 
 pub entries-more : (row : ℕ → ℕ) (t : List ℕ) (n x : ℕ) → n < length t → x ≡ row n → Entries row n t → Entries row (n + 1) (set t n x)
@@ -64,6 +88,21 @@ entries-more row t n x l e h f m = elim (ℕ_discrete f n) [
   | yes q ↦ rw q (get_or-set_same t n x 0 l ∙ e)
   | no q ↦ get_or-set_other t n f x 0 q ∙ h f (omega arith)
 ]
+
+-- the table as a loop fills it
+filled : (row : ℕ → ℕ) (t : List ℕ) (n : ℕ) → n ≤ length t → (length (fold (fill row) t n) ≡ length t) × Entries row n (fold (fill row) t n)
+unfolding fold
+filled row t zero h = (refl, λ f m. absurd (omega arith))
+filled row t (suc n) h =
+    let r = filled row t n (omega arith) in
+    let l : length (fold (fill row) t n) ≡ length t = r.0 in
+    let q : suc n ≡ n + 1 = omega arith in
+    (length-set (fold (fill row) t n) n (row n) ∙ l, rw q (entries-more row (fold (fill row) t n) n (row n) (omega arith) refl r.1))
+
+pub below_of : (w : ℕ → ℕ) (N : ℕ) (ns : List ℕ) → ns ≡ fold (fill (λ k. number_below N (w k))) (replicate slot_count 0) slot_count → BelowOf w N ns
+below_of w N ns e =
+    let r = filled (λ k. number_below N (w k)) (replicate slot_count 0) slot_count (omega (arith, length-replicate {A = ℕ} slot_count 0)) in
+    rw e (record { size = r.0 ∙ length-replicate {A = ℕ} slot_count 0; right = r.1 })
 
 -- ---- the numbers in a row
 
@@ -218,11 +257,11 @@ pub record SumsTo (w : ℕ → ℕ) (N k sum : ℕ) : Type 0 where
   pub few : low_sum w N k ≤ 4095 * k
 
 module _ (w : ℕ → ℕ) (N : ℕ) where
-  over-high : (k : ℕ) → N ≤ w k → over_from w N k ≡ true
+  pub over-high : (k : ℕ) → N ≤ w k → over_from w N k ≡ true
   unfolding over_from
   over-high k l = le-leb N (w k) l
 
-  over-low : (k : ℕ) → w k < N → over_from w N k ≡ false
+  pub over-low : (k : ℕ) → w k < N → over_from w N k ≡ false
   unfolding over_from
   over-low k l = lt-leb N (w k) l
 
@@ -269,6 +308,15 @@ module _ (w : ℕ → ℕ) (N : ℕ) where
         let b : low_sum w N (k + 1) ≡ low_sum w N k + 0 = low-more k ∙ ap (λ (y : ℕ). low_sum w N k + y) (below-high N (w k) (omega arith)) in
         record { parts = omega (arith, s.parts); few = omega (arith, s.few) }
   ]
+
+  -- the sum as a loop makes it
+  sums-of : 1 ≤ N → N ≤ most_pages → (k : ℕ) → SumsTo w N k (fold (add_word w N) 0 k)
+  unfolding fold
+  sums-of o l zero = sums_none
+  sums-of o l (suc k) = rw (← add-one k) (sums-more o l k _ (sums-of o l k))
+
+  pub sums-to : 1 ≤ N → N ≤ most_pages → (k : ℕ) {sum : ℕ} → sum ≡ fold (add_word w N) 0 k → SumsTo w N k sum
+  sums-to o l k e = rw e (sums-of o l k)
 
   pub sums-all : (sum : ℕ) → SumsTo w N slot_count sum → SumsWords w N sum
   sums-all sum s = record { counts = omega (arith, s.parts, s.few); low = omega (arith, s.parts, s.few) }

@@ -1,5 +1,5 @@
 -- How the numbers of a frame are noted: its page, and then its words. Assumes nothing.
-use Rattle.std.specs.Prelude.{ℕ, ◌+◌, ◌-◌, ◌/◌, ◌<◌, ◌≤◌, ◌≡◌, ◌≢◌, Bool, true, false, List}
+use Rattle.std.specs.Prelude.{ℕ, ◌+◌, ◌-◌, ◌/◌, ◌%◌, ◌<◌, ◌≤◌, ◌≡◌, ◌≢◌, Bool, true, false, List}
 use Rattle.std.proofs.Common.{refl, sym, ◌∙◌, ap, arith}
 use Rattle.std.proofs.Math.Decide.{ℕ_discrete}
 use Rattle.page.specs.Figures.{slot_count, most_pages, most_stores}
@@ -104,7 +104,16 @@ module _ (w : ℕ → ℕ) (N t : ℕ) (store : t < most_stores) (some : 1 ≤ N
       by-words : NotesNumbers w N t page seen seen' fresh
       by-words row i p h P = let q : i + 17 ≡ i + 1 + 16 = omega arith in rw q (D.notes.goes row (i + 1) h (rw fresh-page at (by-page row i p P)))
 
-      -- a word was
+      -- the words were noted
+      pub words-told : NumbersNoted w N t page seen seen' (sum / over_weight) fresh
+      words-told = record {
+        few = omega (arith, W.counts, count-le slot_count (over_from w N));
+        counts = λ e. W.counts;
+        notes = by-words;
+        within = within-then t seen now seen' S.within D.within;
+      }
+
+      -- a word was noted before
       pub words-stale : fresh ≡ false → NumbersNoted w N t page seen seen' 0 false
       words-stale z = record {
         few = omega arith;
@@ -115,12 +124,11 @@ module _ (w : ℕ → ℕ) (N t : ℕ) (store : t < most_stores) (some : 1 ≤ N
 
       -- all are new
       pub words-noted : fresh ≡ true → NumbersNoted w N t page seen seen' (sum / over_weight) true
-      words-noted z = record {
-        few = omega (arith, W.counts, count-le slot_count (over_from w N));
-        counts = λ e. W.counts;
-        notes = rw z at by-words;
-        within = within-then t seen now seen' S.within D.within;
-      }
+      words-noted z = rw z at words-told
+
+    -- no word is a number
+    pub no_words : new ≡ true → (sum : ℕ) → SumsWords w N sum → sum % over_weight ≡ 0 → NumbersNoted w N t page seen now (sum / over_weight) true
+    no_words z sum W e = words-told z sum W now true (no-words-noted (sym W.low ∙ e) now)
 
 -- ---- frame f, which a page of store t occupies
 

@@ -23,7 +23,7 @@ use Rattle.residents.specs.ResidentLaws.{key-store}
 use Rattle.residents.specs.Handed.{Clear}
 use Rattle.agreement.specs.Counting.{count_if, count-zero, count-more, count-le, count-ext, count-tally, none_passes}
 use Rattle.agreement.specs.Twice.{PassedRow, Twice, Progress, pass-none, pass-zeros, twice-more, not-twice, sorted-twice, passed-sorted}
-use Rattle.agreement.specs.Fit.{Blank, Fits, per_frame, numbers_in_frames, as_stands, is_over, used_in, is_marked_in, numbers_met, places_met, above_of, RestBlank, FramesFit, FrameNoted, StoresFew, HeldAlone, AllMarks, entry, parent_at, key_in, Before, Settled}
+use Rattle.agreement.specs.Fit.{Blank, Gathers, Fits, per_frame, numbers_in_frames, as_stands, is_over, used_in, is_marked_in, numbers_met, places_met, above_of, RestBlank, FramesFit, FrameNoted, StoresFew, HeldAlone, AllMarks, entry, parent_at, key_in, Before, Settled}
 use Rattle.agreement.specs.FitLaws.{or_nothing, nothing-or, entries-more, met-then, has-numbers, over-used, over-empty, page-below, fitting-store, used-bit}
 use Rattle.agreement.specs.MarkedNumbers.{over-marked, none-stands, counted-alike, stands_alike, names-met, met-names}
 
@@ -98,7 +98,25 @@ module _ (rs : List FrameRecord) (fs : List ℕ) (F N T : ℕ) where
 
 -- ---- the records from F on
 
--- the records from F on and before f are all zero where nothing was gathered of them
+-- what it tells of the records from F on and before f that nothing was gathered, which is P
+pub record RestOf (rs : List FrameRecord) (F f : ℕ) (P : Type 0) : Type 0 where
+  pub blanks : P → (g : ℕ) → F ≤ g → g < f → Blank (record_at rs g)
+  pub nothing : ((g : ℕ) → F ≤ g → g < f → Blank (record_at rs g)) → P
+
+module _ (rs : List FrameRecord) (F : ℕ) where
+  pub none-gathered : (f : ℕ) (P : Type 0) → f ≤ F → P → RestOf rs F f P
+  none-gathered f P l p = record { blanks = λ q g a b. absurd (omega arith); nothing = λ h. p }
+
+  pub more-gathered : (f : ℕ) (P Q : Type 0) → F ≤ f → Gathers (record_at rs f) P Q → RestOf rs F f P → RestOf rs F (f + 1) Q
+  more-gathered f P Q l G R = record {
+    blanks = λ q g a b. elim (ℕ_discrete g f) [
+      | yes e ↦ rw e (G.blank q)
+      | no e ↦ R.blanks (G.kept q) g a (omega arith)
+    ];
+    nothing = λ h. G.nothing (R.nothing (λ g a b. h g a (omega arith))) (h f l (omega arith));
+  }
+
+-- the same where it is told by a number, into which the records' fields are or-ed
 abbrev pub RestTo : List FrameRecord → ℕ → ℕ → ℕ → Type 0
 RestTo rs F f any = (any ≡ 0) ↔ ((g : ℕ) → F ≤ g → g < f → Blank (record_at rs g))
 
@@ -106,10 +124,9 @@ pub rest-none : (rs : List FrameRecord) (F : ℕ) → RestTo rs F F 0
 rest-none rs F = (λ e g a b. absurd (omega arith), λ h. refl)
 
 pub rest_more : (rs : List FrameRecord) (F f any x : ℕ) → F ≤ f → (x ≡ 0) ↔ Blank (record_at rs f) → RestTo rs F f any → RestTo rs F (f + 1) (bit_or any x)
-rest_more rs F f any x l G R = (
-  λ e g a b. let o = or_nothing any x e in elim (ℕ_discrete g f) [ yes q ↦ rw q (G.0 o.1) | no q ↦ R.0 o.0 g a (omega arith) ],
-  λ h. nothing-or any x (R.1 (λ g a b. h g a (omega arith))) (G.1 (h f l (omega arith))),
-)
+rest_more rs F f any x l G R =
+    let r = more-gathered rs F f (any ≡ 0) (bit_or any x ≡ 0) l (record { kept = λ e. (or_nothing any x e).0; blank = λ e. G.0 (or_nothing any x e).1; nothing = λ e b. nothing-or any x e (G.1 b) }) (record { blanks = R.0; nothing = R.1 }) in
+    (r.blanks, r.nothing)
 
 -- ---- after the last frame
 
