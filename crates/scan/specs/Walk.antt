@@ -1,15 +1,16 @@
 -- The sweep over what it sees of the frames, and that it is the sweep over the records, by any class. Assumes nothing.
-use Rattle.std.specs.Prelude.{ℕ, zero, suc, ◌+◌, ◌-◌, ◌%◌, ◌<◌, ◌≤◌, ◌≡◌, ◌≢◌, Bool, not, List, eqb, ltb, length, get_or, set, Some, None, is_some, unwrap_or}
+use Rattle.std.specs.Prelude.{ℕ, zero, suc, ◌+◌, ◌-◌, ◌%◌, ◌<◌, ◌≤◌, ◌≡◌, ◌≢◌, Bool, true, false, not, List, eqb, ltb, length, get_or, set, Some, None, is_some, unwrap_or}
 use Rattle.std.proofs.Common.{refl, sym, ◌∙◌, ap, arith, ne_eqb, lt-ltb, le-ltb, length-set, get_or-set_same, get_or-set_other, ext_get_or}
 use Rattle.std.proofs.Math.Decide.{dec_lt, ℕ_discrete}
 use Rattle.std.proofs.Math.Seq.{set-get_or}
 use Rattle.page.specs.Figures.{most_frames, max_usage}
 use Rattle.machine.specs.declared.FrameRecord.{FrameRecord}
+use Rattle.machine.specs.declared.Standing.{Standing}
 use Rattle.machine.specs.declared.Pool.{Pool}
 use Rattle.rules.specs.Tests.{pick, ◌and◌}
-use Rattle.rules.specs.TestLaws.{and_yes, and_no, pick_no, pick_two}
+use Rattle.rules.specs.TestLaws.{and_yes, and_no, pick_yes, pick_no, pick_two}
 use Rattle.machine.specs.Machine.{blank, frame_index, with_usage, record_at, is_of, at_ceiling}
-use Rattle.machine.specs.Sweep.{Class, rest, warm, yield, Kind, kind, kind_for, Swept, after, look_leaves, look_takes, most_looks, sweep_from, sweep}
+use Rattle.machine.specs.Sweep.{Class, rest, warm, yield, Kind, class_of, kind, kind_for, standing, Swept, after, look_leaves, look_takes, most_looks, sweep_from, sweep}
 use Rattle.machine.proofs.Laws.SweepLaws.{after-in, Cooler, UsageBlind, looked, looked-cooler, looked-here, looked-other, for-usage-blind, cooled-from}
 use Rattle.scan.specs.declared.Walk.{Walk}
 
@@ -106,6 +107,14 @@ cools-same rs ts qs vs n a b = ext_get_or blank ts qs (a.size ∙ sym b.size) ea
     ]
 
 -- ---- what the code sees
+
+module _ (T : ℕ) (r : FrameRecord) (fs : List ℕ) (f u : ℕ) {resting : Bool} where
+  -- a frame at rest, and one that isn't
+  pub sight-resting : resting ≡ true → sight rest u ≡ sight (pick resting rest (kind T fs r f)) u
+  sight-resting e = ap (λ (c : Class). sight c u) (pick_yes _ e refl)
+
+  pub sight-by : {a : Standing} → a ≡ standing T r fs f → resting ≡ false → sight (class_of a) u ≡ sight (pick resting rest (kind T fs r f)) u
+  sight-by e i = ap (λ (a : Standing). sight (class_of a) u) e ∙ ap (λ (c : Class). sight c u) (pick_no _ i refl)
 
 -- at rest are, for a store at its ceiling, the frames that hold no page of it
 pub sight-for : (p : Pool) (fs : List ℕ) (t : ℕ) (r : FrameRecord) (f u : ℕ) {resting : Bool} → resting ≡ (at_ceiling p t and not (is_of t r))
