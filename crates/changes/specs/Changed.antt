@@ -1,12 +1,13 @@
 -- What write, link and unlink leave, from what the code put where. Assumes nothing.
-use Rattle.std.specs.Prelude.{ℕ, ◌+◌, ◌*◌, ◌-◌, ◌≤◌, ◌≡◌, refl, Bool, List, [], ◌∷◌, leb, length, take, drop}
+use Rattle.std.specs.Prelude.{ℕ, ◌+◌, ◌*◌, ◌-◌, ◌≤◌, ◌<◌, ◌≡◌, refl, Bool, List, [], ◌∷◌, leb, length, take, drop}
 use Rattle.std.proofs.Common.{sym, ◌∙◌, ap, append_assoc, arith, le_refl, eq-eqb, ne_eqb, leb-true, take_all, drop-drop}
 use borrow.Rule.Slice.PartMut.{put_mid}
 use Rattle.std.proofs.lemmas.List.{set-get_or}
 use Rattle.page.specs.declared.PageNumber.{PageNumber}
-use Rattle.page.specs.Figures.{page_size, payload_start, payload_size}
+use Rattle.page.specs.Figures.{page_size, payload_start, payload_size, most_frames}
 use Rattle.page.specs.Word.{marked, number_word}
 use Rattle.page.specs.Page.{payload_at, put_payload, put_payload-none, put_slot}
+use Rattle.machine.specs.declared.FrameRecord.{FrameRecord}
 use Rattle.machine.specs.declared.Handle.{Handle}
 use Rattle.machine.specs.declared.Pool.{Pool}
 use Rattle.rules.specs.Tests.{first_broken}
@@ -14,8 +15,9 @@ use Rattle.rules.specs.TestLaws.{and-true, first-kept, pick_yes, pick_no}
 use Rattle.machine.specs.Machine.{State, state, blank, record_at, with_record, with_records, dirtied}
 use Rattle.machine.specs.Rules.{range_fits, word_of, rule5, rule6-link, rule7, rule8, rule9, rule10, rule26}
 use Rattle.machine.specs.Answers.{done, out}
-use Rattle.machine.specs.Calls.{write_rules, link_rules, unlink_rules, written, write_call, link_call, unlink_call}
+use Rattle.machine.specs.Calls.{write_rules, link_rules, unlink_rules, written, relinked, write_call, link_call, unlink_call}
 use Rattle.machine.proofs.Laws.RuleLaws.{HandleKept, EditKept, handle-parts, edit-parts, accepted-out}
+use Rattle.guard.specs.Held.{record_place}
 
 -- the records with the page in frame f marked dirty
 abbrev pub made_dirty : Pool → ℕ → Pool
@@ -46,6 +48,12 @@ unlinkable s h k e = (edit-parts s h k (rule7 (word_of s h k) ∷ rule10 (word_o
 same-state : {p q : Pool} {fs gs : List ℕ} (st d : List ℕ) → p ≡ q → fs ≡ gs → state p fs st d ≡ state q gs st d
 same-state st d e h = cc
 
+-- a record put at the handle's place, where its frame is one of F: it is that frame's record, now dirty
+put-dirty : (p : Pool) (h : Handle) {at : ℕ} {r : FrameRecord} → p.count ≤ most_frames → h.frame.0 < p.count → at ≡ record_place h → r ≡ dirtied (record_at p.records at) → with_record p at r ≡ made_dirty p h.frame.0
+put-dirty p h {at} m l e d =
+    let i : at ≡ h.frame.0 = omega arith in
+    ap (with_record p at) d ∙ ap (made_dirty p) i
+
 -- the part of the frames from a payload offset of frame f on, lent for n bytes and come back as ys
 pub put_back : (fs : List ℕ) (f start offset : ℕ) (ys bytes : List ℕ) → start ≡ page_size * f → ys ≡ bytes
     → put_mid (start + payload_start + offset) (start + payload_start + offset + length bytes - (start + payload_start + offset)) fs ys ≡ put_payload fs f offset bytes
@@ -68,6 +76,11 @@ bytes-written : (s : State) (f offset : ℕ) (bytes : List ℕ) {p : Pool} {fs :
 bytes-written s f offset bytes n e h =
     let r = record_at s.pool.records f in
     same-state s.store s.directory (e ∙ ap (with_record s.pool f) (pick_no r (ne_eqb (length bytes) 0 n) refl)) h
+
+-- a slot stored, and such a record put
+module _ (s : State) (h : Handle) (k : ℕ) {at : ℕ} {r : FrameRecord} {fs : List ℕ} where
+  slot-put : (w : ℕ) → EditKept s h k → at ≡ record_place h → r ≡ dirtied (record_at s.pool.records at) → fs ≡ put_slot s.frames h.frame.0 k w → state (with_record s.pool at r) fs s.store s.directory ≡ relinked s h.frame.0 k w
+  slot-put w a i d j = same-state s.store s.directory (put-dirty s.pool h a.kept.sized.most a.held.below i d) j
 
 -- ---- the accepted calls
 

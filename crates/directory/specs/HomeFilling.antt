@@ -1,7 +1,8 @@
 -- The table of the chain that each frame belongs in, filled frame after frame. Assumes nothing.
-use Rattle.std.specs.Prelude.{ℕ, ◌%◌, ◌<◌, ◌≤◌, ◌≡◌, refl, ◌≢◌, not, List, eqb, length, get_or, set}
+use Rattle.std.specs.Prelude.{ℕ, ◌+◌, ◌%◌, ◌<◌, ◌≤◌, ◌≡◌, refl, ◌≢◌, not, List, eqb, length, get_or, set, replicate}
 use Rattle.std.proofs.Common.{sym, ◌∙◌, ap, arith, eq-eqb, ne_eqb, length-set, get_or-set_same, get_or-set_other}
 use Rattle.std.proofs.Math.Decide.{ℕ_discrete}
+use Rattle.std.proofs.lemmas.List.{length-replicate}
 use Rattle.page.specs.Figures.{most_frames, most_pages}
 use Rattle.rules.specs.Tests.{pick}
 use Rattle.rules.specs.TestLaws.{or_left, or_right, or-skip, pick_yes, pick_no}
@@ -25,6 +26,18 @@ with-page k e = sym (pick_no _ (ne_eqb k 0 e) refl)
 pub record HomesTo (residents w : List ℕ) (n : ℕ) : Type 0 where
   pub size : length w ≡ most_frames
   pub each : (f : ℕ) → f < n → get_or w f 0 ≡ home_with (key_by residents f)
+
+pub homes_none : (residents : List ℕ) → HomesTo residents (replicate most_frames buckets) 0
+homes_none residents = record { size = length-replicate {A = ℕ} most_frames buckets; each = λ f l. absurd (omega arith) }
+
+pub homes_more : (residents w : List ℕ) (n x : ℕ) → n < most_frames → x ≡ home_with (key_by residents n) → HomesTo residents w n → HomesTo residents (set w n x) (n + 1)
+homes_more residents w n x l e T = record {
+  size = length-set w n x ∙ T.size;
+  each = λ f h. elim (ℕ_discrete f n) [
+    | yes z ↦ rw z (get_or-set_same w n x 0 (let s : length w ≡ most_frames = T.size in omega arith) ∙ e)
+    | no z ↦ get_or-set_other w n f x 0 z ∙ T.each f (omega arith)
+  ];
+}
 
 home-with : (residents : List ℕ) (f : ℕ) → f < most_frames → f ≢ 0 → home_with (key_by residents f) ≡ home_by residents f
 unfolding holds_page

@@ -1,11 +1,12 @@
 -- One pass over the chains, by a table of the chain that each frame is still awaited in: 67 for a frame that belongs in none, `met` once it was met. What rule 2 asks is, at each turn, what it still asks from here. Assumes nothing.
-use Rattle.std.specs.Prelude.{ℕ, zero, suc, ◌+◌, ◌<◌, ◌≤◌, ◌≡◌, refl, ◌≢◌, Bool, true, false, List, [], ◌∷◌, ltb, length, get_or, set}
+use Rattle.std.specs.Prelude.{ℕ, zero, suc, ◌+◌, ◌<◌, ◌≤◌, ◌≡◌, refl, ◌≢◌, Bool, true, false, not, List, [], ◌∷◌, ltb, length, get_or, set}
 use Rattle.std.proofs.Common.{sym, ◌∙◌, ap, arith, lt-ltb, le-ltb, length-set, get_or-set_same, get_or-set_other}
 use Rattle.std.proofs.Math.Decide.{ℕ_discrete, dec_lt}
 use Rattle.std.proofs.Math.ListN.{get_or-eq_default}
 use Rattle.page.specs.Figures.{most_frames}
 use Rattle.rules.specs.Tests.{pick}
-use Rattle.rules.specs.TestLaws.{pick_yes, pick_no, pick-either}
+use Rattle.rules.specs.TestLaws.{clash, pick_yes, pick_no, pick-either}
+use Rattle.rules.specs.Deciding.{Decides}
 use Rattle.chains.specs.Chain.{directory_size, buckets, link_at}
 use Rattle.chains.proofs.ChainLaws.{in-none, in_head, in_tail, in_rest, in-apart, single-head, single-tail, single_more, chain-none, chain_more, chain-end, chain-step}
 use Rattle.chains.specs.Links.{In, Single, Chain, Section, Chained}
@@ -312,3 +313,33 @@ module _ (home : ℕ → ℕ) (d w : List ℕ) (b a : ℕ) (G : Follows home d w
 pub record LeftTo (w d : List ℕ) (n : ℕ) (hit : Bool) : Type 0 where
   pub clear : hit ≡ false → (f : ℕ) → f < n → Unawaited w d f
   pub amiss : hit ≡ true → NoneAwaited w d → ⊥
+
+pub left-start : (w d : List ℕ) → LeftTo w d 0 false
+left-start w d = record { clear = λ e f l. absurd (omega arith); amiss = λ e N. clash (sym e) }
+
+-- x is the least that a frame's entry may be beside its link
+module _ (w d : List ℕ) (n : ℕ) (hit : Bool) (L : LeftTo w d n hit) (l : n < most_frames) (kinds : Kinds w) (x : ℕ) (is : x ≡ buckets + get_or d (link_at n) 0) (small : x < met) where
+  pub left-amiss : (now : Bool) → get_or w n 0 < x → now ≡ true → LeftTo w d (n + 1) now
+  left-amiss now h t = record {
+    clear = λ e f k. absurd (clash (sym t ∙ e));
+    amiss = λ e N.
+        let S = N.each n l in
+        let a : buckets ≤ get_or w n 0 = S.none in
+        elim (ℕ_discrete (get_or w n 0) buckets) [
+          | yes q ↦ let y : get_or d (link_at n) 0 ≡ 0 = S.zero q in omega arith
+          | no q ↦ let m : get_or w n 0 ≡ met = kinds n (omega arith) in omega arith
+        ];
+  }
+
+  pub left-unawaited : (now : Bool) → x ≤ get_or w n 0 → now ≡ hit → LeftTo w d (n + 1) now
+  left-unawaited now h t = record {
+    clear = λ e f k. elim (ℕ_discrete f n) [
+      | yes z ↦ rw z (record { none = omega arith; zero = λ q. omega arith })
+      | no z ↦ L.clear (sym t ∙ e) f (omega arith)
+    ];
+    amiss = λ e. L.amiss (sym t ∙ e);
+  }
+
+pub left-all : (w d : List ℕ) (n : ℕ) (hit : Bool) → most_frames ≤ n → LeftTo w d n hit → Decides (not hit) (NoneAwaited w d)
+left-all w d n true l L = L.amiss refl
+left-all w d n false l L = record { each = λ f h. L.clear refl f (omega arith) }

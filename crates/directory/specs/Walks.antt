@@ -1,10 +1,14 @@
 -- One turn of each walk along a chain, and what is stored. Assumes nothing.
 use Rattle.std.specs.Prelude.{ℕ, suc, ◌+◌, ◌≡◌, ◌≢◌, List, ◌∷◌, get_or, set}
 use Rattle.std.proofs.Math.Path.{refl, sym, ap}
-use Rattle.std.proofs.Common.{◌∙◌, arith, eq-eqb, ne_eqb}
+use Rattle.std.proofs.Common.{◌∙◌, arith, add-one, eq-eqb, ne_eqb}
 use Rattle.page.specs.Figures.{most_frames}
 use Rattle.rules.specs.TestLaws.{pick_yes, pick_no}
-use Rattle.chains.specs.Chain.{link_at, entry_of, chain_from, taken_from, taken_out, Sought, seek_in, sought_in}
+use Rattle.chains.specs.Chain.{link_at, entry_of, chain_from, entered, taken_from, taken_out, Sought, seek_in, sought_in}
+
+pub entered_by : (d : List ℕ) (b e x y : ℕ) → x ≡ b → y ≡ link_at e → set (set d y (get_or d x 0)) x (e + 1) ≡ entered d b e
+unfolding entered
+entered_by d b e x y p q = rw (p, q, add-one e) refl
 
 -- ---- an entry is taken out
 
