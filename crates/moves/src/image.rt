@@ -33,7 +33,7 @@ pub fn put_image(dst: &mut [u8], src: &[u8], residents: &Residents)
     requires { (length dst.old ≡ page_size) × (length src.now ≡ page_size) × Named src.now 0 }
     ensures { dst.new ≡ image_to (page_by residents.now) src.now slot_count }
 {
-    dst.copy_from_slice(src);
+    page::copy::copy_into(dst, src);
     for k in 0..PageNumber::SLOTS {
         let w = page::word::word_at(src, page::word::SIZE * k);
         page::word::put_word(dst, page::word::SIZE * k, imaged_word(w, residents));

@@ -11,7 +11,10 @@ pub fn copy_into(dst: &mut [u8], src: &[u8])
     requires { length src.now ≡ length dst.old }
     ensures { (dst.new ≡ src.now) × Octets src.now }
 {
-    dst.copy_from_slice(src);
+    // As a loop it becomes `memcpy`, which the archive asks of the host anyway; `copy_from_slice` becomes `memmove`.
+    for (i, byte) in src.iter().enumerate() {
+        dst[i] = *byte;
+    }
 }
 
 // The page at `from` of one buffer over the page at `to` of another.

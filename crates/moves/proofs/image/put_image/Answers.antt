@@ -17,7 +17,7 @@ named : (g : List ℕ) (k o : ℕ) → k < slot_count → Named g 0 → o ≡ wo
 named g k o l h ho = rw (ho, ← slot-first g k) (h k l)
 
 pub loop-k-init : goal.loop-k-init
-loop-k-init c = (c.copy_from_slice.ensures.len ∙ c.requires.0, c.copy_from_slice.ensures.after ∙ sym (image-zero _ _))
+loop-k-init c = (rw c.copy_into.ensures.0 c.requires.1, c.copy_into.ensures.0 ∙ sym (image-zero _ _))
 
 pub imaged_word-requires : goal.imaged_word-requires
 imaged_word-requires c = named _ _ _ c.loop-k-test.true c.requires.2 c.word_at-w.ensures
