@@ -33,7 +33,7 @@ use Rattle.residents.specs.Handed.{Handed}
 use Rattle.naming.specs.NamedByTables.{loadable_by, loadable-by}
 use Rattle.scan.specs.declared.Walk.{Walk}
 use Rattle.scan.specs.FoundByTable.{empty_by, empty-by}
-use Rattle.scan.specs.Walk.{cooled_to, swept_as, Sees, Walked, Few, cools-next, same_end, same-sweep}
+use Rattle.scan.specs.Walk.{cooled_to, swept_as, Sees, Walked, Few, cools-none, cools-next, same_end, same-sweep}
 use Rattle.moves.specs.InAndOut.{Followed, Removable, TakenOut, Fitting, removable, is-evicted, fitting}
 use Rattle.fixing.specs.FixSteps.{Cooling, pin_decided, miss_decided, swept_decided}
 
@@ -63,6 +63,9 @@ module _ (s : State) (f : ℕ) where
   pin-given h i = rw i (decide-yes s _ (one_kept 13 (ap not (ne_eqb _ max_pins h))) refl refl)
 
 -- ---- a sweep over what it sees of the frames
+
+pub cooling-none : (p : Pool) (vs : List ℕ) → Cooling p p vs 0
+cooling-none p vs = record { rest = refl; cools = cools-none p.records vs }
 
 pub cooling-next : {p m : Pool} {vs : List ℕ} {n u : ℕ} → Cooling p m vs n → u ≡ get_or vs n 0 % 4 → Cooling p (with_record m n (with_usage (record_at m.records n) u)) vs (n + 1)
 unfolding cooled_to
@@ -156,7 +159,7 @@ module _ (s : State) {t : ℕ} {r : Walk} {v : FrameIndex} {m : Pool} (T : Took 
 
 -- what the tables tell
 module _ (s : State) (K : Kept s) {residents : List ℕ} {seen : Seen} (H : Handed s.pool s.frames residents seen) where
-  loadable-told : (t q : ℕ) → t < s.pool.stores → {b : Bool} → b ≡ loadable_by seen s.store s.pool.pages t q → b ≡ loadable s t q
+  pub loadable-told : (t q : ℕ) → t < s.pool.stores → {b : Bool} → b ≡ loadable_by seen s.store s.pool.pages t q → b ≡ loadable s t q
   loadable-told t q l e = e ∙ loadable-by s K H t l q
 
   pub ceiling-told : (t : ℕ) {b : Bool} → b ≡ leb (ceiling_of s.pool t) (held_by residents s.pool.count t) → b ≡ at_ceiling s.pool t
@@ -164,7 +167,7 @@ module _ (s : State) (K : Kept s) {residents : List ℕ} {seen : Seen} (H : Hand
   ceiling-told t e = e ∙ ap (leb (ceiling_of s.pool t)) (held_by_lem s K.sized.most K.stores.some K.agreed residents H.held t)
 
   -- b says that the store is at its ceiling
-  usable-told : (t : ℕ) {b : Bool} → b ≡ at_ceiling s.pool t → pick b s.pool.count (empty_by residents s.pool.count s.pool.count s.pool.hand.0) ≡ pick (at_ceiling s.pool t) s.pool.count (first_empty s.pool)
+  pub usable-told : (t : ℕ) {b : Bool} → b ≡ at_ceiling s.pool t → pick b s.pool.count (empty_by residents s.pool.count s.pool.count s.pool.hand.0) ≡ pick (at_ceiling s.pool t) s.pool.count (first_empty s.pool)
   usable-told t c = rw (c, empty-by s K H)
 
 -- ---- an empty frame is used without a sweep, where the store is below its ceiling
@@ -186,6 +189,10 @@ swept-15 true b c e = refl
 swept-15 false b c e = rw e
 
 module _ (s : State) (f k t q : ℕ) where
+  pub miss-denied : loadable s t q ≡ false → out (refused 14) s ≡ miss_decided s f k t q
+  unfolding miss_decided
+  miss-denied l = decide-no s _ _ (sym (broken-here 14 _ l)) (λ z. omega arith)
+
   -- e is the frame to be used, or F
   module _ (l : loadable s t q ≡ true) {e : ℕ} (i : e ≡ pick (at_ceiling s.pool t) s.pool.count (first_empty s.pool)) where
     abbrev at_top : Bool
@@ -212,33 +219,32 @@ module _ (s : State) (f k t q : ℕ) where
       | off c ↦ let first : e ≡ first_empty s.pool = i ∙ sym (pick_no _ c refl) in sym (and_yes (ap not c) (sym (rw (← first) (le-ltb e _ h))))
     ]
 
-    used-empty : {x : Out} → e < s.pool.count → x ≡ loaded_out s f k e t q 0 → x ≡ miss_decided s f k t q
+    pub miss-empty : {x : Out} → e < s.pool.count → x ≡ loaded_out s f k e t q 0 → x ≡ miss_decided s f k t q
     unfolding miss_decided miss_out
-    used-empty h j =
+    miss-empty h j =
         let u = usable-yes h in
         decide-yes s _ (one_kept 27 (usable-27 at_top any_empty could_take u.0) ∙ sym (kept_then 15 _ (usable-15 at_top any_empty could_take u.0)) ∙ sym (kept_then 14 _ l)) refl (pick_yes (swept_out s f k t q (sweep s.pool s.frames t)) u.0 (j ∙ ap (λ (g : ℕ). loaded_out s f k g t q 0) u.1))
 
-    used-swept : {x : Out} → s.pool.count ≤ e → x ≡ swept_decided s f k t q → x ≡ miss_decided s f k t q
+    pub miss-swept : {x : Out} → s.pool.count ≤ e → x ≡ swept_decided s f k t q → x ≡ miss_decided s f k t q
     unfolding miss_decided miss_out swept_decided
-    used-swept h j =
+    miss-swept h j =
         let u = usable-no h in
         by-rules s _ _ _ (ap (λ (b : Bool). first_broken ((15, b) ∷ rule27 s t ∷ [])) (sym (swept-15 at_top any_empty could_take u)) ∙ sym (kept_then 14 _ l)) (j ∙ ap (decide s _) (pick_no _ u refl))
 
--- page q of store t, for slot k of frame f: x says whether it is loadable, and b whether the store is at its ceiling
+-- the same by the tables, of page q of store t, for slot k of frame f: x says whether it is loadable, and b whether the store is at its ceiling
 module _ (s : State) (K : Kept s) {residents : List ℕ} {seen : Seen} (H : Handed s.pool s.frames residents seen) (f k t q : ℕ) (l : t < s.pool.stores) {x : Bool} (a : x ≡ loadable_by seen s.store s.pool.pages t q) where
-  pub miss-denied : x ≡ false → out (refused 14) s ≡ miss_decided s f k t q
-  unfolding miss_decided
-  miss-denied n = decide-no s _ _ (sym (broken-here 14 _ (sym (loadable-told s K H t q l a) ∙ n))) (λ z. omega arith)
+  pub denied-told : x ≡ false → out (refused 14) s ≡ miss_decided s f k t q
+  denied-told n = miss-denied s f k t q (sym (loadable-told s K H t q l a) ∙ n)
 
   module _ (y : x ≡ true) {b : Bool} (c : b ≡ leb (ceiling_of s.pool t) (held_by residents s.pool.count t)) where
     abbrev frame_used : ℕ
     frame_used = pick b s.pool.count (empty_by residents s.pool.count s.pool.count s.pool.hand.0)
 
-    pub miss-empty : (e : FrameIndex) {o : Out} → (e.0 < s.pool.count) × (frame_used ≡ e.0) → o ≡ loaded_out s f k e.0 t q 0 → o ≡ miss_decided s f k t q
-    miss-empty e h j = used-empty s f k t q (sym (loadable-told s K H t q l a) ∙ y) (sym h.1 ∙ usable-told s K H t (ceiling-told s K H t c)) h.0 j
+    pub empty-told : (e : FrameIndex) {o : Out} → (e.0 < s.pool.count) × (frame_used ≡ e.0) → o ≡ loaded_out s f k e.0 t q 0 → o ≡ miss_decided s f k t q
+    empty-told e h j = miss-empty s f k t q (sym (loadable-told s K H t q l a) ∙ y) (sym h.1 ∙ usable-told s K H t (ceiling-told s K H t c)) h.0 j
 
-    pub miss-swept : {o : Out} → frame_used ≡ s.pool.count → o ≡ swept_decided s f k t q → o ≡ miss_decided s f k t q
-    miss-swept h j = used-swept s f k t q (sym (loadable-told s K H t q l a) ∙ y) (sym h ∙ usable-told s K H t (ceiling-told s K H t c)) (omega arith) j
+    pub swept-told : {o : Out} → frame_used ≡ s.pool.count → o ≡ swept_decided s f k t q → o ≡ miss_decided s f k t q
+    swept-told h j = miss-swept s f k t q (sym (loadable-told s K H t q l a) ∙ y) (sym h ∙ usable-told s K H t (ceiling-told s K H t c)) (omega arith) j
 
 -- ---- the two calls: where the shared rules refuse, and where they are kept
 

@@ -78,7 +78,8 @@ pub fn fix(
             slot,
             of_store,
             page,
-            &mut tables,
+            &tables.residents,
+            &mut tables.seen,
         );
     }
     let g = word::frame_in(name);

@@ -16,7 +16,8 @@ ghost use Rattle.fixing.specs.FixSteps.{Cooling, miss_decided};
 
 use machine::{FrameRecord, Handle, Pinned, Pool, Refusal};
 use page::{FrameIndex, PageNumber, StoreNumber};
-use residents::{Residents, Tables};
+use residents::Residents;
+use seen::Seen;
 
 // Has the store as many resident pages as its ceiling, by the table of the page in each frame.
 fn is_at_ceiling(pool: &Pool, residents: &Residents, of_store: StoreNumber) -> bool
@@ -112,17 +113,18 @@ pub fn bring_in(
     slot: usize,
     of_store: StoreNumber,
     page: PageNumber,
-    tables: &mut Tables,
+    residents: &Residents,
+    seen: &mut Seen,
 ) -> Result<Pinned, Refusal>
-    requires { Kept (state pool.old frames.old store.old directory.old) × Handed pool.old frames.old tables.old.residents tables.old.seen × (parent.0 < pool.old.count) × (slot < slot_count) × (of_store.0 < pool.old.stores) × (page.0 < pool.old.pages) }
+    requires { Kept (state pool.old frames.old store.old directory.old) × Handed pool.old frames.old residents.now seen.old × (parent.0 < pool.old.count) × (slot < slot_count) × (of_store.0 < pool.old.stores) × (page.0 < pool.old.pages) }
     ensures { out (fix_answer result) (state pool.new frames.new store.new directory.new) ≡ miss_decided (state pool.old frames.old store.old directory.old) parent.0 slot of_store.0 page.0 }
 {
     let n = usize::from(pool.pages);
-    if !naming::is_loadable(store, n, of_store, page, &mut tables.seen) {
+    if !naming::is_loadable(store, n, of_store, page, seen) {
         return Err(Refusal::BadStoredPage);
     }
-    let at_ceiling = is_at_ceiling(pool, &tables.residents, of_store);
-    let empty = usable_frame(pool, &tables.residents, at_ceiling);
+    let at_ceiling = is_at_ceiling(pool, residents, of_store);
+    let empty = usable_frame(pool, residents, at_ceiling);
     if let Some(frame) = empty {
         let pinned = load(
             pool, frames, store, directory, parent, slot, frame, of_store, page, 0,

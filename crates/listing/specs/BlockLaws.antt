@@ -1,12 +1,38 @@
--- The records of a block one by one. Assumes nothing.
-use Rattle.std.specs.Prelude.{◌≡◌, ℕ, zero, suc, ◌+◌, ◌-◌, ◌*◌, ◌<◌, ◌≤◌, List, take, drop, slice_index_or}
+-- The records of a block one by one, and bytes moved to its front. Assumes nothing.
+use Rattle.std.specs.Prelude.{◌≡◌, ℕ, zero, suc, ◌+◌, ◌-◌, ◌*◌, ◌<◌, ◌≤◌, List, [], ◌∷◌, ◌++◌, length, take, drop, slice_index, slice_index_or, slice_set}
 use Rattle.std.specs.Simd.{first_chunks}
-use Rattle.std.proofs.Common.{sym, refl, ◌∙◌, ap, arith, drop-drop}
+use Rattle.std.proofs.Common.{sym, refl, ◌∙◌, ap, arith, add-one, length-drop, take-suc, take-suc-set, drop-drop, drop-set-lt, get_or-drop}
 use Rattle.std.proofs.Math.Nat.{sub-zero}
 use Rattle.page.specs.Page.{bytes_from}
 use Rattle.machine.specs.Machine.{State}
 use Rattle.recording.specs.Listing.{listed}
 use Rattle.printing.specs.Printing.{Printed, printed, with_listed, record_in, listed_from}
+
+-- ---- bytes moved to the front: those of l from i on are still t's
+module _ (l t : List ℕ) (from i : ℕ) (e : drop i l ≡ drop i t) where
+  pub still : drop (i + 1) (slice_set l i (slice_index l (from + i))) ≡ drop (i + 1) t
+  still =
+      drop-set-lt (i + 1) l i (slice_index l (from + i)) (omega arith)
+      ∙ sym (drop-drop 1 i l) ∙ ap (λ (r : List ℕ). drop 1 r) e ∙ drop-drop 1 i t
+
+  there : slice_index_or l (from + i) 0 ≡ slice_index (drop from t) i
+  there =
+      let c : from + i ≡ i + from = omega arith in
+      ap (λ (n : ℕ). slice_index l n) c ∙ sym (get_or-drop i l from 0) ∙ ap (λ (r : List ℕ). slice_index r from) e
+      ∙ get_or-drop i t from 0 ∙ ap (λ (n : ℕ). slice_index t n) (sym c) ∙ sym (get_or-drop from t i 0)
+
+  pub moved : i < length l → from + i < length t → take i l ≡ take i (drop from t) → take (i + 1) (slice_set l i (slice_index l (from + i))) ≡ take (i + 1) (drop from t)
+  moved h m q =
+      let x = slice_index_or l (from + i) 0 in
+      let k : i < length (drop from t) = rw (length-drop from t) (omega arith) in
+      ap (λ (n : ℕ). take n (slice_set l i x)) (add-one i)
+      ∙ take-suc-set l i x h
+      ∙ ap (λ (r : List ℕ). r ++ (x ∷ [])) q
+      ∙ ap (λ (y : ℕ). take i (drop from t) ++ (y ∷ [])) there
+      ∙ sym (take-suc (drop from t) i 0 k)
+      ∙ ap (λ (n : ℕ). take n (drop from t)) (sym (add-one i))
+
+-- ---- the records of a block
 
 -- a record of the whole ones
 whole : (k i : ℕ) (b d : List ℕ) → i < k → slice_index_or (first_chunks 16 k b) i d ≡ record_in b i

@@ -4,22 +4,22 @@ ghost use Rattle.arrayvec.specs.ArrayVec.{array_vec_len};
 ghost use Rattle.machine.specs.Machine.{state};
 ghost use Rattle.printing.specs.Printing.{printed, listed_from};
 
+use arrayvec::ArrayVec;
 use pool::Pool;
-use printing::Text;
 
 // The bytes of a record.
 pub const RECORD: usize = 16;
 
 // Runs every whole record of a block, one after the other, and puts their lines at the end of a text. Gives how many are no call (rule 17).
-pub fn list_records(
+pub fn list_records<const N: usize>(
     pool: &mut Pool,
     frames: &mut [u8],
     store: &mut [u8],
     directory: &mut [u8],
     block: &[u8],
-    text: &mut Text,
+    text: &mut ArrayVec<u8, N>,
 ) -> u64
-    requires { array_vec_len text.old + 24 * (length block.now / 16) ≤ 6144 }
+    requires { array_vec_len text.old + 24 * (length block.now / 16) ≤ N }
     ensures { printed text.new.items (state pool.new frames.new store.new directory.new) ≡ listed_from (length block.now / 16) block.now 0 (printed text.old.items (state pool.old frames.old store.old directory.old)) }
 {
     let mut odd = 0u64;

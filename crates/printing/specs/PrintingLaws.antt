@@ -1,8 +1,10 @@
--- A number and a line put after a text. Assumes nothing.
-use Rattle.std.specs.Prelude.{ℕ, ◌-◌, ◌^◌, ◌≤◌, ◌<◌, ◌≡◌, List, [], ◌∷◌, ◌++◌}
-use Rattle.std.proofs.Common.{◌∙◌, ap, append_assoc, arith, le_trans, lt_of_lt_of_le, lt-ltb, le-ltb}
+-- A number and a line put after a text, or into one digit by digit. Assumes nothing.
+use Rattle.std.specs.Prelude.{ℕ, ◌+◌, ◌-◌, ◌^◌, ◌≤◌, ◌<◌, ◌≡◌, List, [], ◌∷◌, ◌++◌, length, set, get_or, take}
+use Rattle.std.proofs.Common.{sym, ◌∙◌, ap, subst, append_assoc, append-nil, arith, add-zero, add-suc, le_trans, lt_of_lt_of_le, add-one, lt-ltb, le-ltb, Fits, take-suc}
 use Rattle.std.proofs.Math.Decide.{dec_le}
 use Rattle.std.proofs.Math.Nat.{pow-le-pow_right}
+use Rattle.std.specs.Int.{w16}
+use Rattle.std.proofs.Math.Seq.{take-suc-set}
 use Rattle.io.specs.Digits.{last_digits, IsDigitCount}
 use Rattle.rules.specs.TestLaws.{pick_yes, pick_no}
 use Rattle.machine.specs.Machine.{State}
@@ -10,6 +12,9 @@ use Rattle.recording.specs.Listing.{Numbers, line_numbers, Listed}
 use Rattle.printing.specs.Printing.{places, with_number, with_line, printed, with_listed}
 
 -- ---- the digits of a number
+
+pub small : (n : ℕ) → Fits w16 n → n < 65536
+small n h = omega arith
 
 module _ (n k : ℕ) (f : IsDigitCount 10 1 n k) where
   fits : (j : ℕ) → k ≤ j → n < 10 ^ j
@@ -44,6 +49,31 @@ module _ (n k : ℕ) (f : IsDigitCount 10 1 n k) where
           ])
         ])
       ]
+
+-- ---- bytes put one after the other: l is the text so far, t what it began with
+
+pub none-put : (t : List ℕ) (at : ℕ) → take (at + 0) t ≡ take at t ++ []
+none-put t at = ap (λ (n : ℕ). take n t) (add-zero at) ∙ sym (append-nil (take at t))
+
+module _ (l t ds : List ℕ) (at : ℕ) where
+  pub put-digit : (i m : ℕ) → at + i < length l → i < m → m ≤ length ds → take (at + i) l ≡ take at t ++ take i ds → take (at + (i + 1)) (set l (at + i) (get_or ds i 0)) ≡ take at t ++ take (i + 1) ds
+  put-digit i m h j k e =
+      let x = get_or ds i 0 in
+      ap (λ (n : ℕ). take n (set l (at + i) x)) (ap (λ (n : ℕ). at + n) (add-one i) ∙ add-suc at i)
+      ∙ take-suc-set l (at + i) x h
+      ∙ ap (λ (r : List ℕ). r ++ (x ∷ [])) e
+      ∙ append_assoc (take at t) (take i ds) (x ∷ [])
+      ∙ ap (λ (r : List ℕ). take at t ++ r) (sym (take-suc ds i 0 (omega arith)))
+      ∙ ap (λ (n : ℕ). take at t ++ take n ds) (sym (add-one i))
+
+  pub put-after : (n k i after : ℕ) → at + k < length l → i ≤ k → k ≤ i → n < 65536 → IsDigitCount 10 1 n k → take k ds ≡ last_digits 10 k n → take (at + i) l ≡ take at t ++ take i ds → take (at + k + 1) (set l (at + k) after) ≡ with_number (take at t) n after
+  unfolding with_number
+  put-after n k i after h p q b f d e =
+      let z : i ≡ k = omega arith in
+      let done : take (at + k) l ≡ take at t ++ take k ds = subst (λ (m : ℕ). take (at + m) l ≡ take at t ++ take m ds) z e in
+      ap (λ (m : ℕ). take m (set l (at + k) after)) (add-one (at + k))
+      ∙ take-suc-set l (at + k) after h
+      ∙ ap (λ (r : List ℕ). r ++ (after ∷ [])) (done ∙ ap (λ (r : List ℕ). take at t ++ r) (d ∙ ap (λ (m : ℕ). last_digits 10 m n) (places-are n k f b)))
 
 -- the k digits of a number after a text, and then a byte
 pub number-put : (t : List ℕ) (n k after : ℕ) {ds u v : List ℕ} → n < 65536 → IsDigitCount 10 1 n k → ds ≡ last_digits 10 k n → u ≡ t ++ ds → v ≡ u ++ (after ∷ []) → v ≡ with_number t n after

@@ -1,6 +1,6 @@
 -- What a record lists: refused by rule 17, or by the contract of its call. Assumes nothing.
-use Rattle.std.specs.Prelude.{ℕ, ◌≤◌, ◌≡◌, refl, Bool, true, false, List, [], eqb, leb}
-use Rattle.std.proofs.Common.{sym, ◌∙◌, ap, arith, leb-true}
+use Rattle.std.specs.Prelude.{ℕ, ◌+◌, ◌≤◌, ◌≡◌, refl, Bool, true, false, List, [], eqb, leb}
+use Rattle.std.proofs.Common.{sym, ◌∙◌, ap, arith, le_antisymm, eqb-true, leb-true}
 use Rattle.page.specs.declared.PageNumber.{PageNumber}
 use Rattle.rules.specs.Tests.{pick, verdict, first_broken}
 use Rattle.rules.specs.TestLaws.{case, on, off, and-true, pick-either, verdict-no, verdict-yes, kept_then, broken-here, none-broken}
@@ -16,6 +16,14 @@ use Rattle.recording.specs.Listing.{call_in, page_in_record, handle_in, parent_i
 use Rattle.recording.specs.Lines.{line_with, line_for, lined, listed_out}
 
 -- ---- a line by an answer
+
+-- a call without an answer of its own
+pub done-line : (b : List ℕ) (n : ℕ) → line_with b n 0 0 ≡ line_for b (verdict n refused done)
+unfolding line_for verdict pick
+done-line b n = elim (case (eqb n 0)) [
+  | on t ↦ let z : n ≡ 0 = eqb-true n 0 t in rw z
+  | off t ↦ rw t
+]
 
 -- find, where it gives a frame
 pub frame-line : (b : List ℕ) (q : PageNumber) (compared : ℕ) {f : ℕ} {r : Line} → r ≡ line_with b 0 f q.0 → q ≡ page_in_record b → r ≡ line_for b (frame f compared)
@@ -103,6 +111,25 @@ listed-unmarked b =
   where
     either : (t : Bool) (c d : Call) → without_mark c ≡ true → without_mark d ≡ true → without_mark (pick t c d) ≡ true
     either = pick-either (λ (c : Call). without_mark c ≡ true)
+
+-- a call from 1 to 9 that is none of 1 to 8 is 9
+abbrev pub NoneOf8 : ℕ → Type 0
+NoneOf8 x =
+    (((((((Unit {0} × (x ≡ 1 → ⊥)) × (x ≡ 2 → ⊥)) × (x ≡ 3 → ⊥)) × (x ≡ 4 → ⊥)) × (x ≡ 5 → ⊥)) × (x ≡ 6 → ⊥)) × (x ≡ 7 → ⊥)) × (x ≡ 8 → ⊥)
+
+above : (k x : ℕ) → k ≤ x → (x ≡ k → ⊥) → k + 1 ≤ x
+above k x h n = omega arith
+
+pub last-call : (b : List ℕ) → Fields b → NoneOf8 (call_in b) → call_in b ≡ 9
+last-call b h n =
+    let from2 : 2 ≤ call_in b = above 1 _ h.least n.0.0.0.0.0.0.0.1 in
+    let from3 : 3 ≤ call_in b = above 2 _ from2 n.0.0.0.0.0.0.1 in
+    let from4 : 4 ≤ call_in b = above 3 _ from3 n.0.0.0.0.0.1 in
+    let from5 : 5 ≤ call_in b = above 4 _ from4 n.0.0.0.0.1 in
+    let from6 : 6 ≤ call_in b = above 5 _ from5 n.0.0.0.1 in
+    let from7 : 7 ≤ call_in b = above 6 _ from6 n.0.0.1 in
+    let from8 : 8 ≤ call_in b = above 7 _ from7 n.0.1 in
+    le_antisymm h.most (above 8 _ from8 n.1)
 
 -- ---- request A.3: "the listing prints as before"
 

@@ -18,7 +18,7 @@ pub struct Line {
 }
 
 // The line of a record where no handle or frame is given.
-fn bare(entry: &[u8; 16], refusal: u8) -> Line
+pub fn bare(entry: &[u8; 16], refusal: u8) -> Line
     ensures { result ≡ line_with entry.now refusal 0 0 }
 {
     Line {

@@ -7,10 +7,9 @@ ghost use Rattle.workload.specs.Workload.{worked, worked_from};
 use arrayvec::ArrayVec;
 use generator::Generator;
 use pool::{Buffers, Pool};
-use printing::Text;
 
 // The bytes of a record.
-const RECORD: usize = 16;
+pub const RECORD: usize = 16;
 
 const SIZE: usize = printing::LINES * RECORD;
 
@@ -18,17 +17,17 @@ const SIZE: usize = printing::LINES * RECORD;
 pub type Entries = ArrayVec<u8, SIZE>;
 
 // Draws so many records and runs each on the pool that the one before left.
-pub fn run_records(
+pub fn run_records<const M: usize, const N: usize>(
     pool: &mut Pool,
     frames: &mut [u8],
     store: &mut [u8],
     directory: &mut [u8],
     generator: &mut Generator,
-    count: u32,
-    entries: &mut Entries,
-    text: &mut Text,
+    count: usize,
+    entries: &mut ArrayVec<u8, M>,
+    text: &mut ArrayVec<u8, N>,
 )
-    requires { (array_vec_len entries.old + 16 * count ≤ 4096) × (array_vec_len text.old + 24 * count ≤ 6144) }
+    requires { (array_vec_len entries.old + 16 * count ≤ M) × (array_vec_len text.old + 24 * count ≤ N) }
     ensures { worked entries.new.items text.new.items (state pool.new frames.new store.new directory.new) generator.new ≡ worked_from count (worked entries.old.items text.old.items (state pool.old frames.old store.old directory.old) generator.old) }
 {
     for _ in 0..count {

@@ -29,7 +29,7 @@ const STORE: usize = 16 * PageNumber::SIZE;
 const DIRECTORY: usize = directory::SIZE;
 
 // The records that are run before anything is written.
-const MOST: u32 = printing::LINES as u32;
+const MOST: usize = printing::LINES;
 
 // What the records so far leave: the pool, the generator, and the sum over their lines.
 #[derive(Drop)]
@@ -46,7 +46,7 @@ fn run_next(
     frames: &mut [u8; FRAMES],
     store: &mut [u8; STORE],
     directory: &mut [u8; DIRECTORY],
-    count: u32,
+    count: usize,
     form: Form,
 ) -> Result<(), Lost>
     requires { count ≤ 256 }
@@ -91,7 +91,7 @@ fn run_all(
         generator,
         sum: checksum::empty(),
     };
-    let mut left = count;
+    let mut left = count as usize;
     while left > 0 {
         let next = left.min(MOST);
         run_next(rt, &mut run, frames, store, directory, next, form)?;

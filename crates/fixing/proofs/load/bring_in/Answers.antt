@@ -3,7 +3,7 @@ use Rattle.std.proofs.Common.{sym, ◌∙◌}
 use Rattle.machine.specs.Machine.{state}
 use Rattle.machine.proofs.Laws.Ready.{ready}
 use Rattle.moves.specs.InAndOut.{followed}
-use Rattle.fixing.specs.StepLaws.{records-few, ceiling-told, took, victim-below, victim-removable, victim-fitting, swept-given, swept-denied, own-denied, miss-denied, miss-empty, miss-swept}
+use Rattle.fixing.specs.StepLaws.{records-few, ceiling-told, took, victim-below, victim-removable, victim-fitting, swept-given, swept-denied, own-denied, denied-told, empty-told, swept-told}
 use Rattle.fixing.proofs.load.bring_in.Goals as goal
 
 -- 14
@@ -13,7 +13,7 @@ returns-then-not-is_loadable c =
     let K = c.requires.0 in
     let H = c.requires.1 in
     let l = rw c.from-n.ensures at c.is_loadable.ensures in
-    miss-denied s K H c.args.parent.0 c.args.slot c.args.of_store.0 c.args.page.0 c.requires.4 l c.if-not-is_loadable.true
+    denied-told s K H c.args.parent.0 c.args.slot c.args.of_store.0 c.args.page.0 c.requires.4 l c.if-not-is_loadable.true
 
 -- into an empty frame
 pub returns-in-Some : goal.returns-in-Some
@@ -22,7 +22,7 @@ returns-in-Some c =
     let K = c.requires.0 in
     let H = c.requires.1 in
     let l = rw c.from-n.ensures at c.is_loadable.ensures in
-    miss-empty s K H c.args.parent.0 c.args.slot c.args.of_store.0 c.args.page.0 c.requires.4 l c.if-not-is_loadable.false c.is_at_ceiling-at_ceiling.ensures c.in-Some.frame c.in-Some.ensures c.load-pinned.ensures
+    empty-told s K H c.args.parent.0 c.args.slot c.args.of_store.0 c.args.page.0 c.requires.4 l c.if-not-is_loadable.false c.is_at_ceiling-at_ceiling.ensures c.in-Some.frame c.in-Some.ensures c.load-pinned.ensures
 
 pub sights-sights-requires : goal.sights-sights-requires
 sights-sights-requires c =
@@ -39,7 +39,7 @@ returns-then-at_ceiling c =
     let H = c.requires.1 in
     let l = rw c.from-n.ensures at c.is_loadable.ensures in
     let full = sym (ceiling-told s K H c.args.of_store.0 c.is_at_ceiling-at_ceiling.ensures) ∙ c.if-at_ceiling.true in
-    miss-swept s K H c.args.parent.0 c.args.slot c.args.of_store.0 c.args.page.0 c.requires.4 l c.if-not-is_loadable.false c.is_at_ceiling-at_ceiling.ensures c.in_default.ensures (own-denied s c.args.of_store.0 (ready s K) c.sights-sights.ensures c.sweep-walk.ensures c.args.parent.0 c.args.slot c.args.page.0 c.in_default-frame.is full)
+    swept-told s K H c.args.parent.0 c.args.slot c.args.of_store.0 c.args.page.0 c.requires.4 l c.if-not-is_loadable.false c.is_at_ceiling-at_ceiling.ensures c.in_default.ensures (own-denied s c.args.of_store.0 (ready s K) c.sights-sights.ensures c.sweep-walk.ensures c.args.parent.0 c.args.slot c.args.page.0 c.in_default-frame.is full)
 
 -- 15: it is below it
 pub returns-in_default-frame : goal.returns-in_default-frame
@@ -49,7 +49,7 @@ returns-in_default-frame c =
     let H = c.requires.1 in
     let l = rw c.from-n.ensures at c.is_loadable.ensures in
     let full = sym (ceiling-told s K H c.args.of_store.0 c.is_at_ceiling-at_ceiling.ensures) ∙ c.if-at_ceiling.false in
-    miss-swept s K H c.args.parent.0 c.args.slot c.args.of_store.0 c.args.page.0 c.requires.4 l c.if-not-is_loadable.false c.is_at_ceiling-at_ceiling.ensures c.in_default.ensures (swept-denied s c.args.of_store.0 (ready s K) c.sights-sights.ensures c.sweep-walk.ensures c.args.parent.0 c.args.slot c.args.page.0 c.in_default-frame.is full)
+    swept-told s K H c.args.parent.0 c.args.slot c.args.of_store.0 c.args.page.0 c.requires.4 l c.if-not-is_loadable.false c.is_at_ceiling-at_ceiling.ensures c.in_default.ensures (swept-denied s c.args.of_store.0 (ready s K) c.sights-sights.ensures c.sweep-walk.ensures c.args.parent.0 c.args.slot c.args.page.0 c.in_default-frame.is full)
 
 pub bounds-pool-from : goal.bounds-pool-from
 bounds-pool-from c =
@@ -83,4 +83,4 @@ returns c =
     let H = c.requires.1 in
     let l = rw c.from-n.ensures at c.is_loadable.ensures in
     let T = took s c.args.of_store.0 (ready s K) c.sights-sights.ensures c.sweep-walk.ensures (followed s K) c.in-Some-frame.is c.cool.ensures in
-    miss-swept s K H c.args.parent.0 c.args.slot c.args.of_store.0 c.args.page.0 c.requires.4 l c.if-not-is_loadable.false c.is_at_ceiling-at_ceiling.ensures c.in_default.ensures (swept-given s T (rw c.from.ensures at c.take_out.ensures) c.args.parent.0 c.args.slot c.args.page.0 c.load-pinned-2.ensures)
+    swept-told s K H c.args.parent.0 c.args.slot c.args.of_store.0 c.args.page.0 c.requires.4 l c.if-not-is_loadable.false c.is_at_ceiling-at_ceiling.ensures c.in_default.ensures (swept-given s T (rw c.from.ensures at c.take_out.ensures) c.args.parent.0 c.args.slot c.args.page.0 c.load-pinned-2.ensures)

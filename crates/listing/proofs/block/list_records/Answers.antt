@@ -7,10 +7,10 @@ use Rattle.printing.specs.PrintingLaws.{one-printed}
 use Rattle.listing.proofs.block.list_records.Goals as goal
 
 pub loop-entry-init : goal.loop-entry-init
-loop-entry-init c = record { room = omega arith; listed = all_listed _ _ _ }
+loop-entry-init g c = record { room = omega arith; listed = all_listed _ _ _ }
 
 pub loop-entry-preserved : goal.loop-entry-preserved
-loop-entry-preserved c =
+loop-entry-preserved g c =
     let l = c.loop-entry in
     let chunks = c.as_chunks.ensures in
     let run = one-printed l.text.items _ c.list_record-line.ensures c.push_line.ensures.text_after in
@@ -20,7 +20,7 @@ loop-entry-preserved c =
     }
 
 pub returns : goal.returns
-returns c =
+returns g c =
     let l = c.loop-entry in
     let n : l.entry-index ≡ length c.args.block.now / 16 = omega arith in
     sym (rw (← c.as_chunks.ensures.front_len) (l.invariant.listed ∙ none-listed _ _ _ _ c.loop-entry-test.false))

@@ -7,10 +7,10 @@ use Rattle.workload.proofs.WorkloadLaws.{all-worked, none-worked, one-worked}
 use Rattle.workload.proofs.block.run_records.Goals as goal
 
 pub loop-init : goal.loop-init
-loop-init c = record { entries_fit = omega arith; lines_fit = omega arith; worked = all-worked _ _ }
+loop-init g c = record { entries_fit = omega arith; lines_fit = omega arith; worked = all-worked _ _ }
 
 pub loop-preserved : goal.loop-preserved
-loop-preserved c =
+loop-preserved g c =
     let l = c.loop in
     let put = c.try_extend_from_slice.ensures in
     let size = IfOk-at_ok _ c.unwrap.ensures put.len in
@@ -22,4 +22,4 @@ loop-preserved c =
     }
 
 pub returns : goal.returns
-returns c = sym (c.loop.invariant.worked ∙ none-worked _ c.loop.counter _ c.loop-test.false)
+returns g c = sym (c.loop.invariant.worked ∙ none-worked _ c.loop.counter _ c.loop-test.false)
