@@ -3,6 +3,7 @@ ghost use Rattle.std.specs.Prelude.{◌≡◌, ◌+◌, ◌*◌, ◌-◌, ◌≤
 ghost use Rattle.std.specs.Option.{unwrap_or};
 ghost use Rattle.page.specs.Figures.{page_size, slot_count, most_pages, most_stores};
 ghost use Rattle.page.specs.Page.{slot};
+ghost use Rattle.seen.specs.Seen.{Notes};
 ghost use Rattle.agreement.specs.Fit.{number_below, weight, low_sum, SumsWords, BelowOf, WordsNoted, NumbersNoted, Alone};
 
 use page::{FrameIndex, PageNumber, StoreNumber};
@@ -101,12 +102,25 @@ impl Words<'_> {
         }
     }
 
+    // Notes the page: was it new. `alone` where there is one store.
+    fn note_page(&self, page: PageNumber, alone: bool, seen: &mut Seen) -> bool
+        requires { (page.0 < most_pages) × Alone alone self.now.of_store.0 seen.old }
+        ensures { Notes self.now.of_store.0 page.0 seen.old seen.new result }
+    {
+        let x = usize::from(page);
+        if alone {
+            seen.note_alone(x)
+        } else {
+            seen.note(self.of_store, x)
+        }
+    }
+
     // Notes the page and the words of the frame: how many of the words are not below N, or nothing where a number was noted before.
     pub fn note(&self, page: PageNumber, alone: bool, seen: &mut Seen) -> Option<u32>
         requires { (page.0 < self.now.pages) × Alone alone self.now.of_store.0 seen.old }
         ensures { NumbersNoted (slot self.now.frames.now self.now.frame.0) self.now.pages self.now.of_store.0 page.0 seen.old seen.new (unwrap_or result 0) (is_some result) }
     {
-        if !seen.note(self.of_store, usize::from(page)) {
+        if !self.note_page(page, alone, seen) {
             return None;
         }
         let sum = self.sum();
