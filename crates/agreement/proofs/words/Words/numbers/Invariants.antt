@@ -1,8 +1,13 @@
-use Rattle.std.proofs.Common.{◌≡◌, length}
+use Rattle.std.proofs.Common.{◌≡◌, ℕ, List}
+use Rattle.std.specs.Prelude.{replicate}
 use Rattle.page.specs.Figures.{slot_count}
 use Rattle.page.specs.Page.{slot}
-use Rattle.agreement.specs.Fit.{number_below, Entries}
+use Rattle.seen.specs.Fold.{fold}
+use Rattle.agreement.specs.Fit.{number_below, fill}
 use Rattle.agreement.proofs.words.Words.numbers.Given as goal
 
+abbrev pub row : List ℕ → ℕ → ℕ → ℕ → ℕ
+row frames f pages k = number_below pages (slot frames f k)
+
 abbrev pub invariant-loop-k : goal.invariant-loop-k
-invariant-loop-k l = (length l.numbers ≡ slot_count) × Entries (λ j. number_below l.self.pages (slot l.self.frames.now l.self.frame.0 j)) l.k l.numbers
+invariant-loop-k l = l.numbers ≡ fold (fill (row l.self.frames.now l.self.frame.0 l.self.pages)) (replicate slot_count 0) l.k
