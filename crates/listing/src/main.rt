@@ -9,7 +9,6 @@ ghost use Rattle.std.specs.Prelude.{◌<◌};
 use message::Lost;
 use page::PageNumber;
 use pool::Pool;
-use printing::Text;
 use std::io::Read;
 
 // 4 frames, a store of 16 pages, and the directory.
@@ -19,8 +18,10 @@ const STORE: usize = 16 * PageNumber::SIZE;
 
 const DIRECTORY: usize = directory::SIZE;
 
-// The bytes of a block, of whose records a text has room for the lines.
+// The bytes of a block, and of the lines of as many records as it can hold.
 const BLOCK: usize = printing::LINES * block::RECORD;
+
+const TEXT: usize = printing::LINES * printing::LINE;
 
 // What was listed so far: the pool that it leaves, how many bytes of a part record stand at the start of the block, and how many records there were, and how many that are no calls.
 #[derive(Drop)]
@@ -50,8 +51,8 @@ fn list_next(
         return Ok(0);
     }
     let end = part + read;
-    let mut text = Text::new();
-    let odd = block::list_records(
+    let mut text = [0u8; TEXT];
+    let run = block::list_records(
         &mut progress.pool,
         frames,
         store,
@@ -59,10 +60,10 @@ fn list_next(
         &bytes[..end],
         &mut text,
     );
-    rt.write_all(text.as_slice()).map_err(|_| Lost::Unwritten)?;
+    rt.write_all(&text[..run.end]).map_err(|_| Lost::Unwritten)?;
     progress.part = block::keep_rest(bytes, end);
     progress.records = progress.records.wrapping_add((end / block::RECORD) as u64);
-    progress.odd = progress.odd.wrapping_add(odd);
+    progress.odd = progress.odd.wrapping_add(run.odd);
     Ok(read)
 }
 

@@ -14,11 +14,6 @@ pub const LINES: usize = 256;
 
 pub const LINE: usize = 24;
 
-const SIZE: usize = LINES * LINE;
-
-// Lines one after another, in memory of a fixed size.
-pub type Text = ArrayVec<u8, SIZE>;
-
 // Puts a number in decimal and a byte after it at the end of a text.
 fn put_number<const N: usize>(text: &mut ArrayVec<u8, N>, n: u16, after: u8)
     requires { array_vec_len text.old + 6 ≤ N }
@@ -43,7 +38,7 @@ pub fn push_line<const N: usize>(text: &mut ArrayVec<u8, N>, line: Line)
     put_number(text, line.page.0, b'\n');
 }
 
-// The same into a text that is a slice, from `at` on; gives where the line ends. It stays beside the other, whose text is a vector: this one's promise is of any slice, at any place.
+// The same into a text that is a slice, from `at` on; gives where the line ends.
 pub fn put_line(text: &mut [u8], at: usize, line: Line) -> usize
     requires { at + 24 ≤ length text.old }
     ensures upper_bound { result ≤ at + 24 }

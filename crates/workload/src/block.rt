@@ -1,36 +1,40 @@
 // The records of a workload, some at a time: each is drawn, put among the records, run, and its line put into a text.
-ghost use Rattle.std.specs.Prelude.{◌+◌, ◌*◌, ◌≤◌, ◌≡◌};
-ghost use Rattle.arrayvec.specs.ArrayVec.{array_vec_len};
+ghost use Rattle.std.specs.Prelude.{◌+◌, ◌*◌, ◌≤◌, ◌≡◌, ◌++◌, length, take};
+ghost use Rattle.io.specs.Counts.{IsPrefixLen};
 ghost use Rattle.machine.specs.Machine.{state};
-ghost use Rattle.workload.specs.Workload.{worked, worked_from};
+ghost use Rattle.workload.specs.Workload.{worked, worked_from, begun};
 
-use arrayvec::ArrayVec;
 use generator::Generator;
 use pool::{Buffers, Pool};
 
 // The bytes of a record.
 pub const RECORD: usize = 16;
 
-const SIZE: usize = printing::LINES * RECORD;
+// Puts a record among others, from `at` on.
+fn put_entry(entries: &mut [u8], at: usize, entry: &[u8; 16])
+    requires { at + 16 ≤ length entries.old }
+    ensures { take (at + 16) entries.new ≡ take at entries.old ++ entry.now }
+{
+    entries[at..at + RECORD].copy_from_slice(entry);
+}
 
-// The bytes of records one after another: of as many as a text has room for the lines.
-pub type Entries = ArrayVec<u8, SIZE>;
-
-// Draws so many records and runs each on the pool that the one before left.
-pub fn run_records<const M: usize, const N: usize>(
+// Draws so many records and runs each on the pool that the one before left. Gives where their lines end in the text. Slices of any length will do, where a vector's room would stand in its type.
+pub fn run_records(
     pool: &mut Pool,
     frames: &mut [u8],
     store: &mut [u8],
     directory: &mut [u8],
     generator: &mut Generator,
     count: usize,
-    entries: &mut ArrayVec<u8, M>,
-    text: &mut ArrayVec<u8, N>,
-)
-    requires { (array_vec_len entries.old + 16 * count ≤ M) × (array_vec_len text.old + 24 * count ≤ N) }
-    ensures { worked entries.new.items text.new.items (state pool.new frames.new store.new directory.new) generator.new ≡ worked_from count (worked entries.old.items text.old.items (state pool.old frames.old store.old directory.old) generator.old) }
+    entries: &mut [u8],
+    text: &mut [u8],
+) -> usize
+    requires { (16 * count ≤ length entries.old) × (24 * count ≤ length text.old) }
+    ensures prefix_len { IsPrefixLen result text.new }
+    ensures generator_after { worked (take (16 * count) entries.new) (take result text.new) (state pool.new frames.new store.new directory.new) generator.new ≡ worked_from count (begun (state pool.old frames.old store.old directory.old) generator.old) }
 {
-    for _ in 0..count {
+    let mut end = 0;
+    for i in 0..count {
         let buffers = Buffers {
             frames,
             store,
@@ -38,9 +42,10 @@ pub fn run_records<const M: usize, const N: usize>(
         };
         let drawn = drawing::draw_record(pool, buffers, *generator);
         let entry = drawn.entry;
-        entries.try_extend_from_slice(&entry).unwrap();
+        put_entry(entries, RECORD * i, &entry);
         let line = recording::list_record(pool, frames, store, directory, &entry);
-        printing::push_line(text, line);
+        end = printing::put_line(text, end, line);
         *generator = drawn.generator;
     }
+    end
 }

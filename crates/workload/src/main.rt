@@ -10,14 +10,12 @@ ghost use Rattle.machine.specs.Machine.{state};
 ghost use Rattle.checksum.specs.Parts.{Over};
 ghost use Rattle.workload.specs.Workload.{begun, worked_from, workload_of, summed, summed_by};
 
-use block::Entries;
 use checksum::Sum;
 use generator::Generator;
 use message::Lost;
 use order::Form;
 use page::PageNumber;
 use pool::Pool;
-use printing::Text;
 use std::io::Read;
 use std::mem;
 
@@ -28,8 +26,12 @@ const STORE: usize = 16 * PageNumber::SIZE;
 
 const DIRECTORY: usize = directory::SIZE;
 
-// The records that are run before anything is written.
+// The records that are run before anything is written, their bytes, and those of their lines.
 const MOST: usize = printing::LINES;
+
+const ENTRIES: usize = MOST * block::RECORD;
+
+const TEXT: usize = MOST * printing::LINE;
 
 // What the records so far leave: the pool, the generator, and the sum over their lines.
 #[derive(Drop)]
@@ -52,9 +54,9 @@ fn run_next(
     requires { count ≤ 256 }
     ensures { summed (state run.new.pool frames.new store.new directory.new) run.new.generator run.new.sum ≡ summed_by count (state run.old.pool frames.old store.old directory.old) run.old.generator run.old.sum }
 {
-    let mut entries = Entries::new();
-    let mut text = Text::new();
-    block::run_records(
+    let mut entries = [0u8; ENTRIES];
+    let mut text = [0u8; TEXT];
+    let end = block::run_records(
         &mut run.pool,
         frames,
         store,
@@ -65,10 +67,10 @@ fn run_next(
         &mut text,
     );
     let so_far = mem::replace(&mut run.sum, checksum::empty());
-    run.sum = checksum::add(so_far, text.as_slice());
+    run.sum = checksum::add(so_far, &text[..end]);
     let output = match form {
-        Form::Lines => text.as_slice(),
-        Form::Records => entries.as_slice(),
+        Form::Lines => &text[..end],
+        Form::Records => &entries[..block::RECORD * count],
     };
     rt.write_all(output).map_err(|_| Lost::Unwritten)
 }

@@ -7,6 +7,5 @@ pub returns : goal.returns
 returns g c =
     let a = c.args in
     let run = a.run.now in
-    let records = rw (c.new-entries.ensures, c.new-text.ensures) at c.run_records.ensures in
-    let sum = rw (c.replace-so_far.ensures.value, c.as_slice.ensures.value) at c.add-run.ensures in
-    block-summed a.count (state run.pool a.frames.now a.store.now a.directory.now) run.generator run.sum records sum
+    let sum = rw c.replace-so_far.ensures.value at c.add-run.ensures in
+    block-summed a.count (state run.pool a.frames.now a.store.now a.directory.now) run.generator run.sum c.run_records-end.ensures.generator_after sum
